@@ -56,6 +56,12 @@ unfolding cut_of
 cut_of-some at [] p e = absurd cc
 cut_of-some at (x ∷ xs) p e = grind (arith, cut_of-some at xs)
 
+-- the bytes up to the first such byte are others
+before_first : (at k : ℕ) (xs : List ℕ) → k ≤ position_or_len (λ x. x == at) xs → Lacks at (take k xs)
+before_first at k xs within = list_any_none (λ x. x == at) (take k xs) (λ i d lt.
+    let short : i < k = omega (arith, length-take k xs, lt) in
+    rw (get_or-take k xs i d short) (fails_before_first (λ x. x == at) xs i d (omega arith)))
+
 -- the cut is at the place of the first such byte
 pub cut_of-place : (at place : ℕ) (xs : List ℕ) → position (λ x. x == at) xs ≡ Some place → cut_of at xs ≡ Some (take place xs, drop (place + 1) xs)
 cut_of-place at place xs e =
@@ -63,11 +69,8 @@ cut_of-place at place xs e =
     let found = cond_some (nat_lt first (length xs)) first place e in
     let within : first < length xs = ltb-true _ _ found.0 in
     let byte : get_or xs first 0 ≡ at = eqb-true _ _ (passes_at_first (λ x. x == at) xs 0 within) in
-    let before : Lacks at (take first xs) = list_any_none (λ x. x == at) (take first xs) (λ k d lt.
-        let short : k < first = omega (arith, length-take first xs, lt) in
-        rw (get_or-take first xs k d short) (fails_before_first (λ x. x == at) xs k d short)) in
     let whole : xs ≡ take first xs ++ at ∷ drop (first + 1) xs = rw add-one (split_at xs first 0 within ∙ ap (λ (b : ℕ). take first xs ++ b ∷ drop (suc first) xs) byte) in
-    rw (← found.1) (ap (cut_of at) whole ∙ cut_of-again at (take first xs) (drop (first + 1) xs) before)
+    rw (← found.1) (ap (cut_of at) whole ∙ cut_of-again at (take first xs) (drop (first + 1) xs) (before_first at first xs (omega arith)))
 
 -- and nothing is cut where there is none
 pub cut_of-no_place : (at : ℕ) (xs : List ℕ) → position (λ x. x == at) xs ≡ None → cut_of at xs ≡ None

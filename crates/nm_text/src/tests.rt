@@ -67,8 +67,14 @@ fn pushes(rt: HostRuntime) -> Result<(), Fail> {
 
 #[test]
 fn cuts(rt: HostRuntime) -> Result<(), Fail> {
-    assert_eq!(rt; cut(b"load 3.1", b' '), Some((b"load".as_slice(), b"3.1".as_slice())));
-    assert_eq!(rt; cut(b"3.1.2", b'.'), Some((b"3".as_slice(), b"1.2".as_slice())));
+    assert_eq!(rt;
+        cut(b"load 3.1", b' '),
+        Some((b"load".as_slice(), b"3.1".as_slice()))
+    );
+    assert_eq!(rt;
+        cut(b"3.1.2", b'.'),
+        Some((b"3".as_slice(), b"1.2".as_slice()))
+    );
     assert_eq!(rt; cut(b".", b'.'), Some((b"".as_slice(), b"".as_slice())));
     assert_eq!(rt; cut(b"load", b' '), None);
     assert_eq!(rt; cut(b"", b' '), None);

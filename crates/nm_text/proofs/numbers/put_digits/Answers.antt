@@ -15,19 +15,25 @@ one_place_fewer (suc (suc j)) n h small =
 pub loop-rest-preserved : goal.loop-rest-preserved
 loop-rest-preserved c =
     let l = c.loop-rest in
-    let room = one_place_fewer l.start l.rest c.loop-rest-test.true l.invariant.2 in
-    let next : l.start - 1 + 1 ≡ l.start = omega arith in (
-      omega (arith, room.0),
-      omega arith,
-      room.1,
-      omega (arith, length-set l.digits (l.start - 1) (48 + l.rest % 10)),
-      rw (drop-set_at l.digits (l.start - 1) (l.start - 1) (48 + l.rest % 10) refl (omega arith), next) (sym (append_assoc (decimal (l.rest / 10)) ((48 + l.rest % 10) ∷ []) (drop l.start l.digits))
-        ∙ ap (λ (t : List ℕ). t ++ drop l.start l.digits) (sym (decimal_step l.rest c.loop-rest-test.true l.auto.rest-fits.fits)) ∙ l.invariant.4),
-    )
+    let end = drop l.start l.digits in
+    let room = one_place_fewer l.start l.rest c.loop-rest-test.true l.invariant.places in
+    let next : l.start - 1 + 1 ≡ l.start = omega arith in
+    let spelled : decimal (l.rest / 10) ++ (48 + l.rest % 10) ∷ end ≡ decimal c.args.n =
+    sym (append_assoc (decimal (l.rest / 10)) ((48 + l.rest % 10) ∷ []) end)
+    ∙ ap (λ (t : List ℕ). t ++ end) (sym (decimal_step l.rest c.loop-rest-test.true l.auto.rest-fits.fits))
+    ∙ l.invariant.written in
+    record {
+      low = omega (arith, room.0);
+      high = omega arith;
+      places = room.1;
+      len = omega (arith, length-set l.digits (l.start - 1) (48 + l.rest % 10));
+      written = rw (drop-set_at l.digits (l.start - 1) (l.start - 1) (48 + l.rest % 10) refl (omega arith), next) spelled;
+    }
 
 pub returns-clause-value : goal.returns-clause-value
 returns-clause-value c =
     let l = c.loop-rest in
+    let end = drop l.start l.digits in
     let next : l.start - 1 + 1 ≡ l.start = omega arith in
-    rw (drop-set_at l.digits (l.start - 1) (l.start - 1) (48 + l.rest) refl (omega arith), next)
-      (ap (λ (t : List ℕ). t ++ drop l.start l.digits) (sym (decimal_digit l.rest c.loop-rest-test.false)) ∙ l.invariant.4)
+    let spelled : (48 + l.rest) ∷ end ≡ decimal c.args.n = ap (λ (t : List ℕ). t ++ end) (sym (decimal_digit l.rest c.loop-rest-test.false)) ∙ l.invariant.written in
+    rw (drop-set_at l.digits (l.start - 1) (l.start - 1) (48 + l.rest) refl (omega arith), next) spelled

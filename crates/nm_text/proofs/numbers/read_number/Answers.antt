@@ -1,6 +1,5 @@
 use Rattle.std.proofs.Common.{sym, arith}
 use Rattle.nm_text.proofs.NumberLemmas.{number_of-apart, number_of-form, number_of-read, number_of-tells}
-use Rattle.nm_text.proofs.numbers.read_number.Goals.{then-is_empty-via-then-is_empty, then-is_empty-via-else-is_empty+then-field-gt1, then-field-eq48, else-field-eq48}
 use Rattle.nm_text.proofs.numbers.read_number.Goals as goal
 
 pub returns-then-is_empty-clause-none : goal.returns-then-is_empty-clause-none
