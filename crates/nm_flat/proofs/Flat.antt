@@ -1,11 +1,10 @@
 -- The flat list of words and the memory that it has.
-use Rattle.std.proofs.Common.{◌≡◌, ◌≢◌, ℕ, ◌+◌, ◌*◌, ◌<◌, List, length, get_or, set, replicate, refl, sym, ◌∙◌, ap, arith, get_or-set_same, get_or-set_other}
-use Rattle.std.proofs.Common.{inl, inr}
+use Rattle.std.proofs.Common.{◌≡◌, ◌≢◌, ℕ, ◌<◌, List, length, get_or, set, replicate, sym, ◌∙◌, arith, get_or-set_same, get_or-set_other, inl, inr}
 use Rattle.std.proofs.lemmas.Bool.Decides.{eqb_tells, nat_tests}
 use Rattle.std.proofs.lemmas.List.{length-replicate, get_or-replicate, length-set}
-use Rattle.nm_base.specs.Geometry.{Geometry, page_count}
-use Rattle.nm_flat.specs.declared.access.Access.{Access}
-use Rattle.nm_flat.specs.Memory.{Memory, empty_memory, with_word, word_at, word_count, page_of, place, IsMemory, IsPlaced}
+use Rattle.std.specs.Prelude.{IsSome}
+use Rattle.nm_base.specs.Geometry.{Geometry, page_count, backing_page}
+use Rattle.nm_flat.specs.Memory.{Memory, empty_memory, with_word, word_count, page_of, place, IsMemory}
 use Rattle.nm_flat.proofs.Places.{place-lt, place-same, page_of-lt}
 
 -- a word that was written
@@ -23,20 +22,24 @@ IsMemory-start g = record {
   same = λ b i page word. get_or-replicate (word_count g) (place g b i) 0 0 (place-lt g b i page word);
 }
 
--- the word of an access is read at its place
-pub IsMemory-read : (g : Geometry) (words : List ℕ) (m : Memory) (a : Access) → IsMemory g words m → IsPlaced g a → get_or words (place g (page_of g a.vpage) a.word) 0 ≡ word_at g m a
-IsMemory-read g words m a memory placed = memory.same (page_of g a.vpage) a.word (page_of-lt g a.vpage placed.mapped) placed.within
+-- a word of a virtual page is read at its place
+pub IsMemory-read : (g : Geometry) (words : List ℕ) (m : Memory) (v i : ℕ) → IsMemory g words m → IsSome (backing_page g v) → i < g.words → get_or words (place g (page_of g v) i) 0 ≡ m (page_of g v) i
+IsMemory-read g words m v i memory mapped word = memory.same (page_of g v) i (page_of-lt g v mapped) word
 
 written : (g : Geometry) (words : List ℕ) (m : Memory) (b i x c j : ℕ) → b < page_count g → i < g.words → j < g.words → place g b i < length words → get_or words (place g c j) 0 ≡ m c j → get_or (set words (place g b i) x) (place g c j) 0 ≡ with_word m b i x c j
 written g words m b i x c j page word index within before =
     elim (eqb_tells (place g c j) (place g b i)) [
-      inl here ↦ let same = place-same g c j b i index word here.1 in rw (same.0, same.1) (get_or-set_same words (place g b i) x 0 within ∙ sym (with_word-same m b i x))
-    | inr away ↦ get_or-set_other words (place g b i) (place g c j) x 0 away.1 ∙ before ∙ sym (with_word-other m b i x c j (λ p q. away.1 (cc)))
+      | inl here ↦ let same = place-same g c j b i index word here.1 in rw (same.0, same.1) (get_or-set_same words (place g b i) x 0 within ∙ sym (with_word-same m b i x))
+      | inr away ↦ get_or-set_other words (place g b i) (place g c j) x 0 away.1 ∙ before ∙ sym (with_word-other m b i x c j (λ p q. away.1 (cc)))
     ]
 
--- a word is written at its place
-pub IsMemory-write : (g : Geometry) (words : List ℕ) (m : Memory) (b i x : ℕ) → b < page_count g → i < g.words → IsMemory g words m → IsMemory g (set words (place g b i) x) (with_word m b i x)
-IsMemory-write g words m b i x page word memory = record {
+-- a word of a page is written at its place
+pub IsMemory-set : (g : Geometry) (words : List ℕ) (m : Memory) (b i x : ℕ) → IsMemory g words m → b < page_count g → i < g.words → IsMemory g (set words (place g b i) x) (with_word m b i x)
+IsMemory-set g words m b i x memory page word = record {
   size = length-set words (place g b i) x ∙ memory.size;
   same = λ c j p w. written g words m b i x c j page word w (omega (arith, place-lt g b i page word, memory.size)) (memory.same c j p w);
 }
+
+-- a word of a virtual page is written at its place
+pub IsMemory-write : (g : Geometry) (words : List ℕ) (m : Memory) (v i x : ℕ) → IsMemory g words m → IsSome (backing_page g v) → i < g.words → IsMemory g (set words (place g (page_of g v) i) x) (with_word m (page_of g v) i x)
+IsMemory-write g words m v i x memory mapped word = IsMemory-set g words m (page_of g v) i x memory (page_of-lt g v mapped) word

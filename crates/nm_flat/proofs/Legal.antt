@@ -1,6 +1,6 @@
 -- Legal lists and the memory after them, list by list.
-use Rattle.std.proofs.Common.{◌≡◌, ℕ, zero, suc, ◌+◌, ◌<◌, List, [], ◌∷◌, ◌++◌, length, take, get_or, refl, sym, subst, ap, arith}
-use Rattle.std.specs.Prelude.{◌==◌, if◌then◌else◌, All}
+use Rattle.std.proofs.Common.{◌≡◌, ℕ, zero, suc, ◌+◌, ◌<◌, List, [], ◌∷◌, ◌++◌, length, take, get_or, refl, arith}
+use Rattle.std.specs.Prelude.{◌==◌}
 use Rattle.std.proofs.lemmas.List.Elements.{filter-append}
 use Rattle.std.proofs.lemmas.List.{take_more}
 use Rattle.nm_base.specs.Geometry.{Geometry}
@@ -12,6 +12,7 @@ pub memory_from-append : (g : Geometry) (m : Memory) (xs ys : List Access) → m
 memory_from-append g m [] ys = refl
 memory_from-append g m (x ∷ xs) ys = memory_from-append g (with_access g m x) xs ys
 
+-- the same, every word being 0 at first
 pub memory_after-append : (g : Geometry) (xs ys : List Access) → memory_after g (xs ++ ys) ≡ memory_from g (memory_after g xs) ys
 memory_after-append g xs ys = memory_from-append g empty_memory xs ys
 
@@ -55,10 +56,6 @@ true_among g m (x ∷ xs) (suc i) d within legal = true_among g (with_access g m
 pub IsLegal-get_or : (g : Geometry) (xs : List Access) (i : ℕ) (d : Access) → i < length xs → IsLegal g xs → IsTrueOf g (memory_after g (take i xs)) (get_or xs i d)
 IsLegal-get_or g xs i d within legal = true_among g empty_memory xs i d within legal
 
--- the own part of one list and then another
-pub own_part_of-append : (cpu : ℕ) (xs ys : List Access) → own_part_of cpu (xs ++ ys) ≡ own_part_of cpu xs ++ own_part_of cpu ys
-own_part_of-append cpu xs ys = filter-append (λ a. a.cpu == cpu) xs ys
-
 -- the memory after one access more of a list
 pub memory_after-take : (g : Geometry) (xs : List Access) (i : ℕ) (d : Access) → i < length xs → memory_after g (take (i + 1) xs) ≡ with_access g (memory_after g (take i xs)) (get_or xs i d)
 memory_after-take g xs i d within = rw (take_more xs i d within) (memory_after-push g (take i xs) (get_or xs i d))
@@ -66,3 +63,7 @@ memory_after-take g xs i d within = rw (take_more xs i d within) (memory_after-p
 -- a legal part of a list stays legal with the next access, where that tells what the memory has
 pub IsLegal-take : (g : Geometry) (xs : List Access) (i : ℕ) (d : Access) → i < length xs → IsLegal g (take i xs) → IsTrueOf g (memory_after g (take i xs)) (get_or xs i d) → IsLegal g (take (i + 1) xs)
 IsLegal-take g xs i d within legal true = rw (take_more xs i d within) (IsLegal-push g (take i xs) (get_or xs i d) legal true)
+
+-- the own part of one list and then another
+pub own_part_of-append : (cpu : ℕ) (xs ys : List Access) → own_part_of cpu (xs ++ ys) ≡ own_part_of cpu xs ++ own_part_of cpu ys
+own_part_of-append cpu xs ys = filter-append (λ a. a.cpu == cpu) xs ys

@@ -1,3 +1,4 @@
 pub mod Flat
 pub mod Legal
 pub mod Places
+mod Worked

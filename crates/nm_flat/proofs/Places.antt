@@ -1,10 +1,9 @@
 -- The places of words in the flat list.
-use Rattle.std.proofs.Common.{◌≡◌, ◌≢◌, ℕ, ◌+◌, ◌*◌, ◌/◌, ◌<◌, ◌≤◌, List, [], ◌∷◌, length, get_or, zero, suc, Option, Some, None, refl, ap, sym, ◌∙◌, arith}
-use Rattle.std.specs.Prelude.{IsSome, unwrap_or, option_map}
-use Rattle.std.proofs.Math.Nat.{mul-le-mul}
+use Rattle.std.proofs.Common.{◌≡◌, ℕ, ◌*◌, ◌/◌, ◌<◌, Option, Some, None, refl, ap, sym, ◌∙◌, arith}
+use Rattle.std.specs.Prelude.{IsSome, unwrap_or}
 use Rattle.std.proofs.lemmas.Nat.{mul-add-lt, div-mul-add}
-use Rattle.nm_base.specs.Geometry.{Geometry, IsGeometry, page_count, backing_page, backing_among}
-use Rattle.nm_base.proofs.Pages.{backing_page-lt, page_size}
+use Rattle.nm_base.specs.Geometry.{Geometry, page_count, backing_page}
+use Rattle.nm_base.proofs.Pages.{backing_page-lt}
 use Rattle.nm_flat.specs.Memory.{place, page_of, word_count}
 
 -- each word of each page has its place in the list
@@ -25,6 +24,10 @@ some_backing (Some b) some = refl
 -- a mapped virtual page has a backing page
 pub page_of-some : (g : Geometry) (v : ℕ) → IsSome (backing_page g v) → backing_page g v ≡ Some (page_of g v)
 page_of-some g v mapped = some_backing (backing_page g v) mapped
+
+-- the backing page of a virtual page that is mapped to b
+pub page_of-at : (g : Geometry) (v b : ℕ) → backing_page g v ≡ Some b → page_of g v ≡ b
+page_of-at g v b is = ap (λ o. unwrap_or o 0) is
 
 -- the backing page of a mapped virtual page is one of the pages
 pub page_of-lt : (g : Geometry) (v : ℕ) → IsSome (backing_page g v) → page_of g v < page_count g

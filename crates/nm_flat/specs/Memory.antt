@@ -17,7 +17,7 @@ empty_memory b i = 0
 abbrev pub with_word : Memory → ℕ → ℕ → ℕ → Memory
 with_word m b i x c j = if c == b && j == i then x else m c j
 
--- the backing page of a mapped virtual page; of a page that is not mapped nothing is claimed
+-- the backing page of a mapped virtual page (0 where it is not mapped, of which nothing is claimed)
 abbrev pub page_of : Geometry → ℕ → ℕ
 page_of g v = unwrap_or (backing_page g v) 0
 
@@ -69,7 +69,7 @@ pub record IsPlaced (g : Geometry) (a : Access) : Type 0 where
   pub mapped : IsSome (backing_page g a.vpage)
   pub within : a.word < g.words
 
--- every access of a list lies in a mapped page
+-- every access of a list lies in a mapped page, and its word is one of the page
 abbrev pub AllPlaced : Geometry → List Access → Type 0
 AllPlaced g list = All (IsPlaced g) list
 

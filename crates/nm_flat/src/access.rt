@@ -24,17 +24,17 @@ pub enum AccessKind {
 /// One access of a processor to a word of a virtual page.
 #[derive(Clone, Copy, Debug, PartialEq, Eq)]
 pub struct Access {
-    /// The processor that made it.
+    /// The number of the processor that made it.
     pub cpu: u32,
-    /// The virtual page.
+    /// The number of the virtual page.
     pub vpage: u32,
-    /// The index of the word in the page.
+    /// The index of the word in the page, below the words of a page.
     pub word: u32,
     /// What it did, and what it told.
     pub kind: AccessKind,
 }
 
-/// The accesses of one processor, in order.
+/// The accesses of one processor, in order. `AllocError` comes where there is no memory for them.
 pub fn own_part(alloc: Global, list: &[Access], cpu: u32) -> Result<Vec<Access>, AllocError>
     ensures { IfOk result (λ v. v.items ≡ own_part_of cpu list.now) }
 {
@@ -42,4 +42,33 @@ pub fn own_part(alloc: Global, list: &[Access], cpu: u32) -> Result<Vec<Access>,
         .filter(|access| access.cpu == cpu)
         .copied()
         .collect(alloc)
+}
+
+#[cfg(test)]
+mod tests {
+    use super::*;
+    use std::test::Fail;
+
+    const fn load(cpu: u32, word: u32) -> Access {
+        Access {
+            cpu,
+            vpage: 0,
+            word,
+            kind: AccessKind::Load(0),
+        }
+    }
+
+    #[test]
+    fn parts_of_two_processors(rt: HostRuntime) -> Result<(), Fail> {
+        let list = [load(0, 0), load(1, 1), load(0, 2), load(1, 3), load(1, 4)];
+        let first = own_part(rt.alloc(), &list, 0)?;
+        let second = own_part(rt.alloc(), &list, 1)?;
+        assert_eq!(rt; first.as_slice(), [load(0, 0), load(0, 2)].as_slice());
+        assert_eq!(rt;
+            second.as_slice(),
+            [load(1, 1), load(1, 3), load(1, 4)].as_slice()
+        );
+        assert_eq!(rt; own_part(rt.alloc(), &list, 2)?.len(), 0);
+        Ok(())
+    }
 }

@@ -1,6 +1,6 @@
 //! Flat memory: one list of words, in which accesses are made one after the other.
 
-ghost use Rattle.std.specs.Prelude.{◌≡◌, ◌<◌, ◌≤◌, ◌+◌, ◌*◌, ◌^◌, ◌↔◌, ℕ, IsTrue, IsSome, IfOk, IfSome, IfNone, length, slice_index, slice_set};
+ghost use Rattle.std.specs.Prelude.{◌≡◌, ◌<◌, ◌↔◌, IsTrue, IsSome, IfOk, IfSome, IfNone, length, All};
 ghost use Rattle.nm_base.specs.Geometry.{backing_page};
 ghost use Rattle.nm_flat.specs.Memory.{IsPlaced, AllPlaced, IsLegal, IsTrueOf, IsMemory, memory_after, with_access, Memory, word_count, place, page_of};
 
@@ -25,7 +25,8 @@ impl Model for FlatMemory {
 }
 
 /// The memory after a list of accesses, every word being 0 at first. None exactly where the list is not legal: some
-/// load doesn't give, or some add didn't give, what its word has after the stores and adds before it.
+/// load doesn't give, or some add didn't give, what its word has after the stores and adds before it. `AllocError`
+/// comes where there is no memory for the words.
 pub fn replay(
     alloc: Global,
     g: &Geometry,
@@ -39,15 +40,15 @@ pub fn replay(
 {
     let mut words = vec![in alloc; 0u64; word_count(g)]?;
     for access in list {
-        if !is_made(g, &mut words, *access) {
+        if !apply(g, &mut words, *access) {
             return Ok(None);
         }
     }
     Ok(Some(FlatMemory { words }))
 }
 
-/// Makes an access in a flat list of words, and says whether it told the truth.
-fn is_made(g: &Geometry, words: &mut [u64], access: Access) -> bool
+/// Makes an access in a flat list of words, and says whether it told what its word had.
+fn apply(g: &Geometry, words: &mut [u64], access: Access) -> bool
     requires placed { IsPlaced g.now access }
     requires size { length words.old ≡ word_count g.now }
     ensures truth { (m : Memory) → IsMemory g.now words.old m → (IsTrue result ↔ IsTrueOf g.now m access) }
@@ -68,7 +69,7 @@ fn is_made(g: &Geometry, words: &mut [u64], access: Access) -> bool
     }
 }
 
-/// How many words all backing pages have.
+/// How many words all backing pages have: the length of a flat list of words.
 pub fn word_count(g: &Geometry) -> usize
     ensures { result ≡ word_count g.now }
 {
@@ -94,5 +95,83 @@ fn page_of(g: &Geometry, vpage: u32) -> u32
     match g.vpages[vpage as usize] {
         Some(vpage) => vpage.page,
         None => unreachable!(),
+    }
+}
+
+#[cfg(test)]
+mod tests {
+    use super::*;
+    use nm_base::VPage;
+    use std::test::Fail;
+
+    const FIRST: Option<VPage> = Some(VPage {
+        page: 0,
+        writable: true,
+    });
+
+    const SECOND: Option<VPage> = Some(VPage {
+        page: 1,
+        writable: true,
+    });
+
+    /// Accesses by virtual page and word, of which there are three and four.
+    fn accesses_of(alloc: Global, list: &[(u32, u32, AccessKind)]) -> Result<Vec<Access>, Fail>
+        ensures { IfOk result (λ v. All (λ a. (a.vpage < 3) × (a.word < 4)) v.items) }
+    {
+        let mut accesses = Vec::new(alloc);
+        for (vpage, word, kind) in list {
+            accesses.push(Access {
+                cpu: 0,
+                vpage: *vpage % 3,
+                word: *word % 4,
+                kind: *kind,
+            })?;
+        }
+        Ok(accesses)
+    }
+
+    /// The memory after accesses, where virtual pages 0 and 1 are page 0, and 2 is page 1.
+    fn replayed(
+        alloc: Global,
+        list: &[(u32, u32, AccessKind)],
+    ) -> Result<Option<FlatMemory>, Fail> {
+        let accesses = accesses_of(alloc, list)?;
+        let g = Geometry::new(alloc, 4, &[8, 8], 2, &[FIRST, FIRST, SECOND])?;
+        Ok(replay(alloc, &g, &accesses)?)
+    }
+
+    #[test]
+    fn replays(rt: HostRuntime) -> Result<(), Fail> {
+        use AccessKind::{Add, Load, Store};
+        const ALL: u64 = 18446744073709551615;
+        let rows: [(&[(u32, u32, AccessKind)], &[u64]); 6] = [
+            (
+                &[(0, 0, Store(5)), (0, 0, Load(5))],
+                &[5, 0, 0, 0, 0, 0, 0, 0],
+            ),
+            (&[(0, 0, Load(1))], &[]),
+            (
+                &[(0, 3, Store(7)), (1, 3, Load(7))],
+                &[0, 0, 0, 7, 0, 0, 0, 0],
+            ),
+            (&[(0, 3, Store(7)), (2, 3, Load(7))], &[]),
+            (
+                &[
+                    (2, 1, Add { gave: 0, plus: 5 }),
+                    (2, 1, Add { gave: 5, plus: ALL }),
+                    (2, 1, Load(4)),
+                ],
+                &[0, 0, 0, 0, 0, 4, 0, 0],
+            ),
+            (&[(0, 0, Add { gave: 1, plus: 5 })], &[]),
+        ];
+        for (accesses, words) in rows {
+            let answer = match replayed(rt.alloc(), accesses)? {
+                Some(memory) => memory.words,
+                None => Vec::new(rt.alloc()),
+            };
+            assert_eq!(rt; answer.as_slice(), words);
+        }
+        Ok(())
     }
 }

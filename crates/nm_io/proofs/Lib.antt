@@ -1,3 +1,3 @@
-pub mod CountLemmas
 mod Fronts
 mod MemReads
+mod Worked

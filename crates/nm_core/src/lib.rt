@@ -1,0 +1,6 @@
+//! The machine: its memory, as programs read and write it through virtual pages.
+#![tactic(auto)]
+
+pub mod machine;
+
+pub use machine::Still;

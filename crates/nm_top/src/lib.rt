@@ -1,0 +1,14 @@
+//! The calls of the program: what it answers to its words, and what it reads and writes.
+#![tactic(auto)]
+
+mod call;
+mod print;
+mod run;
+pub mod status;
+mod words;
+
+pub use call::{nomad_main, plain_call};
+pub use status::{ScriptFault, Status};
+
+#[cfg(test)]
+mod tests;
