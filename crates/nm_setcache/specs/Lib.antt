@@ -1,0 +1,2 @@
+pub mod SetAssociative
+pub mod Sets

@@ -1,0 +1,4 @@
+pub mod Lookups
+pub mod Ascending
+pub mod Placed
+pub mod Puts

@@ -1,0 +1,4 @@
+pub mod Translations
+pub mod Entries
+pub mod FullyAssociative
+pub mod Places

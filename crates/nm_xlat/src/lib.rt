@@ -1,0 +1,10 @@
+//! Translation caches: the trait `Translations`, and a fully associative cache.
+#![tactic(auto)]
+
+#[cfg(test)]
+mod tests;
+mod translations;
+mod xlat_cache;
+
+pub use translations::{Entry, Translations};
+pub use xlat_cache::{CachedPage, XlatCache};
