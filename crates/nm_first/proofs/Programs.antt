@@ -130,3 +130,16 @@ IsProgram-push g (k ∷ program) l h line = (h.0, IsProgram-push g program l h.1
 pub empty_is : (bytes : List ℕ) → length bytes ≡ 0 → bytes ≡ []
 empty_is [] h = refl
 empty_is (x ∷ bytes) h = absurd (omega arith)
+
+line_parts : (k l : Line) (xs ys : List ℕ) → IsWide k → IsWide l → line_text k ++ xs ≡ line_text l ++ ys → ◌≡◌ {A = Line × List ℕ} (k, xs) (l, ys)
+line_parts k l xs ys wide broad e = same_Some _ _ (sym (line_of-again k xs wide) ∙ ap line_of e ∙ line_of-again l ys broad)
+
+-- the lines of a processor spell one program
+pub same_program : (g : Geometry) (program lines : List Line) → IsGeometry g → IsProgram g program → IsProgram g lines → program_text program ≡ program_text lines → program ≡ lines
+same_program g [] lines geometry h k e = sym (no_more lines e)
+same_program g (l ∷ program) [] geometry h k e = no_more (l ∷ program) (sym e)
+same_program g (l ∷ program) (m ∷ lines) geometry h k e =
+    let same = line_parts l m (program_text program) (program_text lines) (IsWide-line g l geometry h.0) (IsWide-line g m geometry k.0) e in
+    let first : l ≡ m = ap (λ t. t.0) same in
+    let rest : program ≡ lines = same_program g program lines geometry h.1 k.1 (ap (λ t. t.1) same) in
+    rw (first, rest) refl

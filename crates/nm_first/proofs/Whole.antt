@@ -6,6 +6,7 @@ use Rattle.nm_first.specs.declared.line.Line.{Line}
 use Rattle.nm_first.specs.Reading.{head_of}
 use Rattle.nm_first.specs.Script.{IsFirstScript, IsProgram, first_geometry, head_text, program_text}
 use Rattle.nm_first.proofs.Heads.{head_of-again, head_of-some, sizes_fit}
+use Rattle.nm_first.proofs.Programs.{same_program}
 
 head_of-first : (bytes : List ℕ) (g : Geometry) (program : List Line) (h : IsFirstScript bytes g program) → head_of bytes ≡ Some ((g.words, h.fast, h.slow), h.turns, program_text program)
 head_of-first bytes g program h =
@@ -44,3 +45,10 @@ IsFirstScript-parts bytes g program sizes turns rest read few is possible lines 
       lines = lines;
       text = head_of-some bytes sizes.0 sizes.1 sizes.2 turns rest read ∙ ap (λ w. head_text w sizes.1 sizes.2 turns ++ rest) (sym words) ∙ ap (λ r. head_text g.words sizes.1 sizes.2 turns ++ r) text;
     }
+
+-- a text is that of one first script at most
+pub one_script : (bytes : List ℕ) (g h : Geometry) (program lines : List Line) → IsFirstScript bytes g program → IsFirstScript bytes h lines → (g ≡ h) × (program ≡ lines)
+one_script bytes g h program lines first second =
+    let head = HasHead-first bytes h lines (g.words, first.fast, first.slow) first.turns (program_text program) (head_of-first bytes g program first) second in
+    let same : g ≡ h = first.geometry ∙ sym head.geometry in
+    (same, same_program g program lines first.possible first.lines (subst (λ (k : Geometry). IsProgram k lines) (sym same) second.lines) head.text)

@@ -6,5 +6,5 @@ mod read;
 pub mod script;
 
 pub use line::Line;
-pub use read::read_first;
+pub use read::{one_script, read_first};
 pub use script::FirstScript;

@@ -1,6 +1,6 @@
 //! Reading a first script.
 
-ghost use Rattle.std.specs.Prelude.{◌≡◌, ◌↔◌, List, IfSome, IfNone, IfOk, IsTrue, IsSomeAnd, Some, None};
+ghost use Rattle.std.specs.Prelude.{◌≡◌, ◌↔◌, ℕ, List, IfSome, IfNone, IfOk, IsTrue, IsSomeAnd, Some, None};
 ghost use Rattle.nm_base.specs.Geometry.{IsGeometry, vpage_at};
 ghost use Rattle.nm_first.specs.Script.{IsFirstScript, IsLine, IsProgram, first_geometry, program_text};
 ghost use Rattle.nm_first.specs.Reading.{number_until, place_until, load_of, store_of, line_of, sizes_of, head_of};
@@ -35,6 +35,12 @@ pub fn read_first(alloc: Global, text: &[u8]) -> Result<Option<FirstScript>, All
     };
     Ok(Some(FirstScript { geometry, program }))
 }
+
+/// A text is that of one first script at most.
+pub fn one_script()
+    ensures { (bytes : List ℕ) (g h : _) (program lines : _) → IsFirstScript bytes g program → IsFirstScript bytes h lines
+        → (g ≡ h) × (program ≡ lines) }
+{}
 
 /// The geometry with these words of a page and these frames of both tiers, if a machine can have it.
 fn make_geometry(alloc: Global, sizes: (u64, u64, u64)) -> Result<Option<Geometry>, AllocError>

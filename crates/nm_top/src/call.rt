@@ -1,6 +1,6 @@
 //! The calls of the program, over a source and a sink.
 
-ghost use Rattle.std.specs.Prelude.{◌≡◌, ◌≢◌, ℕ, ◌≤◌, ◌↔◌, ◌⊎◌, length, IfOk, IfSome, IfNone};
+ghost use Rattle.std.specs.Prelude.{◌≡◌, ◌≢◌, ℕ, ◌≤◌, ◌↔◌, ◌⊎◌, List, length, IfOk, IfSome, IfNone};
 ghost use Rattle.nm_io.specs.Count.{Rose};
 ghost use Rattle.nm_top.specs.Answer.{IsSim, IsAccepted, Takes, TakesAll, WritesOutput, WritesFront};
 ghost use Rattle.nm_top.specs.Output.{IsOutput};
@@ -90,6 +90,11 @@ pub fn plain_call<S: Source, K: Sink>(
     }
     sim_call(alloc, source, sink)
 }
+
+/// The bytes of a first script have one output: where a clause names some text that is its output, it is this one.
+pub fn one_output()
+    ensures { (bytes text other : List ℕ) → IsOutput bytes text → IsOutput bytes other → text ≡ other }
+{}
 
 /// The command `sim`.
 fn sim_call<S: Source, K: Sink>(alloc: Global, source: &mut S, sink: &mut K) -> Status

@@ -7,7 +7,7 @@ mod run;
 pub mod status;
 mod words;
 
-pub use call::{nomad_main, plain_call};
+pub use call::{nomad_main, one_output, plain_call};
 pub use status::{ScriptFault, Status};
 
 #[cfg(test)]
