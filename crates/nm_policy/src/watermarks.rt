@@ -1,0 +1,64 @@
+//! Watermarks: the numbers of free frames at which a tier's demotion begins and ends.
+
+ghost use Rattle.std.specs.Prelude.{◌≡◌, ◌≤◌, ◌↔◌, IsTrue};
+ghost use Rattle.nm_policy.specs.Watermarks.{watermarks_of};
+
+/// The watermarks of a tier, in free frames.
+#[derive(Clone, Copy, Debug, PartialEq, Eq)]
+pub struct Watermarks {
+    /// Promotion leaves this many frames free: one in 64 of the tier's frames, and at least one.
+    pub min: u32,
+    /// Demotion begins at this level or below it: twice `min`.
+    pub low: u32,
+    /// Demotion ends at this level or above it: three times `min`.
+    pub high: u32,
+}
+
+/// The watermark `min` is the tier's frames over this number.
+const FRAMES_FOR_ONE: u32 = 64;
+
+impl Watermarks {
+    /// The watermarks of a tier of `n` frames, 1 to 4,096.
+    pub fn of(n: u32) -> Watermarks
+        requires some { 1 ≤ n }
+        requires few { n ≤ 4096 }
+        ensures { result ≡ watermarks_of n }
+    {
+        let min = (n / FRAMES_FOR_ONE).max(1);
+        Watermarks {
+            min,
+            low: 2 * min,
+            high: 3 * min,
+        }
+    }
+}
+
+/// Whether a tier with this many free frames is to be relieved by demotion.
+pub fn wants_demotion(level: u32, w: Watermarks) -> bool
+    ensures { IsTrue result ↔ (level ≤ w.low) }
+{
+    level <= w.low
+}
+
+/// Whether a tier has free frames enough, so that demotion ends.
+pub fn enough(level: u32, w: Watermarks) -> bool
+    ensures { IsTrue result ↔ (w.high ≤ level) }
+{
+    level >= w.high
+}
+
+#[cfg(test)]
+mod tests {
+    use super::*;
+
+    #[test]
+    fn marks_tiers(rt: HostRuntime) {
+        for (n, min) in [(1, 1), (64, 1), (128, 2), (4096, 64)] {
+            let w = Watermarks::of(n);
+            assert_eq!(rt; (w.min, w.low, w.high), (min, 2 * min, 3 * min), "{n}");
+        }
+        let w = Watermarks::of(128);
+        assert_eq!(rt; (wants_demotion(4, w), wants_demotion(5, w)), (true, false));
+        assert_eq!(rt; (enough(5, w), enough(6, w)), (false, true));
+    }
+}
