@@ -1,13 +1,11 @@
 //! The program `nomad`: it reads standard input, writes standard output, and ends with the number of its status.
 #![tactic(auto)]
 
-use std::env;
-use std::io;
-use std::process::ExitCode;
-use std::rt::Env;
-
 use nm_io::{Open, StdSink, StdSource};
 use nm_top::{Status, nomad_main};
+use std::process::ExitCode;
+use std::rt::Env;
+use std::{env, io};
 
 fn main(rt: HostRuntime) -> ExitCode {
     let status = match words(&rt) {
