@@ -1,10 +1,10 @@
 -- One draw more: one program is longer by its line.
-use Rattle.std.proofs.Common.{◌≡◌, ℕ, zero, suc, ◌+◌, ◌*◌, ◌/◌, ◌%◌, ◌^◌, ◌<◌, ◌==◌, Bool, true, false, List, [], ◌∷◌, ◌++◌, map, filter, set, get_or, cond, refl, sym, ap, subst, ◌∙◌, inl, inr, arith, add-one}
+use Rattle.std.proofs.Common.{◌≡◌, ℕ, zero, suc, ◌+◌, ◌%◌, ◌<◌, ◌==◌, Bool, true, false, List, [], ◌∷◌, ◌++◌, map, filter, set, get_or, cond, refl, sym, ap, ◌∙◌, arith, add-one}
 use Rattle.std.specs.List.{range_with_len}
 use Rattle.std.proofs.lemmas.List.FromFn.{filter_of_map_range_with_len_more}
 use Rattle.std.proofs.lemmas.List.{append-nil, map-id, map-append}
 use Rattle.nm_script.specs.declared.script.Line.{Line}
-use Rattle.nm_gen.specs.Generated.{next_draw, drawn, line_at, line_drawn, program_of, programs_of}
+use Rattle.nm_gen.specs.Generated.{next_draw, drawn, line_at, program_of, programs_of}
 
 pub drawn-suc : (n i : ℕ) → drawn n (i + 1) ≡ next_draw (drawn n i)
 unfolding drawn

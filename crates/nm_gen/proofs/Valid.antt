@@ -1,16 +1,15 @@
 -- A generated script is one that a text can say.
-use Rattle.std.proofs.Common.{◌≡◌, ℕ, zero, suc, ◌+◌, ◌/◌, ◌%◌, ◌^◌, ◌<◌, ◌≤◌, ◌==◌, Bool, true, false, List, [], ◌∷◌, ◌++◌, length, map, filter, get_or, cond, Option, Some, None, All, IsSome, IsSomeAnd, IsTrue, nat_lt, refl, sym, ap, subst, ◌∙◌, inl, inr, arith, lit≤, lit<}
+use Rattle.std.proofs.Common.{◌≡◌, ℕ, zero, suc, ◌+◌, ◌/◌, ◌%◌, ◌^◌, ◌<◌, ◌≤◌, ◌==◌, Bool, true, false, List, [], ◌∷◌, map, filter, cond, Option, None, IsSome, IsSomeAnd, IsTrue, nat_lt, refl, sym, subst, inl, arith, lit≤}
 use Rattle.std.specs.List.{AllByRecursion, range_with_len}
 use Rattle.std.proofs.lemmas.List.FromFn.{get_or-map-range_with_len}
 use Rattle.std.proofs.lemmas.List.Elements.{All-from_recursion}
 use Rattle.nm_base.specs.declared.geometry.VPage.{VPage}
 use Rattle.nm_base.specs.declared.geometry.Field.{Field}
 use Rattle.nm_base.specs.declared.geometry.Field.TheVariants.{Words, Tiers, Cpus, VPages}
-use Rattle.nm_base.specs.Geometry.{IsGeometry, HasRanges, IsInRange, IsFirstOutside, IsCrowded, IsWritable, AreTiers, AreVPages, vpage_at, page_count, frame_count}
-use Rattle.nm_script.specs.declared.script.Line.{Line}
+use Rattle.nm_base.specs.Geometry.{IsGeometry, HasRanges, IsFirstOutside, IsCrowded, IsWritable, AreTiers, AreVPages, vpage_at}
 use Rattle.nm_script.specs.declared.script.Line.TheVariants.{Load, Store}
-use Rattle.nm_script.specs.Script.{IsScript, IsAccess, IsTrimmed}
-use Rattle.nm_gen.specs.Generated.{generated, geometry, one_to_one, line_at, line_drawn, page_drawn, word_drawn, program_of, drawn}
+use Rattle.nm_script.specs.Script.{IsScript, IsAccess}
+use Rattle.nm_gen.specs.Generated.{generated, geometry, one_to_one, line_at, page_drawn, word_drawn, program_of, drawn}
 
 tiers_fit : AreTiers (64 ∷ 256 ∷ [])
 tiers_fit = (lit≤ tt, lit≤ tt, All-from_recursion (λ n. (1 ≤ n) × (n ≤ 4095)) (64 ∷ 256 ∷ []) ((lit≤ tt, lit≤ tt), ((lit≤ tt, lit≤ tt), tt)), lit≤ tt)

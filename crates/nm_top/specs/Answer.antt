@@ -1,6 +1,5 @@
 -- What a call answers, and why.
-use Rattle.std.specs.Prelude.{◌≡◌, ℕ, ◌<◌, ◌↔◌, List, [], ◌∷◌, length, Option, Some, IfSome, String, string_bytes, codes}
-use Rattle.std.specs.declared.alloc.Global.{Global}
+use Rattle.std.specs.Prelude.{◌≡◌, ℕ, ◌<◌, ◌↔◌, List, [], length, Option, Some, IfSome}
 use Rattle.std.specs.Io.KnownBytes.{Appends, Consumes}
 use Rattle.nm_base.specs.Geometry.{Geometry}
 use Rattle.nm_io.specs.Sink.{HoldsFront}
@@ -20,12 +19,6 @@ number_of (Script fault line) = 3
 number_of ReadFault = 4
 number_of WriteFault = 5
 number_of Memory = 6
-
--- the one word `sim`
-abbrev pub IsSim : List (String Global) → Type 0
-IsSim [] = ⊥
-IsSim (word ∷ []) = string_bytes word ≡ codes "sim"
-IsSim (word ∷ next ∷ words) = ⊥
 
 -- the bytes are a first script
 abbrev pub IsAccepted : List ℕ → Type 0

@@ -67,7 +67,17 @@ fn answers_what_is_no_first_script(rt: HostRuntime) -> Result<(), Fail> {
 #[test]
 fn answers_words_of_no_form(rt: HostRuntime) -> Result<(), Fail> {
     let alloc = rt.alloc();
-    let lists: [&[&str]; 5] = [&[], &["simm"], &["gen", "7"], &["sim", "x"], &["-h"]];
+    let lists: [&[&str]; 9] = [
+        &[],
+        &["simm"],
+        &["gen", "7"],
+        &["sim", "x"],
+        &["-h"],
+        &["gen", "07", "1"],
+        &["gen", "7", "0"],
+        &["gen", "7", "100001"],
+        &["drill", "7", "1"],
+    ];
     for list in lists {
         let list = words(alloc, list)?;
         let mut source = MemSource::new(alloc, SMALLEST, 16, &[])?;
@@ -99,5 +109,24 @@ fn answers_each_failing_call(rt: HostRuntime) -> Result<(), Fail> {
         assert_eq!(rt; status, Status::WriteFault, "at call {call}");
         assert_eq!(rt; sink.bytes(), &want[..call as usize - 1]);
     }
+    Ok(())
+}
+
+#[test]
+fn writes_generated_scripts(rt: HostRuntime) -> Result<(), Fail> {
+    let alloc = rt.alloc();
+    let list = words(alloc, &["gen", "7", "1"])?;
+    let mut source = MemSource::new(alloc, b"", 1, &[1])?;
+    let mut sink = MemSink::new(alloc, 10000, 100, &[])?;
+    let status = plain_call(alloc, &list, &mut source, &mut sink);
+    assert_eq!(rt; status, Status::Done);
+    let text = sink.bytes();
+    let begin: &[u8] =
+        b"nomad 1\npage 512\ntiers 64 256\ncpus 4\nshuffle 7 turns 8000000\nmap 0 0 rw\nmap 1 1 rw\n";
+    let end: &[u8] = b"map 238 238 rw\nmap 239 239 rw\ncpu 0\nload 114.268\ncpu 1\ncpu 2\ncpu 3\n";
+    assert!(rt; text.starts_with(begin));
+    assert!(rt; text.ends_with(end));
+    let lines = text.iter().filter(|byte| **byte == b'\n').count();
+    assert_eq!(rt; lines, 250);
     Ok(())
 }

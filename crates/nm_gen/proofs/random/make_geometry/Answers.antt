@@ -1,5 +1,5 @@
 -- The geometry is not refused.
-use Rattle.std.proofs.Common.{◌≡◌, [], ◌∷◌, map, Err, ap, subst, sym, ◌∙◌, rules}
+use Rattle.std.proofs.Common.{◌≡◌, [], ◌∷◌, map, Err, ap, subst, rules}
 use Rattle.std.specs.List.{range_with_len}
 use Rattle.nm_base.specs.Geometry.{IsFirstOutside, IsCrowded, made}
 use Rattle.nm_gen.specs.Generated.{one_to_one}

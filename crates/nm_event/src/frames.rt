@@ -1,0 +1,291 @@
+//! How what a view holds changes.
+
+ghost use Rattle.std.specs.Prelude.{◌≡◌, ◌+◌, ◌<◌, ◌≤◌, ◌^◌, ◌∷◌, ◌++◌, [], All, Some, map, length, count_ones, vec_capacity};
+ghost use Rattle.std.specs.List.{filter};
+ghost use Rattle.nm_event.specs.Lists.{find, edit, erase, put};
+ghost use Rattle.nm_event.specs.Views.{Op, View, most_ops};
+ghost use Rattle.nm_event.specs.Operations.{page_of, owned_frame, peeked_page, is_flush_ended};
+ghost use Rattle.nm_event.specs.After.{edit_of, opened, owning, filled, spoiled, spoiled_frame, spoiled_fill, spoiled_under, is_fresh_at, is_confirmed, stale, is_quiet, scanned_word, least_with, least_bit};
+ghost use Rattle.nm_event.specs.Changes.{changed};
+ghost use Rattle.nm_event.specs.Room.{IsOpWithin};
+ghost use Rattle.nm_base.specs.Geometry.{backing_page};
+
+use crate::change::OpChange;
+use crate::keyed::{erase, look_up, place, put};
+use crate::permitted::{backing, flush_ended};
+use crate::view::{ActorView, CacheEntry, Fill, OpenOp, Owned, Peeked, Phase, Scanned};
+use nm_base::Geometry;
+
+/// Changes the operation on a page, among operations.
+fn change_in(ops: &mut [OpenOp], page: u32, change: OpChange)
+    requires { (o : Op) → find page_of page ops.old ≡ Some o → IsOpWithin o.room (changed change o) }
+    ensures { ops.new ≡ edit page_of page (changed change) ops.old }
+{
+    if let Some(i) = place(ops, page) {
+        ops[i].change(change);
+    }
+}
+
+/// Changes the operation on a page.
+pub(crate) fn change_op(view: &mut ActorView, page: u32, change: OpChange)
+    requires before { All (IsOpWithin view.old.room.vpages) view.old.ops }
+    requires after { All (IsOpWithin view.old.room.vpages) (edit page_of page (changed change) view.old.ops) }
+    ensures { view.new ≡ record view.old { ops = edit page_of page (changed change) view.old.ops } }
+{
+    change_in(&mut view.ops, page, change);
+}
+
+/// Changes the operation on the backing page of a virtual page.
+pub(crate) fn change_op_of(g: &Geometry, view: &mut ActorView, vpage: u32, change: OpChange)
+    requires before { All (IsOpWithin view.old.room.vpages) view.old.ops }
+    requires after { All (IsOpWithin view.old.room.vpages) (edit_of g.now vpage (changed change) view.old.ops) }
+    ensures { view.new ≡ record view.old { ops = edit_of g.now vpage (changed change) view.old.ops } }
+{
+    if let Some(page) = backing(g, vpage) {
+        change_op(view, page, change);
+    }
+}
+
+/// A fill of which nothing is known any more where it was copied of a page, or equal to it.
+fn spoiled_fill(page: u32, fill: Fill) -> Fill
+    ensures { result ≡ spoiled_fill page fill }
+{
+    match fill {
+        Fill::Raw => fill,
+        Fill::Zeroed(_) => fill,
+        Fill::Copied(of, _) => if of == page { Fill::Raw } else { fill },
+        Fill::Equal(of) => if of == page { Fill::Raw } else { fill },
+    }
+}
+
+/// An owned frame, with nothing known of it any more where it was copied of a page, or equal to it.
+fn spoiled_frame(page: u32, owned: Owned) -> Owned
+    ensures { result ≡ spoiled_frame page owned }
+{
+    Owned {
+        frame: owned.frame,
+        fill: spoiled_fill(page, owned.fill),
+    }
+}
+
+/// Forgets what was copied of a page, or equal to it.
+fn spoil(owned: &mut [Owned], page: u32)
+    ensures { owned.new ≡ spoiled page owned.old }
+{
+    for i in 0..owned.len() {
+        owned[i] = spoiled_frame(page, owned[i]);
+    }
+}
+
+/// Forgets what the view's frames have of a page.
+pub(crate) fn spoil_page(view: &mut ActorView, page: u32)
+    ensures { view.new ≡ record view.old { owned = spoiled page view.old.owned } }
+{
+    spoil(&mut view.owned, page);
+}
+
+/// Forgets what the view's frames have of the backing page of a virtual page.
+pub(crate) fn spoil_of(g: &Geometry, view: &mut ActorView, vpage: u32)
+    ensures { view.new ≡ record view.old { owned = spoiled_under (backing_page g.now vpage) view.old.owned } }
+{
+    if let Some(page) = backing(g, vpage) {
+        spoil_page(view, page);
+    }
+}
+
+/// Owns a frame with this fill.
+pub(crate) fn own(view: &mut ActorView, frame: u32, fill: Fill)
+    requires { length (owning frame fill view.old.owned) ≤ view.old.room.frames }
+    ensures { view.new ≡ record view.old { owned = owning frame fill view.old.owned } }
+{
+    put(&mut view.owned, Owned { frame, fill });
+}
+
+/// Owns a frame no more.
+pub(crate) fn disown(view: &mut ActorView, frame: u32)
+    ensures { view.new ≡ record view.old { owned = erase owned_frame frame view.old.owned } }
+{
+    erase(&mut view.owned, frame);
+}
+
+/// Notes the fill of a frame, among owned frames.
+fn refill_in(owned: &mut [Owned], frame: u32, fill: Fill)
+    ensures { owned.new ≡ edit owned_frame frame (filled fill) owned.old }
+{
+    if let Some(i) = place(owned, frame) {
+        owned[i] = Owned {
+            frame: owned[i].frame,
+            fill,
+        };
+    }
+}
+
+/// Notes the fill of an owned frame.
+pub(crate) fn refill(view: &mut ActorView, frame: u32, fill: Fill)
+    ensures { view.new ≡ record view.old { owned = edit owned_frame frame (filled fill) view.old.owned } }
+{
+    refill_in(&mut view.owned, frame, fill);
+}
+
+impl OpenOp {
+    /// Makes it an operation in which nothing is known.
+    fn reset(&mut self, page: u32)
+        ensures { self.new ≡ opened page self.old.room }
+    {
+        self.page = page;
+        self.home = None;
+        self.shadow = None;
+        self.looked.clear();
+        self.taken.clear();
+        self.phase = Phase::Held;
+        self.cleared = false;
+        self.moved = false;
+        self.due = false;
+        self.flush = None;
+        self.seen = 0;
+        self.copied = 0;
+        self.last = None;
+        self.wet.clear();
+        self.raised.clear();
+    }
+}
+
+/// Takes a closed operation out, as one on a page in which nothing is known.
+fn reopened(closed: &mut Vec<OpenOp>, page: u32, room: usize) -> OpenOp
+    requires some { 0 < length closed.old.items }
+    requires room { All (λ o. o.room ≡ room) closed.old.items }
+    ensures op { result ≡ opened page room }
+    ensures length { length closed.new.items + 1 ≡ length closed.old.items }
+    ensures capacity { vec_capacity closed.new ≡ vec_capacity closed.old }
+    ensures rest { All (λ o. o.room ≡ room) closed.new.items }
+{
+    let mut op = closed.take_last();
+    op.reset(page);
+    op
+}
+
+/// Takes the operation on a page out of the open ones, and keeps it for its room.
+fn shelve(ops: &mut Vec<OpenOp>, closed: &mut Vec<OpenOp>, page: u32, room: usize)
+    requires capacity { length ops.old.items + length closed.old.items ≤ vec_capacity closed.old }
+    requires open { All (λ o. o.room ≡ room) ops.old.items }
+    requires closed { All (λ o. o.room ≡ room) closed.old.items }
+    ensures ops { ops.new.items ≡ erase page_of page ops.old.items }
+    ensures count { length ops.new.items + length closed.new.items ≡ length ops.old.items + length closed.old.items }
+    ensures room { All (λ o. o.room ≡ room) closed.new.items }
+    ensures ops_capacity { vec_capacity ops.new ≡ vec_capacity ops.old }
+    ensures closed_capacity { vec_capacity closed.new ≡ vec_capacity closed.old }
+{
+    if let Some(i) = place(ops, page) {
+        let op = ops.remove(i);
+        closed.push_reserved(op);
+    }
+}
+
+/// Opens an operation on a page.
+pub(crate) fn open_op(view: &mut ActorView, page: u32)
+    requires { length view.old.ops < most_ops }
+    ensures { view.new ≡ record view.old { ops = view.old.ops ++ opened page view.old.room.vpages ∷ [] } }
+{
+    let room = view.room.vpages;
+    let op = reopened(&mut view.closed, page, room);
+    view.ops.push_reserved(op);
+}
+
+/// Closes the operation on a page.
+pub(crate) fn close_op(view: &mut ActorView, page: u32)
+    requires { All (λ o. o.room ≡ view.old.room.vpages) view.old.ops }
+    ensures { view.new ≡ record view.old { ops = erase page_of page view.old.ops } }
+{
+    let room = view.room.vpages;
+    shelve(&mut view.ops, &mut view.closed, page, room);
+}
+
+/// Whether the stamp of a cached translation equals a fresh peek.
+fn is_confirmed(peeked: &[Peeked], entry: CacheEntry) -> bool
+    ensures { result ≡ is_confirmed peeked.now entry }
+{
+    match look_up(peeked, entry.vpage) {
+        Some(peek) => peek.fresh && peek.stamp == entry.stamp,
+        None => false,
+    }
+}
+
+/// Keeps the cached translations whose stamps equal fresh peeks.
+fn keep_confirmed(cache: &mut Vec<CacheEntry>, peeked: &[Peeked])
+    ensures items { cache.new.items ≡ filter (is_confirmed peeked.now) cache.old.items }
+    ensures capacity { vec_capacity cache.new ≡ vec_capacity cache.old }
+{
+    cache.retain(|entry| is_confirmed(peeked, *entry));
+}
+
+/// Keeps the cached translations of a view whose stamps equal fresh peeks.
+pub(crate) fn keep_cache(view: &mut ActorView)
+    ensures { view.new ≡ record view.old { cache = filter (is_confirmed view.old.peeked) view.old.cache } }
+{
+    keep_confirmed(&mut view.cache, &view.peeked);
+}
+
+/// Makes every peek stale.
+fn make_stale(peeked: &mut [Peeked])
+    ensures { peeked.new ≡ map stale peeked.old }
+{
+    for i in 0..peeked.len() {
+        peeked[i].fresh = false;
+    }
+}
+
+/// Makes every peek of a view stale.
+pub(crate) fn stale_peeks(view: &mut ActorView)
+    ensures { view.new ≡ record view.old { peeked = map stale view.old.peeked } }
+{
+    make_stale(&mut view.peeked);
+}
+
+/// Whether an operation is in phase Taken, with no dirty bit cleared, and its flush ended.
+pub(crate) fn is_quiet(g: &Geometry, op: &OpenOp) -> bool
+    ensures { result ≡ is_quiet g.now op.now }
+{
+    match op.phase {
+        Phase::Held => false,
+        Phase::Cleared => false,
+        Phase::Taken => !op.cleared && flush_ended(g, op),
+    }
+}
+
+/// The number of the least set bit of a word.
+#[tactic(auto, unfolding(crate::specs::After::least_bit))]
+fn least_bit(word: u64) -> u32
+    ensures value { result ≡ least_bit word }
+    ensures bound { result ≤ 64 }
+{
+    word.trailing_zeros()
+}
+
+/// What was scanned, after a word whose bit 0 stands for the frame `base`.
+pub(crate) fn scanned_word(base: u32, word: u64, scan: Scanned) -> Scanned
+    requires base { base + 64 < 2 ^ 32 }
+    requires words { scan.words + 1 < 2 ^ 32 }
+    requires sum { scan.sum + count_ones word < 2 ^ 32 }
+    ensures { result ≡ scanned_word base word scan }
+{
+    Scanned {
+        words: scan.words + 1,
+        sum: scan.sum + word.count_ones(),
+        least: least_with(scan.least, base, word),
+    }
+}
+
+/// The least frame found so far.
+fn least_with(least: Option<u32>, base: u32, word: u64) -> Option<u32>
+    requires { base + 64 < 2 ^ 32 }
+    ensures { result ≡ least_with least base word }
+{
+    match least {
+        Some(frame) => Some(frame),
+        None => if word == 0 {
+            None
+        } else {
+            Some(base + least_bit(word))
+        },
+    }
+}

@@ -1,0 +1,12 @@
+-- The size of a script that is asked for is in range.
+use Rattle.std.proofs.Common.{rules}
+use Rattle.nm_top.proofs.Forms.{IsGen-range}
+use Rattle.nm_top.proofs.call.plain_call.Goals as goal
+
+pub gen_call-requires-clause-low : goal.gen_call-requires-clause-low
+gen_call-requires-clause-low g c =
+    (IsGen-range c.args.words.now c.in-Some-Gen.number c.in-Some-Gen.size ((c.form_of.ensures.generated _ _).0 (search rules))).0
+
+pub gen_call-requires-clause-high : goal.gen_call-requires-clause-high
+gen_call-requires-clause-high g c =
+    (IsGen-range c.args.words.now c.in-Some-Gen.number c.in-Some-Gen.size ((c.form_of.ensures.generated _ _).0 (search rules))).1
