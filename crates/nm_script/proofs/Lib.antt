@@ -1,1 +1,14 @@
+pub mod Again
+pub mod FieldLemmas
+pub mod Finished
+pub mod FirstFaults
+pub mod FullTiers
+pub mod Lines
+pub mod Mapped
+pub mod Memory
 pub mod Printed
+pub mod Says
+pub mod Steps
+pub mod Tellings
+pub mod Texts
+pub mod Whole

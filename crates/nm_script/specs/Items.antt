@@ -1,5 +1,5 @@
 -- The lines of a script's text, and how each is spelled.
-use Rattle.std.specs.Prelude.{ℕ, ◌+◌, ◌==◌, nat_lt, if◌then◌else◌, Bool, true, false, List, [], ◌∷◌, ◌++◌, flat_map, codes}
+use Rattle.std.specs.Prelude.{ℕ, ◌==◌, nat_lt, if◌then◌else◌, Bool, true, false, List, [], ◌∷◌, ◌++◌, flat_map, codes}
 use Rattle.std.specs.Fmt.{decimal}
 use Rattle.nm_event.specs.declared.kind.ActionKind.{ActionKind}
 use Rattle.nm_event.specs.declared.kind.ActionKind.TheVariants as kinds

@@ -1,3 +1,9 @@
 pub mod Plain
 pub mod Items
 pub mod Script
+pub mod Told
+pub mod Fields
+pub mod Reading
+pub mod Grammar
+pub mod Holds
+pub mod Faults

@@ -1,5 +1,9 @@
 //! Why a text is no script.
 
+ghost use Rattle.std.specs.Prelude.{◌≡◌};
+ghost use Rattle.nm_script.specs.declared.fault.ReadError.TheVariants.{Memory, Fault};
+
+use std::alloc::{AllocError, AllocFailed};
 use thiserror::Error;
 
 /// What is wrong with a text.
@@ -47,4 +51,37 @@ pub enum ScriptRefusal {
     /// There is no memory for the script.
     #[error("Memory")]
     Memory,
+}
+
+/// Why a line was not taken.
+#[derive(Debug, Drop)]
+pub enum ReadError {
+    /// There is no memory for it.
+    Memory,
+    /// What is wrong with it.
+    Fault(ScriptFault),
+}
+
+impl From<ScriptFault> for ReadError {
+    ghost from_gives = { λ f e. e ≡ Fault f };
+
+    fn from(fault: ScriptFault) -> ReadError {
+        ReadError::Fault(fault)
+    }
+}
+
+impl From<AllocError> for ReadError {
+    ghost from_gives = { λ _ e. e ≡ Memory };
+
+    fn from(_e: AllocError) -> ReadError {
+        ReadError::Memory
+    }
+}
+
+impl<T: Drop> From<AllocFailed<T>> for ReadError {
+    ghost from_gives = { λ _ e. e ≡ Memory };
+
+    fn from(_e: AllocFailed<T>) -> ReadError {
+        ReadError::Memory
+    }
 }

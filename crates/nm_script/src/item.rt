@@ -35,3 +35,39 @@ pub enum Item {
     /// A line of the processor.
     Access(Line),
 }
+
+/// What stood last.
+#[derive(Clone, Copy, Debug, PartialEq, Eq)]
+pub enum Place {
+    /// Nothing.
+    Begin,
+    /// The first line.
+    Version,
+    /// The line of the page.
+    Page,
+    /// The line of the tiers, or a node.
+    Tier,
+    /// The line of the processors.
+    Cpus,
+    /// The line of the retry.
+    Retry,
+    /// A serial or a shuffled schedule.
+    Order,
+    /// A plan, or an item of it.
+    Plan,
+    /// A mapped virtual page.
+    Map,
+    /// A processor, or a line of it.
+    Program,
+}
+
+/// How turns are picked, without the items of a plan.
+#[derive(Clone, Copy, Debug, PartialEq, Eq)]
+pub enum Order {
+    /// By number.
+    Serial(u32),
+    /// By random numbers.
+    Shuffle(u64, u32),
+    /// By a plan.
+    Plan(u32),
+}

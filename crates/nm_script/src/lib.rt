@@ -1,13 +1,21 @@
 //! Scripts: what a run is given, the one text of each script, and the reading of texts.
 #![tactic(auto)]
 
+mod draft;
 mod fault;
+mod fields;
 mod item;
+mod parsing;
 mod printing;
+mod reading;
 pub mod schedule;
 pub mod script;
 
 pub use fault::{ScriptFault, ScriptRefusal};
+pub use parsing::parse;
 pub use printing::print;
 pub use schedule::{PlanItem, PlanItems, Schedule};
 pub use script::{Line, Script};
+
+#[cfg(test)]
+mod tests;

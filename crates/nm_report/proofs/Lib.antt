@@ -1,0 +1,4 @@
+pub mod Counts
+pub mod Made
+pub mod Pieces
+mod Worked

@@ -1,0 +1,5 @@
+use Rattle.std.proofs.Common.{append_assoc}
+use Rattle.nm_report.proofs.printing.push_work.Goals as goal
+
+pub returns : goal.returns
+returns c = rw (c.in_ok-push.ensures.items, c.in_ok-push_field-2.ensures, c.in_ok-push_field.ensures) (simp append_assoc)

@@ -1,0 +1,5 @@
+pub mod Plain
+pub mod Ends
+pub mod Texts
+pub mod Summary
+pub mod Follows
