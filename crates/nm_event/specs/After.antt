@@ -4,25 +4,26 @@ use Rattle.std.specs.List.{filter}
 use Rattle.std.specs.Int.{w64, trailing_zeros}
 use Rattle.nm_base.specs.Geometry.{Geometry, backing_page, first_frame}
 use Rattle.nm_base.specs.PageWord.{is_writable, is_dirty, frame_of}
-use Rattle.nm_event.specs.declared.view.CacheEntry.{CacheEntry}
-use Rattle.nm_event.specs.declared.view.Peeked.{Peeked}
-use Rattle.nm_event.specs.declared.view.Phase.{Phase}
-use Rattle.nm_event.specs.declared.view.Phase.TheVariants.{Held, Cleared, Taken}
-use Rattle.nm_event.specs.declared.view.Fill.{Fill}
-use Rattle.nm_event.specs.declared.view.Fill.TheVariants.{Raw, Zeroed, Copied, Equal}
-use Rattle.nm_event.specs.declared.view.Owned.{Owned}
-use Rattle.nm_event.specs.declared.view.Scanned.{Scanned}
-use Rattle.nm_event.specs.declared.action.AckTo.{AckTo}
-use Rattle.nm_event.specs.declared.action.AckTo.TheVariants.{Seen, Off, End}
-use Rattle.nm_event.specs.declared.action.Cell.{Cell}
-use Rattle.nm_event.specs.declared.action.Cell.TheVariants.{Home, Shadow}
-use Rattle.nm_event.specs.declared.action.Reply.{Reply}
-use Rattle.nm_event.specs.declared.action.Reply.TheVariants.{Done, Word}
-use Rattle.nm_event.specs.declared.action.Action.{Action}
-use Rattle.nm_event.specs.declared.action.Action.TheVariants.{Look, Walk, Peek, Poll, Ack, Lock, Unlock, Bump, SeeAck, Raise, ClearDirty, Unmap, Map, Grant, CopyLoad, CopyStore, SetHome, SetShadow, TakeTurn, Scan, GiveFrame, PutFrame, ReleaseTurn, Read}
-use Rattle.nm_event.specs.Lists.{find, edit, erase, put, first, itself}
-use Rattle.nm_event.specs.Views.{Op, View, off_word, end_word}
-use Rattle.nm_event.specs.Operations.{page_of, cached_page, peeked_page, owned_frame, op_on, shadow_word, shadow_of, is_flush_ended}
+use Rattle.nm_view.specs.declared.view.CacheEntry.{CacheEntry}
+use Rattle.nm_view.specs.declared.view.Peeked.{Peeked}
+use Rattle.nm_view.specs.declared.view.Phase.{Phase}
+use Rattle.nm_view.specs.declared.view.Phase.TheVariants.{Held, Cleared, Taken}
+use Rattle.nm_view.specs.declared.view.Fill.{Fill}
+use Rattle.nm_view.specs.declared.view.Fill.TheVariants.{Raw, Zeroed, Copied, Equal}
+use Rattle.nm_view.specs.declared.view.Owned.{Owned}
+use Rattle.nm_view.specs.declared.view.Scanned.{Scanned}
+use Rattle.nm_action.specs.declared.action.AckTo.{AckTo}
+use Rattle.nm_action.specs.declared.action.AckTo.TheVariants.{Seen, Off, End}
+use Rattle.nm_action.specs.declared.action.Cell.{Cell}
+use Rattle.nm_action.specs.declared.action.Cell.TheVariants.{Home, Shadow}
+use Rattle.nm_action.specs.declared.action.Reply.{Reply}
+use Rattle.nm_action.specs.declared.action.Reply.TheVariants.{Done, Word}
+use Rattle.nm_action.specs.declared.action.Action.{Action}
+use Rattle.nm_action.specs.declared.action.Action.TheVariants.{Look, Walk, Peek, Poll, Ack, Lock, Unlock, Bump, SeeAck, Raise, ClearDirty, Unmap, Map, Grant, CopyLoad, CopyStore, SetHome, SetShadow, TakeTurn, Scan, GiveFrame, PutFrame, ReleaseTurn, Read}
+use Rattle.nm_view.specs.Lists.{find, edit, erase, put, first, itself}
+use Rattle.nm_view.specs.Views.{Op, View, off_word, end_word}
+use Rattle.nm_view.specs.Opening.{opened, unscanned}
+use Rattle.nm_view.specs.Operations.{page_of, cached_page, peeked_page, owned_frame, op_on, shadow_word, shadow_of, is_flush_ended}
 
 -- Translations.
 
@@ -66,27 +67,6 @@ kept_entries view Off = []
 kept_entries view End = []
 
 -- Operations.
-
--- an operation in which nothing is known
-abbrev pub opened : ℕ → ℕ → Op
-opened page room = record {
-  page = page;
-  home = None;
-  shadow = None;
-  looked = [];
-  taken = [];
-  phase = Held;
-  cleared = false;
-  moved = false;
-  due = false;
-  flush = None;
-  seen = 0;
-  copied = 0;
-  last = None;
-  wet = [];
-  raised = [];
-  room = room;
-}
 
 -- the operations with the one on this page changed, if there is such a page
 abbrev pub edit_under : Option ℕ → (Op → Op) → List Op → List Op
@@ -272,10 +252,6 @@ stored_fill None n = Zeroed n
 stored_fill (Some page) n = Copied page n
 
 -- Scans.
-
--- nothing was scanned
-abbrev pub unscanned : Scanned
-unscanned = record { words = 0; sum = 0; least = None }
 
 -- the number of the least set bit of a word that is not 0
 unfoldable pub least_bit : ℕ → ℕ

@@ -1,7 +1,7 @@
 -- The changes of an operation, by name.
 use Rattle.nm_event.specs.declared.change.OpChange.{OpChange}
 use Rattle.nm_event.specs.declared.change.OpChange.TheVariants.{LookedAt, ReadCell, ClearedAt, TakenAt, RaisedTo, Loaded, CopiedOne, HomedAt, Shaded, MappedAt, GrantedAt}
-use Rattle.nm_event.specs.Views.{Op}
+use Rattle.nm_view.specs.Views.{Op}
 use Rattle.nm_event.specs.After.{looked_at, read_cell, cleared_at, taken_at, raised_to, loaded, copied_one, homed_at, shaded, mapped_at, granted_at}
 
 -- the operation after a change

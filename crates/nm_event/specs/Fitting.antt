@@ -3,16 +3,16 @@ use Rattle.std.specs.Prelude.{◌≡◌, ◌≢◌, ◌↔◌, ℕ, ◌+◌, ◌
 use Rattle.std.specs.Int.{bit_at}
 use Rattle.nm_base.specs.Geometry.{Geometry, IsWritable, first_frame, frame_count, tier_of}
 use Rattle.nm_base.specs.PageWord.{IsPageWord, is_writable, is_saved, frame_of}
-use Rattle.nm_event.specs.declared.action.Cell.{Cell}
-use Rattle.nm_event.specs.declared.action.Cell.TheVariants.{Home, Shadow}
-use Rattle.nm_event.specs.declared.action.Reply.{Reply}
-use Rattle.nm_event.specs.declared.action.Reply.TheVariants.{Done, Word, Busy, Lost}
-use Rattle.nm_event.specs.declared.action.Action.{Action}
-use Rattle.nm_event.specs.declared.action.Action.TheVariants.{Load, Store, Add, Look, Walk, Peek, Poll, Ack, Lock, Unlock, Bump, SeeAck, Raise, Soften, Arm, ClearDirty, Unmap, Map, Grant, CopyLoad, CopyStore, SetHome, SetShadow, TakeTurn, Scan, GiveFrame, PutFrame, ReleaseTurn, Mark, Read}
-use Rattle.nm_event.specs.Lists.{find, first}
-use Rattle.nm_event.specs.Views.{Op, View}
-use Rattle.nm_event.specs.Operations.{op_on, op_of, owned_frame, IsTaken, shadow_word, shadow_of}
-use Rattle.nm_event.specs.Permitted.{IsFrame, IsWord}
+use Rattle.nm_action.specs.declared.action.Cell.{Cell}
+use Rattle.nm_action.specs.declared.action.Cell.TheVariants.{Home, Shadow}
+use Rattle.nm_action.specs.declared.action.Reply.{Reply}
+use Rattle.nm_action.specs.declared.action.Reply.TheVariants.{Done, Word, Busy, Lost}
+use Rattle.nm_action.specs.declared.action.Action.{Action}
+use Rattle.nm_action.specs.declared.action.Action.TheVariants.{Load, Store, Add, Look, Walk, Peek, Poll, Ack, Lock, Unlock, Bump, SeeAck, Raise, Soften, Arm, ClearDirty, Unmap, Map, Grant, CopyLoad, CopyStore, SetHome, SetShadow, TakeTurn, Scan, GiveFrame, PutFrame, ReleaseTurn, Mark, Read}
+use Rattle.nm_view.specs.Lists.{find, first}
+use Rattle.nm_view.specs.Views.{Op, View}
+use Rattle.nm_view.specs.Operations.{op_on, op_of, owned_frame, IsTaken, shadow_word, shadow_of}
+use Rattle.nm_view.specs.Ranges.{IsFrame, IsWord}
 
 -- Kinds of reply.
 

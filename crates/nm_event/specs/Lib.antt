@@ -1,12 +1,4 @@
 pub mod After
 pub mod Changes
 pub mod Fitting
-pub mod Kinds
-pub mod Lists
-pub mod Operations
-pub mod Permitted
 pub mod Room
-pub mod Shape
-pub mod Spent
-pub mod Tally
-pub mod Views

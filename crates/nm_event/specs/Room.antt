@@ -2,12 +2,12 @@
 use Rattle.std.specs.Prelude.{◌≡◌, ℕ, ◌+◌, ◌<◌, ◌≤◌, ◌^◌, count_ones, length, All, IfSome}
 use Rattle.nm_base.specs.Geometry.{Geometry}
 use Rattle.nm_base.specs.PageWord.{frame_of}
-use Rattle.nm_event.specs.declared.action.Reply.{Reply}
-use Rattle.nm_event.specs.declared.action.Reply.TheVariants.{Done, Word}
-use Rattle.nm_event.specs.declared.action.Action.{Action}
-use Rattle.nm_event.specs.declared.action.Action.TheVariants.{Walk, Bump, Raise, SetHome, Scan}
-use Rattle.nm_event.specs.Views.{Op, View}
-use Rattle.nm_event.specs.Operations.{op_on}
+use Rattle.nm_action.specs.declared.action.Reply.{Reply}
+use Rattle.nm_action.specs.declared.action.Reply.TheVariants.{Done, Word}
+use Rattle.nm_action.specs.declared.action.Action.{Action}
+use Rattle.nm_action.specs.declared.action.Action.TheVariants.{Walk, Bump, Raise, SetHome, Scan}
+use Rattle.nm_view.specs.Views.{Op, View}
+use Rattle.nm_view.specs.Operations.{op_on}
 use Rattle.nm_event.specs.After.{after_of, known_home}
 
 -- the lists of an operation are within its room, which is the view's, and its numbers fit their fields

@@ -3,23 +3,24 @@
 ghost use Rattle.std.specs.Prelude.{◌≡◌, ◌+◌, ◌*◌, ◌<◌, ◌≤◌, ◌^◌, Some, IfSome, count_ones, length, option_map};
 ghost use Rattle.nm_base.specs.Geometry.{first_frame};
 ghost use Rattle.nm_base.specs.PageWord.{frame_of};
-ghost use Rattle.nm_event.specs.Operations.{op_on, shadow_of, free_words};
-ghost use Rattle.nm_event.specs.Permitted.{Allowed, IsTier};
+ghost use Rattle.nm_view.specs.Operations.{op_on, shadow_of, free_words};
+ghost use Rattle.nm_view.specs.Ranges.{IsTier};
+ghost use Rattle.nm_permit.specs.Permitted.{Allowed};
 ghost use Rattle.nm_event.specs.After.{after_of, walked, known_home, let_go, unshaded, unshaded_fill, is_quiet};
 ghost use Rattle.nm_event.specs.Fitting.{IsReplyOf};
 ghost use Rattle.nm_event.specs.Room.{HasRoom, NumbersFit};
 
-use crate::action::{AckTo, Action, Reply};
 use crate::change::{OpChange, bump_all, see_all};
 use crate::frames::{
-    change_op, change_op_of, close_op, disown, is_quiet, keep_cache, open_op, own, refill,
-    scanned_word, spoil_of, spoil_page, stale_peeks,
+    change_op, change_op_of, disown, is_quiet, keep_cache, own, refill, scanned_word, spoil_of,
+    spoil_page, stale_peeks,
 };
-use crate::keyed::{look_up, put};
-use crate::permitted::{END, OFF, has_bit, op_on};
-use crate::start::UNSCANNED;
-use crate::view::{ActorView, CacheEntry, Fill, Peeked};
+use nm_action::{AckTo, Action, Reply};
 use nm_base::Geometry;
+use nm_view::keyed::{look_up, put};
+use nm_view::opening::{close_op, open_op};
+use nm_view::reading::{has_bit, op_on};
+use nm_view::{ActorView, CacheEntry, END, Fill, OFF, Peeked, UNSCANNED};
 
 /// What a walk caches.
 fn walked(view: &ActorView, vpage: u32, expect: u64, write: bool) -> CacheEntry
@@ -417,8 +418,8 @@ pub fn after(g: &Geometry, view: &mut ActorView, action: Action, reply: Reply)
 #[cfg(test)]
 mod tests {
     use super::*;
-    use crate::allowing::allowed;
     use nm_base::VPage;
+    use nm_permit::allowed;
     use std::test::Fail;
 
     #[test]

@@ -1,15 +1,15 @@
 //! How an operation changes.
 
 ghost use Rattle.std.specs.Prelude.{◌≡◌, ◌<◌, ◌≤◌, ◌^◌, map};
-ghost use Rattle.nm_event.specs.Views.{Op};
+ghost use Rattle.nm_view.specs.Views.{Op};
 ghost use Rattle.nm_event.specs.After.{looked_at, read_cell, cleared_at, taken_at, raised_to, loaded, copied_one, homed_at, shaded, mapped_at, granted_at, granted_word, bumped_to, seen_at};
-ghost use Rattle.nm_event.specs.Operations.{shadow_word};
+ghost use Rattle.nm_view.specs.Operations.{shadow_word};
 ghost use Rattle.nm_event.specs.Changes.{changed};
 ghost use Rattle.nm_event.specs.Room.{IsOpWithin};
 
-use crate::action::Cell;
-use crate::keyed::{erase, put};
-use crate::view::{OpenOp, Phase};
+use nm_action::Cell;
+use nm_view::keyed::{erase, put};
+use nm_view::{OpenOp, Phase};
 
 /// A change of one operation.
 #[derive(Clone, Copy)]
@@ -56,153 +56,151 @@ fn granted_word(word: u64) -> u64
     word ^ 36
 }
 
-impl OpenOp {
-    /// Notes a word that was looked at.
-    fn look_at(&mut self, vpage: u32, word: u64)
-        requires { IsOpWithin self.old.room (looked_at vpage word self.old) }
-        ensures { self.new ≡ looked_at vpage word self.old }
-    {
-        put(&mut self.looked, (vpage, word));
-    }
+/// Notes a word that was looked at.
+fn look_at(op: &mut OpenOp, vpage: u32, word: u64)
+    requires { IsOpWithin op.old.room (looked_at vpage word op.old) }
+    ensures { op.new ≡ looked_at vpage word op.old }
+{
+    put(&mut op.looked, (vpage, word));
+}
 
-    /// Notes a word that was read.
-    fn read_cell(&mut self, cell: Cell, word: u64)
-        ensures { self.new ≡ read_cell cell word self.old }
-    {
-        match cell {
-            Cell::Home(_) => self.home = Some(word),
-            Cell::Shadow(_) => self.shadow = Some(word),
-        }
+/// Notes a word that was read.
+fn read_cell(op: &mut OpenOp, cell: Cell, word: u64)
+    ensures { op.new ≡ read_cell cell word op.old }
+{
+    match cell {
+        Cell::Home(_) => op.home = Some(word),
+        Cell::Shadow(_) => op.shadow = Some(word),
     }
+}
 
-    /// Notes that a dirty bit was cleared.
-    fn clear_at(&mut self, vpage: u32)
-        requires { IsOpWithin self.old.room (cleared_at vpage self.old) }
-        ensures { self.new ≡ cleared_at vpage self.old }
-    {
-        self.phase = Phase::Cleared;
-        self.cleared = true;
-        self.due = true;
-        self.flush = None;
-        put(&mut self.wet, vpage);
-        erase(&mut self.raised, vpage);
+/// Notes that a dirty bit was cleared.
+fn clear_at(op: &mut OpenOp, vpage: u32)
+    requires { IsOpWithin op.old.room (cleared_at vpage op.old) }
+    ensures { op.new ≡ cleared_at vpage op.old }
+{
+    op.phase = Phase::Cleared;
+    op.cleared = true;
+    op.due = true;
+    op.flush = None;
+    put(&mut op.wet, vpage);
+    erase(&mut op.raised, vpage);
+}
+
+/// Notes that a word was taken.
+fn take_at(op: &mut OpenOp, vpage: u32, word: u64)
+    requires { IsOpWithin op.old.room (taken_at vpage word op.old) }
+    ensures { op.new ≡ taken_at vpage word op.old }
+{
+    op.phase = Phase::Taken;
+    op.due = true;
+    op.flush = None;
+    op.taken.push_reserved((vpage, word));
+    put(&mut op.wet, vpage);
+    erase(&mut op.raised, vpage);
+}
+
+/// Notes a raise.
+fn raise_to(op: &mut OpenOp, vpage: u32, number: u64)
+    requires { IsOpWithin op.old.room (raised_to vpage number op.old) }
+    ensures { op.new ≡ raised_to vpage number op.old }
+{
+    erase(&mut op.wet, vpage);
+    put(&mut op.raised, (vpage, number));
+}
+
+/// Notes a word that was loaded.
+fn load(op: &mut OpenOp, word: u64)
+    ensures { op.new ≡ loaded word op.old }
+{
+    op.last = Some(word);
+}
+
+/// Notes that the loaded word was stored.
+fn copy_one(op: &mut OpenOp)
+    requires { IsOpWithin op.old.room (copied_one op.old) }
+    ensures { op.new ≡ copied_one op.old }
+{
+    op.copied += 1;
+    op.last = None;
+}
+
+/// Notes a new home.
+fn home_at(op: &mut OpenOp, frame: u32)
+    ensures { op.new ≡ homed_at frame op.old }
+{
+    op.home = Some(u64::from(frame) + 1);
+    op.shadow = Some(0);
+    op.moved = true;
+}
+
+/// Notes a shadow that was given or taken away.
+fn shade(op: &mut OpenOp, page: u32, shadow: Option<u32>)
+    requires { IsOpWithin op.old.room (shaded page shadow op.old) }
+    ensures { op.new ≡ shaded page shadow op.old }
+{
+    op.shadow = Some(shadow_word(page, shadow));
+}
+
+/// Notes a word that was mapped.
+fn map_at(op: &mut OpenOp, vpage: u32, word: u64)
+    requires { IsOpWithin op.old.room (mapped_at vpage word op.old) }
+    ensures { op.new ≡ mapped_at vpage word op.old }
+{
+    put(&mut op.looked, (vpage, word));
+    erase(&mut op.taken, vpage);
+    op.cleared = op.cleared && !op.taken.is_empty();
+    op.last = None;
+}
+
+/// Notes that a right to write was granted.
+fn grant_at(op: &mut OpenOp, vpage: u32, word: u64)
+    requires { IsOpWithin op.old.room (granted_at vpage word op.old) }
+    ensures { op.new ≡ granted_at vpage word op.old }
+{
+    put(&mut op.looked, (vpage, granted_word(word)));
+    op.last = None;
+}
+
+/// Makes a change of an operation.
+pub(crate) fn make_change(op: &mut OpenOp, change: OpChange)
+    requires { IsOpWithin op.old.room (changed change op.old) }
+    ensures { op.new ≡ changed change op.old }
+{
+    match change {
+        OpChange::LookedAt(vpage, word) => look_at(op, vpage, word),
+        OpChange::ReadCell(cell, word) => read_cell(op, cell, word),
+        OpChange::ClearedAt(vpage) => clear_at(op, vpage),
+        OpChange::TakenAt(vpage, word) => take_at(op, vpage, word),
+        OpChange::RaisedTo(vpage, number) => raise_to(op, vpage, number),
+        OpChange::Loaded(word) => load(op, word),
+        OpChange::CopiedOne => copy_one(op),
+        OpChange::HomedAt(frame) => home_at(op, frame),
+        OpChange::Shaded(page, shadow) => shade(op, page, shadow),
+        OpChange::MappedAt(vpage, word) => map_at(op, vpage, word),
+        OpChange::GrantedAt(vpage, word) => grant_at(op, vpage, word),
     }
+}
 
-    /// Notes that a word was taken.
-    fn take_at(&mut self, vpage: u32, word: u64)
-        requires { IsOpWithin self.old.room (taken_at vpage word self.old) }
-        ensures { self.new ≡ taken_at vpage word self.old }
-    {
-        self.phase = Phase::Taken;
-        self.due = true;
-        self.flush = None;
-        self.taken.push_reserved((vpage, word));
-        put(&mut self.wet, vpage);
-        erase(&mut self.raised, vpage);
+/// Notes a bump.
+fn bump_to(op: &mut OpenOp, number: u64)
+    ensures { op.new ≡ bumped_to number op.old }
+{
+    if op.due {
+        op.due = false;
+        op.flush = Some(number);
+        op.seen = 0;
     }
+}
 
-    /// Notes a raise.
-    fn raise_to(&mut self, vpage: u32, number: u64)
-        requires { IsOpWithin self.old.room (raised_to vpage number self.old) }
-        ensures { self.new ≡ raised_to vpage number self.old }
-    {
-        erase(&mut self.wet, vpage);
-        put(&mut self.raised, (vpage, number));
-    }
-
-    /// Notes a word that was loaded.
-    fn load(&mut self, word: u64)
-        ensures { self.new ≡ loaded word self.old }
-    {
-        self.last = Some(word);
-    }
-
-    /// Notes that the loaded word was stored.
-    fn copy_one(&mut self)
-        requires { IsOpWithin self.old.room (copied_one self.old) }
-        ensures { self.new ≡ copied_one self.old }
-    {
-        self.copied += 1;
-        self.last = None;
-    }
-
-    /// Notes a new home.
-    fn home_at(&mut self, frame: u32)
-        ensures { self.new ≡ homed_at frame self.old }
-    {
-        self.home = Some(u64::from(frame) + 1);
-        self.shadow = Some(0);
-        self.moved = true;
-    }
-
-    /// Notes a shadow that was given or taken away.
-    fn shade(&mut self, page: u32, shadow: Option<u32>)
-        requires { IsOpWithin self.old.room (shaded page shadow self.old) }
-        ensures { self.new ≡ shaded page shadow self.old }
-    {
-        self.shadow = Some(shadow_word(page, shadow));
-    }
-
-    /// Notes a word that was mapped.
-    fn map_at(&mut self, vpage: u32, word: u64)
-        requires { IsOpWithin self.old.room (mapped_at vpage word self.old) }
-        ensures { self.new ≡ mapped_at vpage word self.old }
-    {
-        put(&mut self.looked, (vpage, word));
-        erase(&mut self.taken, vpage);
-        self.cleared = self.cleared && !self.taken.is_empty();
-        self.last = None;
-    }
-
-    /// Notes that a right to write was granted.
-    fn grant_at(&mut self, vpage: u32, word: u64)
-        requires { IsOpWithin self.old.room (granted_at vpage word self.old) }
-        ensures { self.new ≡ granted_at vpage word self.old }
-    {
-        put(&mut self.looked, (vpage, granted_word(word)));
-        self.last = None;
-    }
-
-    /// Makes a change.
-    pub(crate) fn change(&mut self, change: OpChange)
-        requires { IsOpWithin self.old.room (changed change self.old) }
-        ensures { self.new ≡ changed change self.old }
-    {
-        match change {
-            OpChange::LookedAt(vpage, word) => self.look_at(vpage, word),
-            OpChange::ReadCell(cell, word) => self.read_cell(cell, word),
-            OpChange::ClearedAt(vpage) => self.clear_at(vpage),
-            OpChange::TakenAt(vpage, word) => self.take_at(vpage, word),
-            OpChange::RaisedTo(vpage, number) => self.raise_to(vpage, number),
-            OpChange::Loaded(word) => self.load(word),
-            OpChange::CopiedOne => self.copy_one(),
-            OpChange::HomedAt(frame) => self.home_at(frame),
-            OpChange::Shaded(page, shadow) => self.shade(page, shadow),
-            OpChange::MappedAt(vpage, word) => self.map_at(vpage, word),
-            OpChange::GrantedAt(vpage, word) => self.grant_at(vpage, word),
-        }
-    }
-
-    /// Notes a bump.
-    fn bump_to(&mut self, number: u64)
-        ensures { self.new ≡ bumped_to number self.old }
-    {
-        if self.due {
-            self.due = false;
-            self.flush = Some(number);
-            self.seen = 0;
-        }
-    }
-
-    /// Notes the acknowledgement of a processor.
-    fn see_at(&mut self, cpu: u32, word: u64)
-        requires { cpu ≤ 31 }
-        ensures { self.new ≡ seen_at cpu word self.old }
-    {
-        if let Some(flush) = self.flush {
-            if flush <= word {
-                self.seen |= 1 << cpu;
-            }
+/// Notes the acknowledgement of a processor.
+fn see_at(op: &mut OpenOp, cpu: u32, word: u64)
+    requires { cpu ≤ 31 }
+    ensures { op.new ≡ seen_at cpu word op.old }
+{
+    if let Some(flush) = op.flush {
+        if flush <= word {
+            op.seen |= 1 << cpu;
         }
     }
 }
@@ -213,7 +211,7 @@ pub(crate) fn bump_all(ops: &mut [OpenOp], number: u64)
     ensures { ops.new ≡ map (bumped_to number) ops.old }
 {
     for i in 0..ops.len() {
-        ops[i].bump_to(number);
+        bump_to(&mut ops[i], number);
     }
 }
 
@@ -224,6 +222,6 @@ pub(crate) fn see_all(ops: &mut [OpenOp], cpu: u32, word: u64)
     ensures { ops.new ≡ map (seen_at cpu word) ops.old }
 {
     for i in 0..ops.len() {
-        ops[i].see_at(cpu, word);
+        see_at(&mut ops[i], cpu, word);
     }
 }

@@ -2,19 +2,19 @@
 
 ghost use Rattle.std.specs.Prelude.{◌≡◌, ◌+◌, ◌<◌, ◌≤◌, ◌^◌, ◌∷◌, ◌++◌, [], All, Some, map, length, count_ones, vec_capacity};
 ghost use Rattle.std.specs.List.{filter};
-ghost use Rattle.nm_event.specs.Lists.{find, edit, erase, put};
-ghost use Rattle.nm_event.specs.Views.{Op, View, most_ops};
-ghost use Rattle.nm_event.specs.Operations.{page_of, owned_frame, peeked_page, is_flush_ended};
-ghost use Rattle.nm_event.specs.After.{edit_of, opened, owning, filled, spoiled, spoiled_frame, spoiled_fill, spoiled_under, is_fresh_at, is_confirmed, stale, is_quiet, scanned_word, least_with, least_bit};
+ghost use Rattle.nm_view.specs.Lists.{find, edit, erase, put};
+ghost use Rattle.nm_view.specs.Views.{Op, View, most_ops};
+ghost use Rattle.nm_view.specs.Operations.{page_of, owned_frame, peeked_page, is_flush_ended};
+ghost use Rattle.nm_event.specs.After.{edit_of, owning, filled, spoiled, spoiled_frame, spoiled_fill, spoiled_under, is_fresh_at, is_confirmed, stale, is_quiet, scanned_word, least_with, least_bit};
 ghost use Rattle.nm_event.specs.Changes.{changed};
 ghost use Rattle.nm_event.specs.Room.{IsOpWithin};
 ghost use Rattle.nm_base.specs.Geometry.{backing_page};
 
-use crate::change::OpChange;
-use crate::keyed::{erase, look_up, place, put};
-use crate::permitted::{backing, flush_ended};
-use crate::view::{ActorView, CacheEntry, Fill, OpenOp, Owned, Peeked, Phase, Scanned};
+use crate::change::{OpChange, make_change};
 use nm_base::Geometry;
+use nm_view::keyed::{erase, look_up, place, put};
+use nm_view::reading::{backing, flush_ended};
+use nm_view::{ActorView, CacheEntry, Fill, OpenOp, Owned, Peeked, Phase, Scanned};
 
 /// Changes the operation on a page, among operations.
 fn change_in(ops: &mut [OpenOp], page: u32, change: OpChange)
@@ -22,7 +22,7 @@ fn change_in(ops: &mut [OpenOp], page: u32, change: OpChange)
     ensures { ops.new ≡ edit page_of page (changed change) ops.old }
 {
     if let Some(i) = place(ops, page) {
-        ops[i].change(change);
+        make_change(&mut ops[i], change);
     }
 }
 
@@ -125,79 +125,6 @@ pub(crate) fn refill(view: &mut ActorView, frame: u32, fill: Fill)
     ensures { view.new ≡ record view.old { owned = edit owned_frame frame (filled fill) view.old.owned } }
 {
     refill_in(&mut view.owned, frame, fill);
-}
-
-impl OpenOp {
-    /// Makes it an operation in which nothing is known.
-    fn reset(&mut self, page: u32)
-        ensures { self.new ≡ opened page self.old.room }
-    {
-        self.page = page;
-        self.home = None;
-        self.shadow = None;
-        self.looked.clear();
-        self.taken.clear();
-        self.phase = Phase::Held;
-        self.cleared = false;
-        self.moved = false;
-        self.due = false;
-        self.flush = None;
-        self.seen = 0;
-        self.copied = 0;
-        self.last = None;
-        self.wet.clear();
-        self.raised.clear();
-    }
-}
-
-/// Takes a closed operation out, as one on a page in which nothing is known.
-fn reopened(closed: &mut Vec<OpenOp>, page: u32, room: usize) -> OpenOp
-    requires some { 0 < length closed.old.items }
-    requires room { All (λ o. o.room ≡ room) closed.old.items }
-    ensures op { result ≡ opened page room }
-    ensures length { length closed.new.items + 1 ≡ length closed.old.items }
-    ensures capacity { vec_capacity closed.new ≡ vec_capacity closed.old }
-    ensures rest { All (λ o. o.room ≡ room) closed.new.items }
-{
-    let mut op = closed.take_last();
-    op.reset(page);
-    op
-}
-
-/// Takes the operation on a page out of the open ones, and keeps it for its room.
-fn shelve(ops: &mut Vec<OpenOp>, closed: &mut Vec<OpenOp>, page: u32, room: usize)
-    requires capacity { length ops.old.items + length closed.old.items ≤ vec_capacity closed.old }
-    requires open { All (λ o. o.room ≡ room) ops.old.items }
-    requires closed { All (λ o. o.room ≡ room) closed.old.items }
-    ensures ops { ops.new.items ≡ erase page_of page ops.old.items }
-    ensures count { length ops.new.items + length closed.new.items ≡ length ops.old.items + length closed.old.items }
-    ensures room { All (λ o. o.room ≡ room) closed.new.items }
-    ensures ops_capacity { vec_capacity ops.new ≡ vec_capacity ops.old }
-    ensures closed_capacity { vec_capacity closed.new ≡ vec_capacity closed.old }
-{
-    if let Some(i) = place(ops, page) {
-        let op = ops.remove(i);
-        closed.push_reserved(op);
-    }
-}
-
-/// Opens an operation on a page.
-pub(crate) fn open_op(view: &mut ActorView, page: u32)
-    requires { length view.old.ops < most_ops }
-    ensures { view.new ≡ record view.old { ops = view.old.ops ++ opened page view.old.room.vpages ∷ [] } }
-{
-    let room = view.room.vpages;
-    let op = reopened(&mut view.closed, page, room);
-    view.ops.push_reserved(op);
-}
-
-/// Closes the operation on a page.
-pub(crate) fn close_op(view: &mut ActorView, page: u32)
-    requires { All (λ o. o.room ≡ view.old.room.vpages) view.old.ops }
-    ensures { view.new ≡ record view.old { ops = erase page_of page view.old.ops } }
-{
-    let room = view.room.vpages;
-    shelve(&mut view.ops, &mut view.closed, page, room);
 }
 
 /// Whether the stamp of a cached translation equals a fresh peek.

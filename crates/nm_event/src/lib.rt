@@ -1,26 +1,14 @@
-//! Actions of the machine, their replies, and the views of the actors: what each action may rely on, and what each
-//! step changes in the view of its actor.
+//! What a step changes in the view of its actor, and which replies it can get; with the actions, the views and what a view
+//! permits, which it passes on.
 #![tactic(auto)]
 
-pub mod action;
-pub mod allowing;
 pub mod answered;
 mod change;
 mod frames;
-mod keyed;
-pub mod kind;
-mod permitted;
-pub mod spent;
-mod start;
-pub mod tally;
-pub mod turn;
-pub mod view;
 
-pub use action::{AckTo, Action, Bit, Cell, Event, Reply};
-pub use allowing::allowed;
 pub use answered::after;
-pub use kind::ActionKind;
-pub use spent::Spent;
-pub use tally::Tally;
-pub use turn::{Full, Heard, Lane, Step, Turn};
-pub use view::{ActorView, CacheEntry, Fill, OpenOp, Owned, Peeked, Phase, Room, Scanned};
+pub use nm_action::{
+    AckTo, Action, ActionKind, Bit, Cell, Event, Full, Heard, Lane, Reply, Spent, Step, Tally, Turn,
+};
+pub use nm_permit::allowed;
+pub use nm_view::{ActorView, CacheEntry, Fill, OpenOp, Owned, Peeked, Phase, Room, Scanned};

@@ -1,6 +1,6 @@
 -- What end words and a report say, without where they lie in memory.
 use Rattle.std.specs.Prelude.{ℕ, Bool, List, Option}
-use Rattle.nm_event.specs.declared.tally.Tally.{Tally}
+use Rattle.nm_action.specs.declared.tally.Tally.{Tally}
 use Rattle.nm_script.specs.Plain.{Script}
 use Rattle.nm_report.specs.declared.end_words.Role.{Role}
 use Rattle.nm_report.specs.declared.line_result.LineResult.{LineResult}

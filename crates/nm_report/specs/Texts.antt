@@ -3,7 +3,7 @@ use Rattle.std.specs.Prelude.{◌≡◌, ℕ, Bool, true, false, List, [], ◌�
 use Rattle.std.specs.List.{range_with_len}
 use Rattle.std.specs.Fmt.{decimal}
 use Rattle.nm_base.specs.Geometry.{Geometry, page_count}
-use Rattle.nm_event.specs.declared.tally.Tally.{Tally}
+use Rattle.nm_action.specs.declared.tally.Tally.{Tally}
 use Rattle.nm_script.specs.declared.script.Line.{Line}
 use Rattle.nm_script.specs.declared.script.Line.TheVariants.{Load, Store, Add, Await}
 use Rattle.nm_script.specs.Items.{line, place_text}

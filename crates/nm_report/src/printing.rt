@@ -11,7 +11,7 @@ use crate::end_words::{EndWords, Role};
 use crate::line_result::LineResult;
 use crate::report::Report;
 use nm_base::Geometry;
-use nm_event::Tally;
+use nm_action::Tally;
 use nm_script::Line;
 use nm_text::push_number;
 use std::alloc::{AllocError, Global};

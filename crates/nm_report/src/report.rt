@@ -2,7 +2,7 @@
 
 use crate::end_words::EndWords;
 use crate::line_result::LineResult;
-use nm_event::Tally;
+use nm_action::Tally;
 use nm_script::Script;
 use std::marker::Model;
 

@@ -10,8 +10,8 @@ use Rattle.nm_text.proofs.CutLemmas.{cut_of-again, cut_of-lacks, strip_of-again,
 use Rattle.nm_base.specs.declared.geometry.VPage.{VPage}
 use Rattle.nm_base.specs.Geometry.{IsPageSize}
 use Rattle.nm_base.proofs.Pages.{page_size}
-use Rattle.nm_event.specs.declared.kind.ActionKind.{ActionKind}
-use Rattle.nm_event.specs.declared.kind.ActionKind.TheVariants as kinds
+use Rattle.nm_action.specs.declared.kind.ActionKind.{ActionKind}
+use Rattle.nm_action.specs.declared.kind.ActionKind.TheVariants as kinds
 use Rattle.nm_tiers.specs.declared.nodes.Node.{Node}
 use Rattle.nm_script.specs.declared.script.Line.{Line}
 use Rattle.nm_script.specs.declared.script.Line.TheVariants.{Load, Store, Add, Await}

@@ -11,7 +11,7 @@ use Rattle.nm_text.specs.Numbers.{number_of}
 use Rattle.nm_text.specs.Cuts.{cut_of, strip_of}
 use Rattle.nm_text.proofs.NumberLemmas.{number_of-some}
 use Rattle.nm_text.proofs.CutLemmas.{cut_of-some, strip_of-some}
-use Rattle.nm_event.specs.declared.kind.ActionKind.{ActionKind}
+use Rattle.nm_action.specs.declared.kind.ActionKind.{ActionKind}
 use Rattle.nm_script.specs.Items.{actor_text, kind_text, right_text, place_text}
 use Rattle.nm_script.specs.Fields as fields
 use Rattle.nm_script.specs.Fields.{uncut, last_of, one_of, two_of, three_of, shuffle_of, right_of, map_of, is_actor, all_kinds, kind_among, go_of, dotted, place_of}

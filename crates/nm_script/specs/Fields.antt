@@ -2,8 +2,8 @@
 use Rattle.std.specs.Prelude.{ℕ, ◌==◌, if◌then◌else◌, Bool, true, false, ◌||◌, List, [], ◌∷◌, Option, Some, None, option_and_then, is_some, codes}
 use Rattle.std.specs.Str.{bytes_eq}
 use Rattle.nm_text.specs.Cuts.{cut_of, strip_of}
-use Rattle.nm_event.specs.declared.kind.ActionKind.{ActionKind}
-use Rattle.nm_event.specs.declared.kind.ActionKind.TheVariants as kinds
+use Rattle.nm_action.specs.declared.kind.ActionKind.{ActionKind}
+use Rattle.nm_action.specs.declared.kind.ActionKind.TheVariants as kinds
 use Rattle.nm_script.specs.Items.{kind_text}
 
 infixl 10 ◌>>=◌

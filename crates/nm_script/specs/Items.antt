@@ -1,8 +1,8 @@
 -- The lines of a script's text, and how each is spelled.
 use Rattle.std.specs.Prelude.{ℕ, ◌==◌, nat_lt, if◌then◌else◌, Bool, true, false, List, [], ◌∷◌, ◌++◌, flat_map, codes}
 use Rattle.std.specs.Fmt.{decimal}
-use Rattle.nm_event.specs.declared.kind.ActionKind.{ActionKind}
-use Rattle.nm_event.specs.declared.kind.ActionKind.TheVariants as kinds
+use Rattle.nm_action.specs.declared.kind.ActionKind.{ActionKind}
+use Rattle.nm_action.specs.declared.kind.ActionKind.TheVariants as kinds
 use Rattle.nm_script.specs.declared.script.Line.{Line}
 use Rattle.nm_script.specs.declared.script.Line.TheVariants.{Load, Store, Add, Await}
 use Rattle.nm_script.specs.declared.item.Item.{Item}

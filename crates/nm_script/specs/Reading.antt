@@ -6,7 +6,7 @@ use Rattle.nm_text.specs.Cuts.{strip_of}
 use Rattle.nm_base.specs.declared.geometry.VPage.{VPage}
 use Rattle.nm_tiers.specs.declared.nodes.Node.{Node}
 use Rattle.nm_tiers.specs.Tiers.{tier_count}
-use Rattle.nm_event.specs.declared.kind.ActionKind.{ActionKind}
+use Rattle.nm_action.specs.declared.kind.ActionKind.{ActionKind}
 use Rattle.nm_script.specs.declared.fault.ScriptFault.{ScriptFault}
 use Rattle.nm_script.specs.declared.fault.ScriptFault.TheVariants as faults
 use Rattle.nm_script.specs.declared.fault.ScriptRefusal.{ScriptRefusal}

@@ -8,7 +8,7 @@ ghost use Rattle.nm_script.specs.Reading.{number_in, ranged_in, below_in};
 
 use crate::fault::ScriptFault;
 use crate::printing::kind_word;
-use nm_event::ActionKind;
+use nm_action::ActionKind;
 use nm_text::{cut, read_number, strip};
 
 /// Every kind of action.

@@ -9,7 +9,7 @@ use crate::item::Item;
 use crate::schedule::{PlanItem, Schedule};
 use crate::script::{Line, Script};
 use nm_base::VPage;
-use nm_event::ActionKind;
+use nm_action::ActionKind;
 use nm_text::push_number;
 use nm_tiers::Node;
 use std::alloc::{AllocError, Global};

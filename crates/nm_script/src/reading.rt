@@ -11,7 +11,7 @@ use crate::fields::{
 };
 use crate::item::Item;
 use crate::schedule::PlanItem;
-use nm_event::ActionKind;
+use nm_action::ActionKind;
 use nm_text::strip;
 use nm_tiers::Node;
 

@@ -1,6 +1,6 @@
 //! Schedules: which actor makes the next turn.
 
-use nm_event::ActionKind;
+use nm_action::ActionKind;
 use std::marker::Model;
 
 /// An item of a plan.

@@ -1,5 +1,5 @@
 use Rattle.std.proofs.Common.{ap, ◌∙◌}
-use Rattle.nm_event.specs.Views.{View}
+use Rattle.nm_view.specs.Views.{View}
 use Rattle.nm_event.specs.Changes.{changed}
 use Rattle.nm_event.proofs.Steps.{within_found}
 use Rattle.nm_event.proofs.frames.change_op.Goals as goal

@@ -1,8 +1,8 @@
 use Rattle.std.proofs.Common.{arith, sym}
-use Rattle.nm_event.specs.declared.view.Fill.TheVariants.{Raw}
-use Rattle.nm_event.specs.Operations.{owned_frame}
+use Rattle.nm_view.specs.declared.view.Fill.TheVariants.{Raw}
+use Rattle.nm_view.specs.Operations.{owned_frame}
 use Rattle.nm_event.specs.After.{filled}
-use Rattle.nm_event.proofs.Places.{edit_found, edit-none}
+use Rattle.nm_view.proofs.Places.{edit_found, edit-none}
 use Rattle.nm_event.proofs.frames.refill_in.Goals as goal
 
 pub returns-in-Some : goal.returns-in-Some

@@ -1,0 +1,3 @@
+pub mod Kinds
+pub mod Spent
+pub mod Tally

@@ -1,0 +1,4 @@
+mod Closing
+pub mod Items
+mod Known
+pub mod Places

@@ -1,0 +1,5 @@
+pub mod Lists
+pub mod Opening
+pub mod Operations
+pub mod Ranges
+pub mod Views

@@ -1,0 +1,115 @@
+-- What an actor knows: its operations, its cache, its frames.
+use Rattle.std.specs.Prelude.{◌≡◌, ◌≢◌, ℕ, zero, suc, ◌+◌, ◌-◌, ◌*◌, ◌/◌, ◌%◌, ◌^◌, ◌<◌, ◌≤◌, ◌==◌, ◌&&◌, not, Bool, Option, Some, None, IsSome, IsSomeAnd, IsTrue, true, false, All, option_map, slice_index, length}
+use Rattle.std.specs.Int.{bit_at}
+use Rattle.nm_base.specs.Geometry.{Geometry, backing_page, first_frame, frame_count}
+use Rattle.nm_view.specs.declared.view.CacheEntry.{CacheEntry}
+use Rattle.nm_view.specs.declared.view.Peeked.{Peeked}
+use Rattle.nm_view.specs.declared.view.Phase.TheVariants.{Taken}
+use Rattle.nm_view.specs.declared.view.Fill.{Fill}
+use Rattle.nm_view.specs.declared.view.Owned.{Owned}
+use Rattle.nm_view.specs.Lists.{find, first}
+use Rattle.nm_view.specs.Views.{Op, View}
+
+-- an actor below the number of processors is a processor
+abbrev pub IsProcessor : Geometry → View → Type 0
+IsProcessor g view = view.number < g.cpus
+
+-- the numbers of the items of a view's lists
+abbrev pub page_of : Op → ℕ
+page_of o = o.page
+
+abbrev pub cached_page : CacheEntry → ℕ
+cached_page e = e.vpage
+
+abbrev pub peeked_page : Peeked → ℕ
+peeked_page p = p.vpage
+
+abbrev pub owned_frame : Owned → ℕ
+owned_frame w = w.frame
+
+-- the view's operation on a backing page
+abbrev pub op_on : View → ℕ → Option Op
+op_on view page = find page_of page view.ops
+
+-- the view's operation on a backing page, if there is such a page
+abbrev pub op_under : View → Option ℕ → Option Op
+op_under view None = None
+op_under view (Some page) = op_on view page
+
+-- the view's operation on the backing page of a virtual page; none where it is not mapped
+abbrev pub op_of : Geometry → View → ℕ → Option Op
+op_of g view v = op_under view (backing_page g v)
+
+-- what is known of the words of a frame that the view owns
+abbrev pub fill_of : View → ℕ → Option Fill
+fill_of view frame = option_map (λ w. w.fill) (find owned_frame frame view.owned)
+
+-- the processors below n are seen to have acknowledged
+abbrev pub are_seen : ℕ → ℕ → Bool
+are_seen zero seen = true
+are_seen (suc p) seen = (bit_at seen p == 1) && are_seen p seen
+
+-- there is no flush number, or every processor is seen
+abbrev pub is_answered : Geometry → Option ℕ → ℕ → Bool
+is_answered g None seen = true
+is_answered g (Some _) seen = are_seen g.cpus seen
+
+-- the flush ended: the operation is not due, and it has no flush number or every processor is seen
+abbrev pub is_flush_ended : Geometry → Op → Bool
+is_flush_ended g o = not o.due && is_answered g o.flush o.seen
+
+abbrev pub IsFlushEnded : Geometry → Op → Type 0
+IsFlushEnded g o = IsTrue (is_flush_ended g o)
+
+-- the word of v was taken out, and is not back
+abbrev pub IsTaken : Op → ℕ → Type 0
+IsTaken o v = IsSome (find first v o.taken)
+
+-- v was looked at as not 0, and was not taken
+pub record IsLookedMapped (o : Op) (v : ℕ) : Type 0 where
+  pub looked : IsSomeAnd (find first v o.looked) (λ p. p.1 ≢ 0)
+  pub there : find first v o.taken ≡ None
+
+-- v was looked at as 0, and was not taken
+pub record IsLookedAbsent (o : Op) (v : ℕ) : Type 0 where
+  pub looked : IsSomeAnd (find first v o.looked) (λ p. p.1 ≡ 0)
+  pub there : find first v o.taken ≡ None
+
+-- every virtual page of the page was looked at in this operation
+abbrev pub IsLookedOver : Geometry → Op → Type 0
+IsLookedOver g o = (v : ℕ) → backing_page g v ≡ Some o.page → IsSome (find first v o.looked)
+
+-- every word that is not 0 was taken
+abbrev pub IsAllTaken : Op → Type 0
+IsAllTaken o = All (λ p. p.1 ≢ 0 → IsTaken o p.0) o.looked
+
+-- phase Taken without Cleared: words were taken, and no dirty bit was cleared before
+pub record IsTakenOnly (o : Op) : Type 0 where
+  pub phase : o.phase ≡ Taken
+  pub uncleared : o.cleared ≡ false
+
+-- the page is out of the table: phase Taken without Cleared, every virtual page was looked at, every word that is
+-- not 0 was taken, and the flush ended
+pub record IsUnmapped (g : Geometry) (o : Op) : Type 0 where
+  pub phase : IsTakenOnly o
+  pub taken : IsAllTaken o
+  pub over : IsLookedOver g o
+  pub flushed : IsFlushEnded g o
+
+-- a home word names a frame of the slowest tier
+pub record IsInLastTier (g : Geometry) (home : ℕ) : Type 0 where
+  pub above : first_frame g (length g.tiers - 1) < home
+  pub exists : home ≤ frame_count g
+
+-- the words of a tier's free frames, 64 frames each
+abbrev pub free_words : Geometry → ℕ → ℕ
+free_words g t = (slice_index g.tiers t + 63) / 64
+
+-- the shadow word of a frame: 0 for none, or page b and its shadow s
+abbrev pub shadow_word : ℕ → Option ℕ → ℕ
+shadow_word b None = 0
+shadow_word b (Some s) = (b + 1) * 2 ^ 32 + s + 1
+
+-- the shadow that a shadow word names
+abbrev pub shadow_of : ℕ → ℕ
+shadow_of word = word % 2 ^ 32 - 1
