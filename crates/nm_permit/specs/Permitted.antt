@@ -1,6 +1,6 @@
 -- Which actions a view permits.
 use Rattle.std.specs.Prelude.{◌≡◌, ◌≢◌, ℕ, ◌+◌, ◌^◌, ◌<◌, ◌⊎◌, Bool, List, [], length, Option, Some, None, IsSome, IsSomeAnd, IfSome, IsTrue, false, All}
-use Rattle.nm_base.specs.Geometry.{Geometry, IsWritable, page_count, frame_count, tier_of}
+use Rattle.nm_base.specs.Geometry.{Geometry, IsWritable, tier_of}
 use Rattle.nm_base.specs.PageWord.{IsPresentWord, is_present, has_hint, is_writable, is_dirty, is_saved, frame_of}
 use Rattle.nm_view.specs.declared.view.Phase.{Phase}
 use Rattle.nm_view.specs.declared.view.Phase.TheVariants.{Held, Cleared, Taken}

@@ -1,12 +1,14 @@
 -- Views whose numbers are in range, and in whose lists no number stands twice.
-use Rattle.std.specs.Prelude.{◌≡◌, ℕ, ◌*◌, ◌^◌, ◌<◌, ◌≤◌, ◌⊎◌, List, length, Some, None, IfSome, All}
+use Rattle.std.specs.Prelude.{◌≡◌, ℕ, ◌*◌, ◌^◌, ◌<◌, ◌≤◌, List, length, Option, Some, None, IfSome, All}
 use Rattle.nm_base.specs.Geometry.{Geometry, backing_page, frame_count}
 use Rattle.nm_view.specs.declared.view.Fill.{Fill}
 use Rattle.nm_view.specs.declared.view.Fill.TheVariants.{Raw, Zeroed, Copied, Equal}
 use Rattle.nm_view.specs.declared.view.Owned.{Owned}
+use Rattle.nm_view.specs.declared.view.Scanned.{Scanned}
 use Rattle.nm_view.specs.Lists.{Once, first, itself}
 use Rattle.nm_view.specs.Views.{Op, View, most_ops}
-use Rattle.nm_view.specs.Operations.{page_of, cached_page, peeked_page, owned_frame, free_words, shadow_word}
+use Rattle.nm_view.specs.Operations.{page_of, cached_page, peeked_page, owned_frame, free_words}
+use Rattle.nm_view.specs.Named.{IsShadowName}
 use Rattle.nm_view.specs.Ranges.{IsPage, IsVPage, IsFrame, IsTier}
 use Rattle.nm_view.specs.Opening.{unscanned, room_of, IsActor}
 
@@ -20,20 +22,11 @@ pub record AreOwnNumbers (g : Geometry) (page : ℕ) (vpages : List ℕ) : Type 
   pub once : Once itself vpages
   pub own : All (λ v. backing_page g v ≡ Some page) vpages
 
--- a word names this shadow of a page
-pub record IsShadowNamed (g : Geometry) (page word shadow : ℕ) : Type 0 where
-  pub range : IsFrame g shadow
-  pub is : word ≡ shadow_word page (Some shadow)
-
--- a shadow word of a page: 0, or it names the page and a frame
-abbrev pub IsShadowWord : Geometry → ℕ → ℕ → Type 0
-IsShadowWord g page word = (word ≡ 0) ⊎ ((shadow : ℕ) × IsShadowNamed g page word shadow)
-
 -- an operation: its numbers are in range, and its lists name virtual pages of its page alone, none of them twice
 pub record IsOpKeyed (g : Geometry) (o : Op) : Type 0 where
   pub page : IsPage g o.page
   pub home : IfSome o.home (λ h. h ≤ frame_count g)
-  pub shadow : IfSome o.shadow (IsShadowWord g o.page)
+  pub shadow : IfSome o.shadow (IsShadowName g)
   pub looked : AreOwnPages g o.page o.looked
   pub taken : AreOwnPages g o.page o.taken
   pub wet : AreOwnNumbers g o.page o.wet
@@ -55,11 +48,11 @@ pub record IsOwnedInRange (g : Geometry) (w : Owned) : Type 0 where
 
 -- a scan: no more words than the tier of the turn has, no more frames than they can have, and the least in range; none
 -- without a turn
-pub record IsScanInRange (g : Geometry) (view : View) : Type 0 where
-  pub words : IfSome view.turn (λ t. view.scan.words ≤ free_words g t)
-  pub none : view.turn ≡ None → view.scan ≡ unscanned
-  pub sum : view.scan.sum ≤ 64 * view.scan.words
-  pub least : IfSome view.scan.least (IsFrame g)
+pub record IsScanInRange (g : Geometry) (turn : Option ℕ) (scan : Scanned) : Type 0 where
+  pub words : IfSome turn (λ t. scan.words ≤ free_words g t)
+  pub none : turn ≡ None → scan ≡ unscanned
+  pub sum : scan.sum ≤ 64 * scan.words
+  pub least : IfSome scan.least (IsFrame g)
 
 -- a view: its numbers are in range, at most ten operations are open, and no number stands twice in a list of it
 pub record IsKeyed (g : Geometry) (view : View) : Type 0 where
@@ -74,5 +67,5 @@ pub record IsKeyed (g : Geometry) (view : View) : Type 0 where
   pub owned_once : Once owned_frame view.owned
   pub owned : All (IsOwnedInRange g) view.owned
   pub turn : IfSome view.turn (IsTier g)
-  pub scan : IsScanInRange g view
+  pub scan : IsScanInRange g view.turn view.scan
   pub room : view.room ≡ room_of g

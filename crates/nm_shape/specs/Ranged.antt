@@ -1,7 +1,6 @@
 -- Replies whose words are in range: what each exchange gives on words of the machine that are in range, whatever the
 -- actors know.
-use Rattle.std.specs.Prelude.{◌≡◌, ℕ, ◌+◌, ◌*◌, ◌^◌, ◌<◌, ◌≤◌, slice_index}
-use Rattle.std.specs.Int.{bit_at}
+use Rattle.std.specs.Prelude.{ℕ, ◌^◌, ◌<◌, ◌≤◌}
 use Rattle.nm_base.specs.Geometry.{Geometry, frame_count}
 use Rattle.nm_base.specs.PageWord.{frame_of}
 use Rattle.nm_action.specs.declared.action.Cell.{Cell}
@@ -10,25 +9,21 @@ use Rattle.nm_action.specs.declared.action.Reply.{Reply}
 use Rattle.nm_action.specs.declared.action.Reply.TheVariants.{Done, Word, Busy, Lost}
 use Rattle.nm_action.specs.declared.action.Action.{Action}
 use Rattle.nm_action.specs.declared.action.Action.TheVariants.{Walk, Bump, Raise, Scan, Read}
+use Rattle.nm_view.specs.Named.{IsShadowName, HasOwnBits}
 use Rattle.nm_view.specs.Ranges.{IsWord}
 use Rattle.nm_event.specs.Fitting.{most_bumps, most_raises}
-use Rattle.nm_shape.specs.Keyed.{IsShadowWord}
 
--- a word of a tier's free frames has bits of that tier's frames alone
-abbrev pub IsTierWord : Geometry → ℕ → ℕ → ℕ → Type 0
-IsTierWord g tier index word = (bit : ℕ) → bit_at word bit ≡ 1 → 64 * index + bit < slice_index g.tiers tier
-
--- a home word names no frame that is not there; a shadow word is 0 or names the page and a frame
-abbrev pub IsCellWord : Geometry → ℕ → Cell → ℕ → Type 0
-IsCellWord g page (Home _) word = word ≤ frame_count g
-IsCellWord g page (Shadow _) word = IsShadowWord g page word
+-- a home word names no frame that is not there; a shadow word is 0 or names a page and a frame
+abbrev pub IsCellWord : Geometry → Cell → ℕ → Type 0
+IsCellWord g (Home _) word = word ≤ frame_count g
+IsCellWord g (Shadow _) word = IsShadowName g word
 
 -- the word that an action gives is in range, where the view keeps it as a number or a key
 abbrev pub IsInRangeWord : Geometry → Action → ℕ → Type 0
 IsInRangeWord g Bump word = word ≤ most_bumps
 IsInRangeWord g (Raise _) word = word ≤ most_raises
-IsInRangeWord g (Scan tier index) word = IsTierWord g tier index word
-IsInRangeWord g (Read page cell) word = IsCellWord g page cell word
+IsInRangeWord g (Scan tier index) word = HasOwnBits g tier index word
+IsInRangeWord g (Read _ cell) word = IsCellWord g cell word
 IsInRangeWord g _ word = Unit {0}
 
 -- a reply's word is in range

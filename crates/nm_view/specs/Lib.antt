@@ -1,4 +1,5 @@
 pub mod Lists
+pub mod Named
 pub mod Opening
 pub mod Operations
 pub mod Ranges
