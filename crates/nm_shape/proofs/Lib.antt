@@ -1,0 +1,10 @@
+mod Done
+mod Fits
+mod Frames
+mod Groups
+pub mod Keys
+pub mod Laws
+mod Ops
+mod Room
+mod Still
+mod Told
