@@ -34,9 +34,9 @@ pub few_frames : (g : Geometry) → IsGeometry g → frame_count g ≤ 4096
 few_frames g is = is.ranges.1.3
 
 keyed_ack : (g : Geometry) (view : View) (to : AckTo) → IsKeyed g view → IsKeyed g (record view { acked = acked_word view to; cache = kept_entries view to })
-keyed_ack g view Seen k = with_cache g (record view { acked = view.req_seen }) (kept_entries view Seen) (once_filter cached_page (is_confirmed view.peeked) view.cache k.cache_once) (all_filter (λ e. IsVPage g e.vpage) (is_confirmed view.peeked) view.cache k.cache) (with_counts g view view.req_seen view.bumps view.req_seen view.raises k)
-keyed_ack g view Off k = with_cache g (record view { acked = acked_word view Off }) [] tt (none_left (λ e. IsVPage g e.vpage)) (with_counts g view view.req_seen view.bumps (acked_word view Off) view.raises k)
-keyed_ack g view End k = with_cache g (record view { acked = acked_word view End }) [] tt (none_left (λ e. IsVPage g e.vpage)) (with_counts g view view.req_seen view.bumps (acked_word view End) view.raises k)
+keyed_ack g view Seen k = with_cache g (record view { acked = view.req_seen }) (kept_entries view Seen) (once_filter cached_page (is_confirmed view.peeked) view.cache k.cache_once) (all_filter (λ e. IsVPage g e.vpage) (is_confirmed view.peeked) view.cache k.cache) (with_counts g view view.req_seen view.bumps view.req_seen view.raises k.bumps k.raises k)
+keyed_ack g view Off k = with_cache g (record view { acked = acked_word view Off }) [] tt (none_left (λ e. IsVPage g e.vpage)) (with_counts g view view.req_seen view.bumps (acked_word view Off) view.raises k.bumps k.raises k)
+keyed_ack g view End k = with_cache g (record view { acked = acked_word view End }) [] tt (none_left (λ e. IsVPage g e.vpage)) (with_counts g view view.req_seen view.bumps (acked_word view End) view.raises k.bumps k.raises k)
 
 keyed_lock : (g : Geometry) (view : View) (b : ℕ) → IsPage g b → MayLock view b → IsKeyed g view → IsKeyed g (record view { ops = view.ops ++ opened b view.room.vpages ∷ [] })
 keyed_lock g view b p may k =

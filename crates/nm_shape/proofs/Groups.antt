@@ -11,7 +11,7 @@ use Rattle.nm_view.specs.Views.{Op, View, most_ops}
 use Rattle.nm_view.specs.Operations.{page_of, cached_page, peeked_page, owned_frame, op_of}
 use Rattle.nm_view.specs.Ranges.{IsVPage, IsTier}
 use Rattle.nm_event.specs.After.{edit_under, edit_of}
-use Rattle.nm_shape.specs.Keyed.{IsOpKeyed, IsOwnedInRange, IsScanInRange, IsKeyed}
+use Rattle.nm_shape.specs.Keyed.{IsOpKeyed, IsOwnedInRange, IsScanInRange, IsKeyed, own_bumps, own_raises}
 use Rattle.nm_shape.proofs.Keys.{find_number, once_edit, once_map, all_edit, all_map, length_edit}
 use Rattle.std.specs.Option.{IfSome}
 use Rattle.std.proofs.lemmas.List.{length-map}
@@ -21,23 +21,22 @@ pub some_and : {T : Type 0} (o : Option T) (x : T) (P : T → Type 0) → o ≡ 
 some_and o x P e h = let Q : Option _ → Type 0 = λ y. IsSomeAnd y P in subst Q e h
 
 pub with_ops : (g : Geometry) (view : View) (ops : List Op) → length ops ≤ most_ops → Once page_of ops → All (IsOpKeyed g) ops → IsKeyed g view → IsKeyed g (record view { ops = ops })
-with_ops g view ops few once all k = record { actor = k.actor; few = few; ops_once = once; ops = all; cache_once = k.cache_once; cache = k.cache; peeked_once = k.peeked_once; peeked = k.peeked; owned_once = k.owned_once; owned = k.owned; turn = k.turn; scan = k.scan; room = k.room }
+with_ops g view ops few once all k = record { actor = k.actor; few = few; ops_once = once; ops = all; cache_once = k.cache_once; cache = k.cache; peeked_once = k.peeked_once; peeked = k.peeked; owned_once = k.owned_once; owned = k.owned; turn = k.turn; scan = k.scan; bumps = k.bumps; raises = k.raises; room = k.room }
 
 pub with_cache : (g : Geometry) (view : View) (cache : List CacheEntry) → Once cached_page cache → All (λ e. IsVPage g e.vpage) cache → IsKeyed g view → IsKeyed g (record view { cache = cache })
-with_cache g view cache once all k = record { actor = k.actor; few = k.few; ops_once = k.ops_once; ops = k.ops; cache_once = once; cache = all; peeked_once = k.peeked_once; peeked = k.peeked; owned_once = k.owned_once; owned = k.owned; turn = k.turn; scan = k.scan; room = k.room }
+with_cache g view cache once all k = record { actor = k.actor; few = k.few; ops_once = k.ops_once; ops = k.ops; cache_once = once; cache = all; peeked_once = k.peeked_once; peeked = k.peeked; owned_once = k.owned_once; owned = k.owned; turn = k.turn; scan = k.scan; bumps = k.bumps; raises = k.raises; room = k.room }
 
 pub with_peeked : (g : Geometry) (view : View) (peeked : List Peeked) → Once peeked_page peeked → All (λ p. IsVPage g p.vpage) peeked → IsKeyed g view → IsKeyed g (record view { peeked = peeked })
-with_peeked g view peeked once all k = record { actor = k.actor; few = k.few; ops_once = k.ops_once; ops = k.ops; cache_once = k.cache_once; cache = k.cache; peeked_once = once; peeked = all; owned_once = k.owned_once; owned = k.owned; turn = k.turn; scan = k.scan; room = k.room }
+with_peeked g view peeked once all k = record { actor = k.actor; few = k.few; ops_once = k.ops_once; ops = k.ops; cache_once = k.cache_once; cache = k.cache; peeked_once = once; peeked = all; owned_once = k.owned_once; owned = k.owned; turn = k.turn; scan = k.scan; bumps = k.bumps; raises = k.raises; room = k.room }
 
 pub with_owned : (g : Geometry) (view : View) (owned : List Owned) → Once owned_frame owned → All (IsOwnedInRange g) owned → IsKeyed g view → IsKeyed g (record view { owned = owned })
-with_owned g view owned once all k = record { actor = k.actor; few = k.few; ops_once = k.ops_once; ops = k.ops; cache_once = k.cache_once; cache = k.cache; peeked_once = k.peeked_once; peeked = k.peeked; owned_once = once; owned = all; turn = k.turn; scan = k.scan; room = k.room }
+with_owned g view owned once all k = record { actor = k.actor; few = k.few; ops_once = k.ops_once; ops = k.ops; cache_once = k.cache_once; cache = k.cache; peeked_once = k.peeked_once; peeked = k.peeked; owned_once = once; owned = all; turn = k.turn; scan = k.scan; bumps = k.bumps; raises = k.raises; room = k.room }
 
 pub with_scan : (g : Geometry) (view : View) (turn : Option ℕ) (scan : Scanned) → IfSome turn (IsTier g) → IsScanInRange g turn scan → IsKeyed g view → IsKeyed g (record view { turn = turn; scan = scan })
-with_scan g view turn scan t s k = record { actor = k.actor; few = k.few; ops_once = k.ops_once; ops = k.ops; cache_once = k.cache_once; cache = k.cache; peeked_once = k.peeked_once; peeked = k.peeked; owned_once = k.owned_once; owned = k.owned; turn = t; scan = s; room = k.room }
+with_scan g view turn scan t s k = record { actor = k.actor; few = k.few; ops_once = k.ops_once; ops = k.ops; cache_once = k.cache_once; cache = k.cache; peeked_once = k.peeked_once; peeked = k.peeked; owned_once = k.owned_once; owned = k.owned; turn = t; scan = s; bumps = k.bumps; raises = k.raises; room = k.room }
 
--- of the counts of a view nothing is asked
-pub with_counts : (g : Geometry) (view : View) (req_seen bumps acked raises : ℕ) → IsKeyed g view → IsKeyed g (record view { req_seen = req_seen; bumps = bumps; acked = acked; raises = raises })
-with_counts g view req_seen bumps acked raises k = record { actor = k.actor; few = k.few; ops_once = k.ops_once; ops = k.ops; cache_once = k.cache_once; cache = k.cache; peeked_once = k.peeked_once; peeked = k.peeked; owned_once = k.owned_once; owned = k.owned; turn = k.turn; scan = k.scan; room = k.room }
+pub with_counts : (g : Geometry) (view : View) (req_seen bumps acked raises : ℕ) → bumps ≤ own_bumps → raises ≤ own_raises → IsKeyed g view → IsKeyed g (record view { req_seen = req_seen; bumps = bumps; acked = acked; raises = raises })
+with_counts g view req_seen bumps acked raises b r k = record { actor = k.actor; few = k.few; ops_once = k.ops_once; ops = k.ops; cache_once = k.cache_once; cache = k.cache; peeked_once = k.peeked_once; peeked = k.peeked; owned_once = k.owned_once; owned = k.owned; turn = k.turn; scan = k.scan; bumps = b; raises = r; room = k.room }
 
 -- Operations.
 

@@ -35,6 +35,8 @@ keyed_opening g number is = record {
   owned = none_left (IsOwnedInRange g);
   turn = tt;
   scan = no_turn g None;
+  bumps = omega arith;
+  raises = omega arith;
   room = refl;
 }
 

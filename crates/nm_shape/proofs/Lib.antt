@@ -6,5 +6,7 @@ pub mod Keys
 pub mod Laws
 mod Ops
 mod Room
+pub mod Shaped
+mod ShapedOps
 mod Still
 mod Told

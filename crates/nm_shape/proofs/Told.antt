@@ -91,13 +91,13 @@ keyed_told g view (Add v w x) n is k a r = k
 keyed_told g view (Look v) n is k a r = edit_op_of g view v (looked_at v n) (λ o. refl) (λ o e s ko. keyed_looked g v n o e ko) k
 keyed_told g view (Walk v e write) n is k a r = k
 keyed_told g view (Peek v) n is k a r = with_peeked g view (put peeked_page (peeked_at v n) view.peeked) (once_put peeked_page (peeked_at v n) view.peeked k.peeked_once) (all_put peeked_page (λ p. IsVPage g p.vpage) (peeked_at v n) view.peeked a.range k.peeked) k
-keyed_told g view Poll n is k a r = with_peeked g (record view { req_seen = n }) (map stale view.peeked) (once_map peeked_page stale view.peeked (λ p. refl) k.peeked_once) (all_map (λ p. IsVPage g p.vpage) (λ p. IsVPage g p.vpage) stale view.peeked (λ p h. h) k.peeked) (with_counts g view n view.bumps view.acked view.raises k)
+keyed_told g view Poll n is k a r = with_peeked g (record view { req_seen = n }) (map stale view.peeked) (once_map peeked_page stale view.peeked (λ p. refl) k.peeked_once) (all_map (λ p. IsVPage g p.vpage) (λ p. IsVPage g p.vpage) stale view.peeked (λ p h. h) k.peeked) (with_counts g view n view.bumps view.acked view.raises k.bumps k.raises k)
 keyed_told g view (Ack to) n is k a r = k
 keyed_told g view (Lock b) n is k a r = k
 keyed_told g view (Unlock b) n is k a r = k
-keyed_told g view Bump n is k a r = map_ops g (record view { bumps = view.bumps + 1 }) (bumped_to (n + 1)) (λ o. refl) (λ o ko. keyed_bumped g (n + 1) o ko) (with_counts g view view.req_seen (view.bumps + 1) view.acked view.raises k)
+keyed_told g view Bump n is k a r = map_ops g (record view { bumps = view.bumps + 1 }) (bumped_to (n + 1)) (λ o. refl) (λ o ko. keyed_bumped g (n + 1) o ko) (with_counts g view view.req_seen (view.bumps + 1) view.acked view.raises (omega (arith, a.permitted.few)) k.raises k)
 keyed_told g view (SeeAck p) n is k a r = map_ops g view (seen_at p n) (λ o. refl) (λ o ko. keyed_seen g p n o a.range ko) k
-keyed_told g view (Raise v) n is k a r = edit_op_of g (record view { raises = view.raises + 1 }) v (raised_to v (n + 1)) (λ o. refl) (λ o e s ko. keyed_raised g v (n + 1) o e ko) (with_counts g view view.req_seen view.bumps view.acked (view.raises + 1) k)
+keyed_told g view (Raise v) n is k a r = edit_op_of g (record view { raises = view.raises + 1 }) v (raised_to v (n + 1)) (λ o. refl) (λ o e s ko. keyed_raised g v (n + 1) o e ko) (with_counts g view view.req_seen view.bumps view.acked (view.raises + 1) k.bumps (omega (arith, a.permitted.1)) k)
 keyed_told g view (Soften v bit) n is k a r = k
 keyed_told g view (Arm v) n is k a r = k
 keyed_told g view (ClearDirty v) n is k a r = edit_op_of g view v (cleared_at v) (λ o. refl) (λ o e s ko. keyed_cleared g v o e ko) k

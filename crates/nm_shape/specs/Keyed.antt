@@ -54,6 +54,13 @@ pub record IsScanInRange (g : Geometry) (turn : Option ℕ) (scan : Scanned) : T
   pub sum : scan.sum ≤ 64 * scan.words
   pub least : IfSome scan.least (IsFrame g)
 
+-- an actor makes at most so many bumps, and at most so many raises
+abbrev pub own_bumps : ℕ
+own_bumps = 2 ^ 56
+
+abbrev pub own_raises : ℕ
+own_raises = 2 ^ 59
+
 -- a view: its numbers are in range, at most ten operations are open, and no number stands twice in a list of it
 pub record IsKeyed (g : Geometry) (view : View) : Type 0 where
   pub actor : IsActor g view.number
@@ -68,4 +75,6 @@ pub record IsKeyed (g : Geometry) (view : View) : Type 0 where
   pub owned : All (IsOwnedInRange g) view.owned
   pub turn : IfSome view.turn (IsTier g)
   pub scan : IsScanInRange g view.turn view.scan
+  pub bumps : view.bumps ≤ own_bumps
+  pub raises : view.raises ≤ own_raises
   pub room : view.room ≡ room_of g

@@ -2,9 +2,10 @@
 use Rattle.std.specs.Prelude.{◌≡◌, ◌≢◌, ℕ, ◌≤◌, ◌⊎◌, [], Some, None, IfSome, IsSomeAnd, IsTrue, All}
 use Rattle.nm_base.specs.Geometry.{Geometry}
 use Rattle.nm_view.specs.declared.view.Phase.TheVariants.{Taken}
-use Rattle.nm_view.specs.Views.{Op, View, end_word}
+use Rattle.nm_view.specs.Views.{Op, View, off_word}
 use Rattle.nm_view.specs.Operations.{shadow_word}
 use Rattle.nm_view.specs.Ranges.{IsFrame}
+use Rattle.nm_event.specs.Fitting.{most_bumps}
 use Rattle.nm_shape.specs.Keyed.{IsKeyed}
 
 -- a word names this shadow of a page
@@ -25,9 +26,9 @@ pub record IsOpShaped (g : Geometry) (o : Op) : Type 0 where
   pub some : IsTrue o.cleared → o.phase ≡ Taken → o.taken ≢ []
 
 -- the shape of a view: its numbers are in range and no number stands twice in a list, each operation is shaped, what was
--- polled is a number or Off, and only a processor caches
+-- polled is a number of bumps or Off, and only a processor caches
 pub record HasShape (g : Geometry) (view : View) : Type 0 where
   pub keyed : IsKeyed g view
   pub ops : All (IsOpShaped g) view.ops
-  pub polled : view.req_seen ≢ end_word
+  pub polled : (view.req_seen ≡ off_word) ⊎ (view.req_seen ≤ most_bumps)
   pub processor : g.cpus ≤ view.number → view.cache ≡ []
