@@ -1,5 +1,5 @@
 -- No line of a text has the fault that the text is too long.
-use Rattle.std.proofs.Common.{◌≡◌, ◌≢◌, ℕ, ◌+◌, ◌==◌, ◌&&◌, nat_lt, nat_le, Bool, true, false, List, [], ◌∷◌, ◌++◌, length, Option, Some, None, is_some, Result, Ok, Err, IfErr, codes, refl, sym, subst}
+use Rattle.std.proofs.Common.{◌≢◌, ℕ, ◌+◌, ◌==◌, ◌&&◌, nat_lt, nat_le, Bool, true, false, List, [], ◌∷◌, ◌++◌, length, Option, Some, None, is_some, Result, Ok, Err, IfErr, codes, subst}
 use Rattle.std.specs.Bool.{if◌then◌else◌}
 use Rattle.std.specs.Option.{option_map}
 use Rattle.std.specs.Prelude.{slice_index_or}
@@ -19,7 +19,7 @@ use Rattle.nm_script.specs.declared.item.Place.{Place}
 use Rattle.nm_script.specs.declared.item.Place.TheVariants as places
 use Rattle.nm_script.specs.Plain.{Script}
 use Rattle.nm_script.specs.Fields.{one_of, two_of, three_of, shuffle_of, map_of, go_of, place_of, lines_of}
-use Rattle.nm_script.specs.Told.{Told, nothing, with_item, is_whole, script_of}
+use Rattle.nm_script.specs.Told.{Told, nothing, is_whole, script_of}
 use Rattle.nm_script.specs.Faults.{IsOfText}
 use Rattle.nm_script.specs.Reading.{◌>>=◌, Reads, either_of, or_bad, number_in, ranged_in, below_in, header_in, is_page_size, page_in, page_line, tiers_in, tiers_line, node_in, node_line, cpus_in, cpus_line, retry_in, retry_line, serial_in, shuffle_in, plan_in, schedule_line, cpu_after, actor_in, go_in, go_line, map_in, map_line, cpu_in, cpu_line, place_in, reached, load_in, store_in, add_in, await_in, access_line, tier_line, more_line, form_at, or_bad_line, item_at, ruled, step, at_line, told_after, ended, script_in, reading}
 

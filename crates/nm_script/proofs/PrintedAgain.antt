@@ -1,26 +1,23 @@
 -- The canonical text of a script is a text of this script, and of no other.
-use Rattle.std.proofs.Common.{◌≡◌, ℕ, ◌+◌, ◌<◌, ◌≤◌, ◌==◌, ◌&&◌, ◌⊎◌, true, false, List, [], ◌∷◌, ◌++◌, map, length, sum, Option, Some, None, Ok, is_some, IsSomeAnd, refl, sym, ap, ◌∙◌, subst, inl, inr, arith}
-use Rattle.std.specs.Bool.{if◌then◌else◌}
+use Rattle.std.proofs.Common.{◌≡◌, ℕ, ◌+◌, ◌<◌, ◌≤◌, ◌⊎◌, true, List, [], ◌∷◌, ◌++◌, map, length, sum, Option, Some, None, Ok, IsSomeAnd, refl, sym, ap, ◌∙◌, subst, inl, inr, arith}
 use Rattle.std.specs.List.{AllByRecursion}
-use Rattle.std.specs.Prelude.{slice_index_or, IsSome, IfSome, All}
+use Rattle.std.specs.Prelude.{slice_index_or, IsSome, IfSome}
 use Rattle.std.proofs.lemmas.Bool.{cases_lt, eq-eqb, ne_eqb}
 use Rattle.std.proofs.lemmas.List.{get_or_past, length-map}
 use Rattle.nm_base.specs.declared.geometry.VPage.{VPage}
 use Rattle.nm_base.specs.Geometry.{Geometry, AreTiers}
 use Rattle.nm_tiers.specs.declared.nodes.Node.{Node}
-use Rattle.nm_tiers.specs.Tiers.{frames_of, frames_at, quotients_of, tiers_of, tier_count}
+use Rattle.nm_tiers.specs.Tiers.{frames_of, frames_at, quotients_of, tier_count}
 use Rattle.nm_tiers.proofs.Total.{sum-tiers_of}
 use Rattle.nm_script.specs.declared.script.Line.{Line}
 use Rattle.nm_script.specs.declared.script.Line.TheVariants.{Load, Store, Add, Await}
 use Rattle.nm_script.specs.declared.schedule.Schedule.{Schedule}
 use Rattle.nm_script.specs.declared.schedule.Schedule.TheVariants as schedules
 use Rattle.nm_script.specs.declared.item.Item.TheVariants as items
-use Rattle.nm_script.specs.declared.item.Place.{Place}
 use Rattle.nm_script.specs.declared.item.Place.TheVariants as places
-use Rattle.nm_script.specs.declared.item.Order.TheVariants as orders
 use Rattle.nm_script.specs.Plain.{Script}
-use Rattle.nm_script.specs.Script.{IsAccess, AreNodes, HasVersion, IsScript, tier_items, retry_items, schedule_items, map_items, program_items, head_items, items_of, script_text}
-use Rattle.nm_script.specs.Told.{Told, nothing, with_item, is_whole, schedule_of, script_of}
+use Rattle.nm_script.specs.Script.{IsAccess, AreNodes, IsScript, tier_items, retry_items, schedule_items, map_items, program_items, head_items, items_of, script_text}
+use Rattle.nm_script.specs.Told.{Told, nothing, with_item, schedule_of}
 use Rattle.nm_script.specs.Grammar.{IsOneOf, IsReach, IsScriptText}
 use Rattle.nm_script.specs.Reading.{reading}
 use Rattle.nm_script.proofs.Finished.{All-map}
@@ -53,8 +50,7 @@ pair_items version words cpus tiers nodes one two none h =
     let are : tiers ≡ f ∷ t ∷ [] = pair_is tiers two in
     let fast = h.2 0 0 (omega (arith, two)) in
     let slow = h.2 1 0 (omega (arith, two)) in
-    let total : f + t ≤ 4096 = omega (arith, h.3, ap sum are) in
-    (
+    let total : f + t ≤ 4096 = omega (arith, h.3, ap sum are) in (
       refl,
       (inr (inl refl), (one, fast.0, fast.1, slow.0, slow.1, total)),
       pair_told version words f t ∙ ap (λ ts. with_tiers version words ts []) (sym are) ∙ ap (with_tiers version words tiers) (sym none),
@@ -66,8 +62,7 @@ node_items version words cpus tiers nodes two h few =
     let count : tier_count nodes ≤ 4 = omega (arith, few, ap length h.formed, length-map (quotients_of nodes) (frames_at nodes)) in
     let all = nodes-items version words cpus nodes two h.some h.each h.few h.sum count in
     let frames : frames_of nodes ≡ sum tiers = sym (sum-tiers_of nodes) ∙ ap sum (sym h.formed) in
-    let told : with_nodes version words places.Tier nodes ≡ with_tiers version words tiers nodes =
-        ap (λ n. record (with_nodes version words places.Tier nodes) { frames = n }) frames ∙ ap (λ ts. record (with_tiers version words tiers nodes) { tiers = ts }) (sym h.formed) in
+    let told : with_nodes version words places.Tier nodes ≡ with_tiers version words tiers nodes = ap (λ n. record (with_nodes version words places.Tier nodes) { frames = n }) frames ∙ ap (λ ts. record (with_tiers version words tiers nodes) { tiers = ts }) (sym h.formed) in
     subst (AreItems cpus (with_nodes version words places.Page []) (map (λ n. items.Node n) nodes)) told all
 
 tiers_items : (s : Script) → IsScript s → AreItems s.geometry.cpus (with_nodes s.version s.geometry.words places.Page []) (tier_items s) (with_tiers s.version s.geometry.words s.geometry.tiers s.nodes)

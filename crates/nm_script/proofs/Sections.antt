@@ -19,7 +19,7 @@ use Rattle.nm_script.specs.declared.item.Place.TheVariants as places
 use Rattle.nm_script.specs.declared.item.Order.{Order}
 use Rattle.nm_script.specs.declared.item.Order.TheVariants as orders
 use Rattle.nm_script.specs.Script.{IsNode, IsPlanItem, IsSchedule, IsTrimmed, retry_items, schedule_items, map_items, cpu_items, program_items}
-use Rattle.nm_script.specs.Told.{Told, with_item, with_line, with_places, with_page}
+use Rattle.nm_script.specs.Told.{Told, with_item, with_line, with_places}
 use Rattle.nm_script.specs.Grammar.{IsOneOf, IsReach, MayFollow}
 use Rattle.nm_script.proofs.Mapped.{with_page-past, length-with_page, places-next, page-next}
 use Rattle.nm_script.proofs.MoreTiers.{tier_count-more}
@@ -31,10 +31,10 @@ use Rattle.nm_script.proofs.Spelled.{AreItems, AreItems-append}
 abbrev pub with_nodes : ℕ → ℕ → Place → List Node → Told
 with_nodes version words place nodes = record { place = place; version = version; words = words; tiers = tiers_of nodes; frames = frames_of nodes; nodes = nodes; cpus = 0; retry = None; order = orders.Serial 8000000; plan = []; vpages = []; programs = [] }
 
-one_node : (version words cpus : ℕ) (p : Place) (done : List Node) (n : Node) (rest whole : List Node) → (done ++ n ∷ []) ++ rest ≡ whole → version ≡ 2 → IsOneOf (places.Version ∷ places.Page ∷ places.Tier ∷ []) p
+one_node : (version words : ℕ) (p : Place) (done : List Node) (n : Node) (rest whole : List Node) → (done ++ n ∷ []) ++ rest ≡ whole → version ≡ 2 → IsOneOf (places.Version ∷ places.Page ∷ places.Tier ∷ []) p
     → IsNode n → length whole ≤ 16 → frames_of whole ≤ 4096 → tier_count whole ≤ 4
     → MayFollow (with_nodes version words p done) (items.Node n) × (with_item (with_nodes version words p done) (items.Node n) ≡ with_nodes version words places.Tier (done ++ n ∷ []))
-one_node version words cpus p done n rest whole is two one each few sum count =
+one_node version words p done n rest whole is two one each few sum count =
     let front : List Node = done ++ n ∷ [] in
     let frames : frames_of done + n.frames ≡ frames_of front = omega (arith, sum_by-append (λ (m : Node). m.frames) done (n ∷ [])) in
     let short : length done < 16 = omega (arith, few, ap length is, length-append front rest, length-append done (n ∷ [])) in
@@ -46,10 +46,10 @@ node_items : (version words cpus : ℕ) (p : Place) (done : List Node) (n : Node
     → AllByRecursion IsNode (n ∷ rest) → length whole ≤ 16 → frames_of whole ≤ 4096 → tier_count whole ≤ 4
     → AreItems cpus (with_nodes version words p done) (map (λ m. items.Node m) (n ∷ rest)) (with_nodes version words places.Tier whole)
 node_items version words cpus p done n [] whole is two one each few sum count =
-    let h = one_node version words cpus p done n [] whole is two one each.0 few sum count in
+    let h = one_node version words p done n [] whole is two one each.0 few sum count in
     (refl, h.0, h.1 ∙ ap (with_nodes version words places.Tier) (sym (append-nil (done ++ n ∷ [])) ∙ is))
 node_items version words cpus p done n (m ∷ rest) whole is two one each few sum count =
-    let h = one_node version words cpus p done n (m ∷ rest) whole is two one each.0 few sum count in
+    let h = one_node version words p done n (m ∷ rest) whole is two one each.0 few sum count in
     let front : List Node = done ++ n ∷ [] in
     let later = node_items version words cpus places.Tier front m rest whole (append_assoc front (m ∷ []) rest ∙ is) two (inr (inr (inl refl))) each.1 few sum count in
     (refl, h.0, subst (λ (t : Told). AreItems cpus t (map (λ k. items.Node k) (m ∷ rest)) (with_nodes version words places.Tier whole)) (sym h.1) later)
@@ -116,8 +116,7 @@ map_items-walk t v (Some p) [] one trimmed past few room frames =
 map_items-walk t v (Some p) (o ∷ vs) one trimmed past few room frames =
     let next = with_item t (items.Map v p) in
     let len = length-with_page t.vpages v p past in
-    let later = map_items-walk next (v + 1) o vs (inr (inr (inr (inr (inl refl))))) trimmed (omega (arith, len)) (omega (arith, few)) (omega (arith, room)) frames in
-    (
+    let later = map_items-walk next (v + 1) o vs (inr (inr (inr (inr (inl refl))))) trimmed (omega (arith, len)) (omega (arith, few)) (omega (arith, room)) frames in (
       refl,
       (one, (omega (arith, few), omega (arith, room, frames), get_or_past t.vpages v None past, omega (arith, room))),
       subst (λ ws. AreItems t.cpus next (map_items (v + 1) (o ∷ vs)) (record t { place = places.Map; vpages = ws })) (page-next t.vpages (o ∷ vs) v p past) later,
