@@ -124,7 +124,8 @@ reach_access words tiers cpus vs (Store v w x) h = (h.0, h.2, h.3)
 reach_access words tiers cpus vs (Add v w x) h = (h.0, h.2, h.3)
 reach_access words tiers cpus vs (Await v w x n) h = (h.0, h.2, h.3, h.4, h.5)
 
-All-map : {X : Type 0} (P Q : X → Type 0) (xs : List X) → ((x : X) → P x → Q x) → AllByRecursion P xs → AllByRecursion Q xs
+-- what holds of each one
+pub All-map : {X : Type 0} (P Q : X → Type 0) (xs : List X) → ((x : X) → P x → Q x) → AllByRecursion P xs → AllByRecursion Q xs
 All-map P Q [] f h = tt
 All-map P Q (x ∷ xs) f h = (f x h.0, All-map P Q xs f h.1)
 

@@ -6,8 +6,13 @@ pub mod FullTiers
 pub mod Lines
 pub mod Mapped
 pub mod Memory
+pub mod MoreTiers
+pub mod NeverLong
 pub mod Printed
+pub mod PrintedAgain
 pub mod Says
+pub mod Sections
+pub mod Spelled
 pub mod Steps
 pub mod Tellings
 pub mod Texts

@@ -4,7 +4,8 @@ use Rattle.nm_text.specs.Cuts.{Lacks, cut_of}
 use Rattle.nm_text.proofs.CutLemmas.{Lacks-first, cut_of-some, cut_of-none}
 use Rattle.nm_script.specs.Fields.{lines_of}
 
-lines-joined : (a b : List ℕ) → Lacks 10 a → lines_of (a ++ 10 ∷ b) ≡ a ∷ lines_of b
+-- a line and its newline before a text
+pub lines-joined : (a b : List ℕ) → Lacks 10 a → lines_of (a ++ 10 ∷ b) ≡ a ∷ lines_of b
 lines-joined [] b h = refl
 lines-joined (x ∷ a) b h =
     let first = Lacks-first 10 x a h in

@@ -11,7 +11,8 @@ with_line-set items (p ∷ []) new l d (suc i) h e = absurd (omega (arith, h))
 with_line-set items (p ∷ q ∷ ps) new l d zero h e = absurd (omega (arith, h))
 with_line-set items (p ∷ q ∷ ps) new l d (suc i) h e = ap (λ t. items p ∷ t) (with_line-set items (q ∷ ps) new l d i (omega (arith, h)) e)
 
-replicate-more : {X : Type 0} (n : ℕ) (x : X) → replicate (suc n) x ≡ replicate n x ++ x ∷ []
+-- one more of the same
+pub replicate-more : {X : Type 0} (n : ℕ) (x : X) → replicate (suc n) x ≡ replicate n x ++ x ∷ []
 replicate-more zero x = refl
 replicate-more (suc n) x = ap (λ t. x ∷ t) (replicate-more n x)
 

@@ -169,10 +169,12 @@ ruled-again s (items.Map v p) h = refl
 ruled-again s (items.Cpu p) h = refl
 ruled-again s (items.Access l) h = refl
 
-words_few : (s : Told) → IsTold s → s.words ≤ 512
+-- a page has at most 512 words
+pub words_few : (s : Told) → IsTold s → s.words ≤ 512
 words_few s told = elim told [ inl e ↦ omega (arith, ap (λ t. t.words) e) | inr h ↦ (page_size s.words h.words).1 ]
 
-cpus_few : (s : Told) → IsTold s → s.cpus ≤ 16
+-- there are at most 16 processors
+pub cpus_few : (s : Told) → IsTold s → s.cpus ≤ 16
 cpus_few s told = elim told [ inl e ↦ omega (arith, ap (λ t. t.cpus) e) | inr h ↦ h.few ]
 
 -- the spelling of a line that may follow is taken as that line

@@ -1,5 +1,5 @@
 -- The first fault of a text, and its line.
-use Rattle.std.specs.Prelude.{◌≡◌, ℕ, ◌+◌, false, List, [], ◌∷◌, ◌++◌, length, Err}
+use Rattle.std.specs.Prelude.{◌≡◌, ◌≢◌, ℕ, ◌+◌, false, List, [], ◌∷◌, ◌++◌, length, Err}
 use Rattle.nm_script.specs.declared.fault.ScriptFault.{ScriptFault}
 use Rattle.nm_script.specs.declared.fault.ScriptFault.TheVariants as faults
 use Rattle.nm_script.specs.declared.fault.ScriptRefusal.{ScriptRefusal}
@@ -29,3 +29,8 @@ pub record IsFirstFault (bytes : List ℕ) (f : ScriptFault) (n : ℕ) : Type 0 
 abbrev pub IsRefusal : List ℕ → ScriptRefusal → Type 0
 IsRefusal bytes refusals.Memory = Unit {0}
 IsRefusal bytes (refusals.At f n) = IsFirstFault bytes f n
+
+-- a refusal names no fault of those who take the bytes
+abbrev pub IsOfText : ScriptRefusal → Type 0
+IsOfText refusals.Memory = Unit {0}
+IsOfText (refusals.At f n) = f ≢ faults.TooLong

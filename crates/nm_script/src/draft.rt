@@ -1,6 +1,6 @@
 //! What the lines so far have told.
 
-ghost use Rattle.std.specs.Prelude.{◌≡◌, ◌≢◌, ◌≤◌, ◌+◌, ◌<◌, [], length, slice_index_or, Some, None, Ok, IfOk, IfErr, IsTrue, OnOk, map};
+ghost use Rattle.std.specs.Prelude.{◌≡◌, ◌≢◌, ◌≤◌, ◌+◌, ◌^◌, ◌<◌, [], length, slice_index_or, Some, None, Ok, IfOk, IfErr, IsTrue, OnOk, map};
 ghost use Rattle.nm_tiers.specs.Tiers.{frames_of, tiers_of, tier_count};
 ghost use Rattle.nm_base.specs.Geometry.{IsGeometry, made};
 ghost use Rattle.nm_script.specs.Told.{with_page, with_line, schedule_of};
@@ -278,6 +278,35 @@ impl Draft {
         }
     }
 
+    /// Begins with the version.
+    fn set_version(&mut self, version: u32)
+        ensures { self.new ≡ with_item self.old (Item.Version version) }
+    {
+        self.place = Place::Version;
+        self.version = version;
+    }
+
+    /// Sets the words of a page.
+    fn set_words(&mut self, words: u32)
+        ensures { self.new ≡ with_item self.old (Item.Page words) }
+    {
+        self.place = Place::Page;
+        self.words = words;
+    }
+
+    /// Sets the frames of both tiers.
+    fn set_tiers(&mut self, fast: u32, slow: u32) -> Result<(), AllocError>
+        requires { fast + slow < 2 ^ 32 }
+        ensures { OnOk result (self.new ≡ with_item self.old (Item.Tiers fast slow)) }
+    {
+        self.place = Place::Tier;
+        self.tiers.clear();
+        self.tiers.push(fast)?;
+        self.tiers.push(slow)?;
+        self.frames = fast + slow;
+        Ok(())
+    }
+
     /// Adds a node, where it brings no fifth tier.
     fn add_node(&mut self, alloc: Global, node: Node) -> Result<(), ReadError>
         requires frames { self.old.frames + node.frames ≤ 4096 }
@@ -291,75 +320,68 @@ impl Draft {
         Ok(())
     }
 
+    /// Sets the number of processors.
+    fn set_cpus(&mut self, cpus: u32)
+        ensures { self.new ≡ with_item self.old (Item.Cpus cpus) }
+    {
+        self.place = Place::Cpus;
+        self.cpus = cpus;
+    }
+
+    /// Sets the aborts after which a page goes to the locked move.
+    fn set_retry(&mut self, retry: u32)
+        ensures { self.new ≡ with_item self.old (Item.Retry retry) }
+    {
+        self.place = Place::Retry;
+        self.retry = Some(retry);
+    }
+
+    /// Sets how turns are picked.
+    fn set_order(&mut self, place: Place, order: Order)
+        ensures { self.new ≡ record self.old { place = place; order = order } }
+    {
+        self.place = place;
+        self.order = order;
+    }
+
+    /// Maps a virtual page.
+    fn add_map(&mut self, v: u32, vpage: VPage) -> Result<(), AllocError>
+        ensures { OnOk result (self.new ≡ with_item self.old (Item.Map v vpage)) }
+    {
+        self.place = Place::Map;
+        add_page(&mut self.vpages, v, vpage)
+    }
+
+    /// Begins the next processor.
+    fn add_program(&mut self, alloc: Global) -> Result<(), AllocError>
+        ensures { OnOk result (self.new ≡ with_item self.old (Item.Cpu (length self.old.programs))) }
+    {
+        self.place = Place::Program;
+        self.programs.push(Vec::new(alloc))?;
+        Ok(())
+    }
+
     /// Adds what a line says.
     fn add(&mut self, alloc: Global, item: Item) -> Result<(), ReadError>
         requires { Fits self.old item }
         ensures { Tells self.new result (ruled self.old item) }
     {
         match item {
-            Item::Version(version) => {
-                self.place = Place::Version;
-                self.version = version;
-                Ok(())
-            }
-            Item::Page(words) => {
-                self.place = Place::Page;
-                self.words = words;
-                Ok(())
-            }
-            Item::Tiers(fast, slow) => {
-                self.place = Place::Tier;
-                self.tiers.clear();
-                self.tiers.push(fast)?;
-                self.tiers.push(slow)?;
-                self.frames = fast + slow;
-                Ok(())
-            }
-            Item::Node(node) => self.add_node(alloc, node),
-            Item::Cpus(cpus) => {
-                self.place = Place::Cpus;
-                self.cpus = cpus;
-                Ok(())
-            }
-            Item::Retry(retry) => {
-                self.place = Place::Retry;
-                self.retry = Some(retry);
-                Ok(())
-            }
-            Item::Serial(turns) => {
-                self.place = Place::Order;
-                self.order = Order::Serial(turns);
-                Ok(())
-            }
-            Item::Shuffle(number, turns) => {
-                self.place = Place::Order;
-                self.order = Order::Shuffle(number, turns);
-                Ok(())
-            }
-            Item::Plan(turns) => {
-                self.place = Place::Plan;
-                self.order = Order::Plan(turns);
-                Ok(())
-            }
-            Item::Go(go) => {
-                self.plan.push(go)?;
-                Ok(())
-            }
-            Item::Map(v, vpage) => {
-                self.place = Place::Map;
-                add_page(&mut self.vpages, v, vpage)?;
-                Ok(())
-            }
-            Item::Cpu(_) => {
-                self.place = Place::Program;
-                self.programs.push(Vec::new(alloc))?;
-                Ok(())
-            }
-            Item::Access(line) => {
-                add_line(&mut self.programs, line)?;
-                Ok(())
-            }
+            Item::Version(version) => self.set_version(version),
+            Item::Page(words) => self.set_words(words),
+            Item::Tiers(fast, slow) => self.set_tiers(fast, slow)?,
+            Item::Node(node) => self.add_node(alloc, node)?,
+            Item::Cpus(cpus) => self.set_cpus(cpus),
+            Item::Retry(retry) => self.set_retry(retry),
+            Item::Serial(turns) => self.set_order(Place::Order, Order::Serial(turns)),
+            Item::Shuffle(n, turns) => self.set_order(Place::Order, Order::Shuffle(n, turns)),
+            Item::Plan(turns) => self.set_order(Place::Plan, Order::Plan(turns)),
+            Item::Go(go) => self.plan.push(go)?,
+            Item::Map(v, vpage) => self.add_map(v, vpage)?,
+            Item::Cpu(_) => self.add_program(alloc)?,
+            Item::Access(line) => add_line(&mut self.programs, line)?,
         }
+        Ok(())
     }
 
     /// Takes a line.

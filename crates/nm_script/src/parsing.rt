@@ -4,7 +4,7 @@ ghost use Rattle.std.specs.Prelude.{◌≡◌, ◌≤◌, ◌<◌, ◌-◌, ◌^
 ghost use Rattle.nm_script.specs.Fields.{lines_of};
 ghost use Rattle.nm_script.specs.Script.{IsScript};
 ghost use Rattle.nm_script.specs.Grammar.{IsScriptText};
-ghost use Rattle.nm_script.specs.Faults.{IsFirstFault, IsRefusal};
+ghost use Rattle.nm_script.specs.Faults.{IsFirstFault, IsRefusal, IsOfText};
 ghost use Rattle.nm_script.specs.Told.{nothing};
 ghost use Rattle.nm_script.specs.Holds.{IsTold};
 ghost use Rattle.nm_script.specs.Reading.{told_after, reading, refusal_of, Refuses, Reads};
@@ -28,6 +28,8 @@ pub fn parse(alloc: Global, bytes: &[u8]) -> Result<Script, ScriptRefusal>
     // A refusal is the first fault, and a first fault is refused so, unless memory runs out.
     ensures fault { IfErr result (IsRefusal bytes.now) }
     ensures first { (f : _) (n : _) → IsFirstFault bytes.now f n → Reads result (Err (f, n)) }
+    // No text is too long for the grammar.
+    ensures of_text { IfErr result IsOfText }
     // The same, by a function of the bytes.
     ensures exact { Reads result (reading bytes.now) }
     ensures script { IfOk result IsScript }
