@@ -1,3 +1,4 @@
+pub mod Added
 pub mod Counts
 pub mod Made
 pub mod Pieces

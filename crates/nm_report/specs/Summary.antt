@@ -1,5 +1,5 @@
 -- The text of a summary: how many accesses were made, and the lines of the report after the processors' but for the pages'.
-use Rattle.std.specs.Prelude.{ℕ, ◌%◌, ◌^◌, Bool, true, false, List, ◌∷◌, ◌++◌, length, sum_by, count_by, codes}
+use Rattle.std.specs.Prelude.{◌≡◌, ℕ, ◌+◌, ◌%◌, ◌^◌, Bool, true, false, List, ◌∷◌, ◌++◌, length, sum_by, count_by, codes}
 use Rattle.std.specs.List.{AllByRecursion}
 use Rattle.std.specs.Fmt.{decimal}
 use Rattle.nm_script.specs.declared.script.Line.{Line}
@@ -45,6 +45,10 @@ store_count results = sum_by (λ list. count_by is_store list) results
 
 abbrev pub loaded_sum : List (List LineResult) → ℕ
 loaded_sum results = sum_by (λ list. sum_by loaded_value list) results
+
+-- the accesses are the loads and the stores
+abbrev pub AddsUp : List (List LineResult) → Type 0
+AddsUp results = access_count results ≡ load_count results + store_count results
 
 -- accesses A loads L stores S sum X, the sum modulo 2^64
 abbrev pub accesses_text : List (List LineResult) → List ℕ

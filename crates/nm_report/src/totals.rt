@@ -2,7 +2,7 @@
 
 ghost use Rattle.std.specs.Prelude.{◌≡◌, ◌^◌, ◌%◌, ◌<◌, ◌≤◌, ◌++◌, map, length, sum_by, count_by, OnOk, IfOk};
 ghost use Rattle.nm_report.specs.Texts.{IsPrintable};
-ghost use Rattle.nm_report.specs.Summary.{is_load, is_store, loaded_value, access_count, load_count, store_count, loaded_sum, accesses_text, summary_text, HasNoAwait};
+ghost use Rattle.nm_report.specs.Summary.{is_load, is_store, loaded_value, access_count, load_count, store_count, loaded_sum, accesses_text, summary_text, AddsUp, HasNoAwait};
 
 use crate::line_result::LineResult;
 use crate::printing::{push_counts, push_field, push_tiers};
@@ -11,7 +11,8 @@ use std::alloc::{AllocError, Global};
 
 /// The text of the summary of `drill` with this number and size: how many accesses there were, the sum of the values
 /// loaded, modulo 2^64, and the report's lines of tiers, counts and end. An add counts as a store, and the value
-/// before it is not in the sum. `AllocError` comes where there is no memory for it.
+/// before it is not in the sum, so the accesses are the loads and the stores. `AllocError` comes where there is no memory for it.
+#[tactic(auto, using(crate::proofs::Added::adds_up))]
 pub fn summary(
     alloc: Global,
     number: u64,
@@ -20,7 +21,8 @@ pub fn summary(
 ) -> Result<Vec<u8>, AllocError>
     requires printable { IsPrintable report.now }
     requires no_await { HasNoAwait report.now.script.programs }
-    ensures { IfOk result (λ text. text.items ≡ summary_text number size report.now) }
+    ensures text { IfOk result (λ text. text.items ≡ summary_text number size report.now) }
+    ensures adds_up { AddsUp report.now.results }
 {
     let mut out = Vec::new(alloc);
     push_field(&mut out, b"drill ", number)?;
