@@ -44,10 +44,14 @@ all-add-up : (programs : List (List Line)) (results : List (List LineResult)) �
 all-add-up programs [] few fits none = refl
 all-add-up [] (list ∷ results) few fits none = absurd (omega (arith, few))
 all-add-up (lines ∷ programs) (list ∷ results) few fits none =
-    omega (arith, all-add-up programs results (omega (arith, few)) (λ p. fits (suc p)) none.1, one-adds-up lines list (fits zero) none.0,
-        sum_by-cons (λ (x : List LineResult). length x) list results,
-        sum_by-cons (λ (x : List LineResult). count_by is_load x) list results,
-        sum_by-cons (λ (x : List LineResult). count_by is_store x) list results)
+    omega (
+      arith,
+      all-add-up programs results (omega (arith, few)) (λ p. fits (suc p)) none.1,
+      one-adds-up lines list (fits zero) none.0,
+      sum_by-cons (λ (x : List LineResult). length x) list results,
+      sum_by-cons (λ (x : List LineResult). count_by is_load x) list results,
+      sum_by-cons (λ (x : List LineResult). count_by is_store x) list results,
+    )
 
 -- the accesses of a report that has a text
 pub adds_up : (r : Report) → IsPrintable r → HasNoAwait r.script.programs → AddsUp r.results

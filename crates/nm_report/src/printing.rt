@@ -10,8 +10,8 @@ ghost use Rattle.nm_report.specs.Texts.{IsPrintable, AllFit, EachFits, report_te
 use crate::end_words::{EndWords, Role};
 use crate::line_result::LineResult;
 use crate::report::Report;
-use nm_base::Geometry;
 use nm_action::Tally;
+use nm_base::Geometry;
 use nm_script::Line;
 use nm_text::push_number;
 use std::alloc::{AllocError, Global};

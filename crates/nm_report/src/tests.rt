@@ -7,8 +7,8 @@ ghost use Rattle.std.specs.Prelude.{◌≡◌, [], ◌∷◌, IfOk};
 ghost use Rattle.std.specs.List.{AllByRecursion};
 
 use crate::{EndWords, LineResult, Report, Role, print, summary};
-use nm_base::{Geometry, VPage};
 use nm_action::Tally;
+use nm_base::{Geometry, VPage};
 use nm_script::{Line, Schedule, Script};
 use std::alloc::Global;
 use std::test::Fail;
