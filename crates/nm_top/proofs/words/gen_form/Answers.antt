@@ -1,8 +1,7 @@
 -- A field is the spelling of one number, so the form is the one of the words.
-use Rattle.std.proofs.Common.{◌≡◌, ℕ, Some, codes, string_bytes, sym, ap, ◌∙◌, subst, arith, rules}
+use Rattle.std.proofs.Common.{◌≡◌, codes, string_bytes, arith, rules}
 use Rattle.std.proofs.lemmas.Option.{none-some}
 use Rattle.nm_text.specs.Numbers.{IsNumber}
-use Rattle.nm_top.specs.Words.{AreGen}
 use Rattle.nm_top.proofs.Forms.{same_number, form_is}
 use Rattle.nm_top.proofs.words.gen_form.Goals as goal
 
