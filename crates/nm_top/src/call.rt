@@ -8,13 +8,13 @@ ghost use Rattle.nm_script.specs.Script.{script_text, IsScript};
 ghost use Rattle.nm_script.specs.Grammar.{IsScriptText};
 ghost use Rattle.nm_script.specs.Faults.{IsFirstFault};
 ghost use Rattle.nm_gen.specs.Generated.{generated};
-ghost use Rattle.nm_top.specs.Words.{IsSim, IsGen, IsForm};
-ghost use Rattle.nm_top.specs.Answer.{Answers, IsAccepted, IsCause, IsRefusal, IsRefusedAs, IsUnserved, status_of, Takes, TakesAll, WritesOutput, WritesFront};
+ghost use Rattle.nm_command.specs.Words.{IsSim, IsGen, IsForm};
+ghost use Rattle.nm_top.specs.Answer.{Answers, IsAccepted, IsCause, IsOrMemory, IsRefusal, IsRefusedAs, IsUnserved, status_of, Takes, TakesAll, WritesOutput, WritesFront};
 ghost use Rattle.nm_top.specs.Output.{IsOutput, IsOutputOf, IsServed};
 
 use crate::run::{is_served, run};
 use crate::status::Status;
-use crate::words::{Form, form_of};
+use nm_command::{Form, form_of};
 use nm_gen::{generate, is_script};
 use nm_io::{Gate, MOST_BYTES, ReadRefusal, Sink, Source, WriteFault, read_all, write_all};
 use nm_report::print_cpu;
@@ -34,8 +34,10 @@ pub fn nomad_main<T: Threads + Wait + Sync, G: Gate, S: Source, K: Sink>(
     source: &mut S,
     sink: &mut K,
 ) -> Status
-    ensures usage { (result ≡ Status.Usage) ↔ (IsForm words.now → ⊥) }
-    ensures unread { result ≡ Status.Usage → source.new ≡ source.old }
+    // Words of no form, and then nothing is read.
+    ensures usage { result ≡ Status.Usage → IsForm words.now → ⊥ }
+    ensures no_form { (IsForm words.now → ⊥) → IsOrMemory result Status.Usage }
+    ensures unread { (IsForm words.now → ⊥) → source.new ≡ source.old }
 
     // What was taken from the source, and why a text is refused.
     ensures takes { Takes (S.left source.old) (S.left source.new) result }
@@ -76,7 +78,7 @@ pub fn nomad_main<T: Threads + Wait + Sync, G: Gate, S: Source, K: Sink>(
 /// The commands that need no threads. `sim` reads a script from the source, runs it and writes its output to the sink;
 /// `gen N SIZE` reads nothing and writes the script of the number N, with SIZE lines of programs.
 ///
-/// The order of the answers is: Usage, then reading (ReadFault, Script with TooLong, Memory, as they come), then Script
+/// The order of the answers is: Usage (or Memory, where there is none to read the words), then reading (ReadFault, Script with TooLong, Memory, as they come), then Script
 /// with the first fault, then NotBuilt, then Memory, and WriteFault last. Nothing is written before the whole text
 /// stands.
 pub fn plain_call<S: Source, K: Sink>(
@@ -85,8 +87,10 @@ pub fn plain_call<S: Source, K: Sink>(
     source: &mut S,
     sink: &mut K,
 ) -> Status
-    ensures usage { (result ≡ Status.Usage) ↔ (IsForm words.now → ⊥) }
-    ensures unread { result ≡ Status.Usage → source.new ≡ source.old }
+    // Words of no form, and then nothing is read.
+    ensures usage { result ≡ Status.Usage → IsForm words.now → ⊥ }
+    ensures no_form { (IsForm words.now → ⊥) → IsOrMemory result Status.Usage }
+    ensures unread { (IsForm words.now → ⊥) → source.new ≡ source.old }
 
     // What was taken from the source, and why a text is refused.
     ensures takes { Takes (S.left source.old) (S.left source.new) result }
@@ -121,7 +125,11 @@ pub fn plain_call<S: Source, K: Sink>(
     ensures generated_complete { (n size : ℕ) → IsGen words.now n size → (Rose (K.faults sink.old) (K.faults sink.new) → ⊥)
         → (result ≡ Status.Done) ⊎ (result ≡ Status.Memory) }
 {
-    match form_of(words) {
+    let form = match form_of(alloc, words) {
+        Ok(form) => form,
+        Err(AllocError) => return Status::Memory,
+    };
+    match form {
         None => Status::Usage,
         Some(Form::Sim) => sim_call(alloc, source, sink),
         Some(Form::Gen { number, size }) => gen_call(alloc, number, size, sink),

@@ -4,7 +4,6 @@
 mod call;
 mod run;
 pub mod status;
-mod words;
 
 pub use call::{nomad_main, one_output, plain_call};
 pub use status::Status;
