@@ -11,7 +11,7 @@ mod totals;
 pub use end_words::{EndWords, Role, counts_sum};
 pub use follows::follows_fits;
 pub use line_result::LineResult;
-pub use printing::print;
+pub use printing::{print, print_cpu};
 pub use report::Report;
 pub use totals::summary;
 

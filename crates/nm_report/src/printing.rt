@@ -31,6 +31,22 @@ pub fn print(alloc: Global, report: &Report<'_>) -> Result<Vec<u8>, AllocError>
     Ok(out)
 }
 
+/// The lines of one processor: its number, and the accesses of its program that were made, with what they gave.
+/// `AllocError` comes where there is no memory for them.
+pub fn print_cpu(
+    alloc: Global,
+    cpu: u32,
+    program: &[Line],
+    results: &[LineResult],
+) -> Result<Vec<u8>, AllocError>
+    requires { AllFit program.now results.now }
+    ensures { IfOk result (λ text. text.items ≡ cpu_text cpu program.now results.now) }
+{
+    let mut out = Vec::new(alloc);
+    push_cpu(&mut out, cpu, program, results)?;
+    Ok(out)
+}
+
 /// Writes the lines of the processors.
 fn push_cpus(out: &mut Vec<u8>, report: &Report<'_>) -> Result<(), AllocError>
     requires { IsPrintable report.now }

@@ -6,7 +6,7 @@ ghost use Rattle.nm_report.specs.Summary.{IsNoAwait};
 ghost use Rattle.std.specs.Prelude.{◌≡◌, [], ◌∷◌, IfOk};
 ghost use Rattle.std.specs.List.{AllByRecursion};
 
-use crate::{EndWords, LineResult, Report, Role, print, summary};
+use crate::{EndWords, LineResult, Report, Role, print, print_cpu, summary};
 use nm_action::Tally;
 use nm_base::{Geometry, VPage};
 use nm_script::{Line, Schedule, Script};
@@ -213,6 +213,15 @@ fn promotion_with_a_shadow(rt: HostRuntime) -> Result<(), Fail> {
     let want =
         "cpu 0\nload 0.0 0\ntier 0 free 1 mapped 1 shadow 0 held 0 of 2\ntier 1 free 9 mapped 0 shadow 1 held 0 of 10\npage 0 frame 0 shadow 2\nfaults demand 1 alias 0 hint 1 shadow 0\nmarks set 1 spilled 0 cold 0 committed 1 moved 0 noframe 0 gone 0 worn 0\nmoves aborted 0 remapped 0 copied 0 words 4\nwork flushes 2 reclaimed 0\nsettled yes\n";
     assert_eq!(rt; text.as_slice(), want.as_bytes());
+    Ok(())
+}
+
+#[test]
+fn one_processor(rt: HostRuntime) -> Result<(), Fail> {
+    let program = [Line::Add { v: 0, w: 0, x: 5 }, LOAD, LOAD];
+    let given = [LineResult::Added(0), LineResult::Loaded(5)];
+    let text = print_cpu(rt.alloc(), 3, &program, &given)?;
+    assert_eq!(rt; text.as_slice(), b"cpu 3\nadd 0.0 5 gave 0\nload 0.0 5\n".as_slice());
     Ok(())
 }
 

@@ -1,32 +1,27 @@
--- The words `gen N SIZE`.
-use Rattle.std.proofs.Common.{◌≡◌, ℕ, ◌≤◌, List, [], ◌∷◌, ◌↔◌, String, Some, codes, decimal, sym, ap, subst, ◌∙◌, arith}
+-- From the form that was read to the words.
+use Rattle.std.proofs.Common.{◌≡◌, ℕ, List, ◌↔◌, String, Option, Some, None, sym, ap, ◌∙◌, inl, inr}
 use Rattle.std.specs.declared.alloc.Global.{Global}
-use Rattle.std.proofs.lemmas.Fmt.{decimal_injective}
-use Rattle.nm_text.specs.Numbers.{IsNumber}
-use Rattle.nm_top.specs.declared.words.Form.TheVariants.{Gen}
-use Rattle.nm_top.specs.Words.{IsGen, AreGen}
+use Rattle.std.proofs.lemmas.Option.{none-some}
+use Rattle.nm_command.specs.declared.form.Form.{Form}
+use Rattle.nm_command.specs.declared.form.Form.TheVariants.{Sim, Gen}
+use Rattle.nm_command.specs.Words.{IsSim, IsGen, IsForm}
 
--- a field is the spelling of one number
-pub same_number : (field : List ℕ) (m n : ℕ) → IsNumber field m → IsNumber field n → m ≡ n
-same_number field m n h k = decimal_injective m n h.0 k.0 (sym h.1 ∙ k.1)
+-- where no form was read, the words have none
+pub form-none : (o : Option Form) (words : List (String Global)) → o ≡ None → (o ≡ Some Sim) ↔ IsSim words → ((n s : ℕ) → (o ≡ Some (Gen n s)) ↔ IsGen words n s) → IsForm words → ⊥
+form-none o words none sim gen (inl h) = none-some _ (sym none ∙ sim.1 h)
+form-none o words none sim gen (inr h) = none-some _ (sym none ∙ (gen h.0 h.1).1 h.2)
 
--- the size of a script that is asked for
-pub IsGen-range : (words : List (String Global)) (n s : ℕ) → IsGen words n s → (1 ≤ s) × (s ≤ 100000)
-IsGen-range [] n s h = absurd h
-IsGen-range (a ∷ []) n s h = absurd h
-IsGen-range (a ∷ b ∷ []) n s h = absurd h
-IsGen-range (a ∷ b ∷ c ∷ []) n s h = (h.low, h.high)
-IsGen-range (a ∷ b ∷ c ∷ d ∷ words) n s h = absurd h
+abbrev number_in : Option Form → ℕ
+number_in None = 0
+number_in (Some Sim) = 0
+number_in (Some (Gen n s)) = n
 
--- the form that was read is the one that three words say
-pub form_is : (word first second : List ℕ) (number size n s : ℕ) → word ≡ codes "gen" → IsNumber first number → IsNumber second size → 1 ≤ size → size ≤ 100000 → (Some (Gen number size) ≡ Some (Gen n s)) ↔ AreGen word first second n s
-form_is word first second number size n s command f g low high = (
-  λ e.
-      let a : number ≡ n = cc in
-      let b : size ≡ s = cc in
-      record { command = command; number = subst (IsNumber first) a f; size = subst (IsNumber second) b g; low = omega (arith, b, low); high = omega (arith, b, high) },
-  λ h.
-      let a = same_number first number n f h.number in
-      let b = same_number second size s g h.size in
-      ap (λ m. Some (Gen m size)) a ∙ ap (λ t. Some (Gen n t)) b,
-)
+abbrev size_in : Option Form → ℕ
+size_in None = 0
+size_in (Some Sim) = 0
+size_in (Some (Gen n s)) = s
+
+-- the number and the size that were read are those of the words
+pub form-gen : (o : Option Form) (words : List (String Global)) (number size : ℕ) → o ≡ Some (Gen number size) → ((n s : ℕ) → (o ≡ Some (Gen n s)) ↔ IsGen words n s) → (n s : ℕ) → IsGen words n s → (number ≡ n) × (size ≡ s)
+form-gen o words number size is gen n s h =
+    let other = (gen n s).1 h in (sym (ap number_in is) ∙ ap number_in other, sym (ap size_in is) ∙ ap size_in other)

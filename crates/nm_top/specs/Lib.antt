@@ -1,3 +1,3 @@
 pub mod Answer
 pub mod Output
-pub mod Words
+pub mod Running

@@ -1,46 +1,45 @@
--- What `sim` writes for a first script.
-use Rattle.std.specs.Prelude.{◌≡◌, ℕ, List, [], ◌∷◌, ◌++◌, flat_map, codes}
-use Rattle.std.specs.Fmt.{decimal}
-use Rattle.nm_base.specs.Geometry.{Geometry}
+-- Which scripts `sim` runs for now, and what it writes.
+use Rattle.std.specs.Prelude.{◌≡◌, ℕ, true, List, [], slice_index_or}
 use Rattle.nm_flat.specs.declared.access.Access.{Access}
-use Rattle.nm_flat.specs.declared.access.AccessKind.{AccessKind}
-use Rattle.nm_flat.specs.declared.access.AccessKind.TheVariants as kind
 use Rattle.nm_flat.specs.Memory.{IsLegal}
-use Rattle.nm_first.specs.declared.line.Line.{Line}
-use Rattle.nm_first.specs.declared.line.Line.TheVariants.{Load, Store}
-use Rattle.nm_first.specs.Script.{line, place_text, IsFirstScript}
+use Rattle.nm_script.specs.declared.script.Line.{Line}
+use Rattle.nm_script.specs.declared.schedule.Schedule.{Schedule}
+use Rattle.nm_script.specs.declared.schedule.Schedule.TheVariants.{Serial, Shuffle, Plan}
+use Rattle.nm_script.specs.Plain.{Script}
+use Rattle.nm_script.specs.Grammar.{IsScriptText}
+use Rattle.nm_report.specs.declared.line_result.LineResult.{LineResult}
+use Rattle.nm_report.specs.Texts.{cpu_text}
+use Rattle.nm_report.specs.Summary.{HasNoAwait}
+use Rattle.nm_report.specs.Follows.{FollowsProgram}
 
--- the access that processor 0 makes at a line, where a load gives x
-abbrev pub access_of : Line → ℕ → Access
-access_of (Load v w) x = record { cpu = 0; vpage = v; word = w; kind = kind.Load x }
-access_of (Store v w y) x = record { cpu = 0; vpage = v; word = w; kind = kind.Store y }
+abbrev pub IsSerial : Schedule → Type 0
+IsSerial (Serial turns) = Unit {0}
+IsSerial (Shuffle n turns) = ⊥
+IsSerial (Plan turns items) = ⊥
 
--- each line has its one access, in order
-abbrev pub FollowsProgram : List Line → List Access → Type 0
-FollowsProgram [] [] = Unit {0}
-FollowsProgram [] (a ∷ list) = ⊥
-FollowsProgram (l ∷ lines) [] = ⊥
-FollowsProgram (l ∷ lines) (a ∷ list) = ((x : ℕ) × (a ≡ access_of l x)) × FollowsProgram lines list
+-- a machine whose pages don't move can run it: one processor in serial turns, and no line is an await
+pub record IsServed (s : Script) : Type 0 where
+  pub one : s.geometry.cpus ≡ 1
+  pub serial : IsSerial s.schedule
+  pub no_await : HasNoAwait s.programs
 
--- the line of an access: what a load gave, what a store stored, what an add added and the value before it
-abbrev pub kind_text : List ℕ → AccessKind → List ℕ
-kind_text place (kind.Load x) = codes "load " ++ place ++ 32 ∷ decimal x
-kind_text place (kind.Store x) = codes "store " ++ place ++ 32 ∷ decimal x
-kind_text place (kind.Add gave plus) = codes "add " ++ place ++ 32 ∷ decimal plus ++ codes " gave " ++ decimal gave
+-- the program of processor 0
+abbrev pub first_program : Script → List Line
+first_program s = slice_index_or s.programs 0 []
 
-abbrev pub access_text : Access → List ℕ
-access_text a = line (kind_text (place_text a.vpage a.word) a.kind)
-
--- the lines of processor 0
-abbrev pub accesses_text : List Access → List ℕ
-accesses_text list = line (codes "cpu 0") ++ flat_map access_text list
-
--- the accesses that follow the program and are legal, printed
-pub record IsOutput (bytes text : List ℕ) : Type 0 where
-  pub geometry : Geometry
-  pub program : List Line
+-- accesses of processor 0 follow its whole program with these results, and are legal in flat memory
+pub record IsRun (s : Script) (results : List LineResult) : Type 0 where
   pub accesses : List Access
-  pub script : IsFirstScript bytes geometry program
-  pub follows : FollowsProgram program accesses
-  pub legal : IsLegal geometry accesses
-  pub printed : text ≡ accesses_text accesses
+  pub follows : FollowsProgram 0 true (first_program s) results accesses
+  pub legal : IsLegal s.geometry accesses
+
+-- the text has the lines of processor 0, with the results of a run
+abbrev pub IsOutputOf : Script → List ℕ → Type 0
+IsOutputOf s text = (results : List LineResult) × IsRun s results × (text ≡ cpu_text 0 (first_program s) results)
+
+-- the bytes are a script that is served, and the text is its output
+pub record IsOutput (bytes text : List ℕ) : Type 0 where
+  pub script : Script
+  pub says : IsScriptText bytes script
+  pub served : IsServed script
+  pub output : IsOutputOf script text

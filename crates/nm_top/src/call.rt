@@ -1,23 +1,24 @@
 //! The calls of the program, over a source and a sink.
 
-ghost use Rattle.std.specs.Prelude.{◌≡◌, ◌≢◌, ℕ, ◌≤◌, ◌↔◌, ◌⊎◌, List, length, IfOk, IfSome, IfNone};
+ghost use Rattle.std.specs.Prelude.{◌≡◌, ◌≢◌, ℕ, ◌-◌, ◌^◌, ◌<◌, ◌≤◌, ◌↔◌, ◌⊎◌, List, length, IfOk, IfErr, IfSome, Err};
 ghost use Rattle.nm_io.specs.Count.{Rose};
 ghost use Rattle.std.specs.Io.KnownBytes.{Appends};
 ghost use Rattle.nm_io.specs.Sink.{HoldsFront};
-ghost use Rattle.nm_script.specs.Script.{script_text};
+ghost use Rattle.nm_script.specs.Script.{script_text, IsScript};
+ghost use Rattle.nm_script.specs.Grammar.{IsScriptText};
+ghost use Rattle.nm_script.specs.Faults.{IsFirstFault};
 ghost use Rattle.nm_gen.specs.Generated.{generated};
-ghost use Rattle.nm_top.specs.Words.{IsSim, IsGen, IsForm};
-ghost use Rattle.nm_top.specs.Answer.{IsAccepted, Takes, TakesAll, WritesOutput, WritesFront};
-ghost use Rattle.nm_top.specs.Output.{IsOutput};
+ghost use Rattle.nm_command.specs.Words.{IsSim, IsGen, IsForm};
+ghost use Rattle.nm_top.specs.Answer.{Answers, IsAccepted, IsCause, IsOrMemory, IsRefusal, IsRefusedAs, IsUnserved, status_of, Takes, TakesAll, WritesOutput, WritesFront};
+ghost use Rattle.nm_top.specs.Output.{IsOutput, IsOutputOf, IsServed};
 
-use crate::print::print_accesses;
-use crate::run::run;
-use crate::status::{ScriptFault, Status};
-use crate::words::{Form, form_of};
-use nm_first::read_first;
+use crate::run::{is_served, run};
+use crate::status::Status;
+use nm_command::{Form, form_of};
 use nm_gen::{generate, is_script};
 use nm_io::{Gate, MOST_BYTES, ReadRefusal, Sink, Source, WriteFault, read_all, write_all};
-use nm_script::print;
+use nm_report::print_cpu;
+use nm_script::{Script, ScriptFault, ScriptRefusal, parse, print};
 use std::alloc::{AllocError, Global};
 use std::sync::Wait;
 use std::thread::Threads;
@@ -33,15 +34,20 @@ pub fn nomad_main<T: Threads + Wait + Sync, G: Gate, S: Source, K: Sink>(
     source: &mut S,
     sink: &mut K,
 ) -> Status
-    ensures usage { (result ≡ Status.Usage) ↔ (IsForm words.now → ⊥) }
-    ensures unread { result ≡ Status.Usage → source.new ≡ source.old }
+    // Words of no form, and then nothing is read.
+    ensures usage { result ≡ Status.Usage → IsForm words.now → ⊥ }
+    ensures no_form { (IsForm words.now → ⊥) → IsOrMemory result Status.Usage }
+    ensures unread { (IsForm words.now → ⊥) → source.new ≡ source.old }
 
-    // What was taken from the source, and when it was too much.
+    // What was taken from the source, and why a text is refused.
     ensures takes { Takes (S.left source.old) (S.left source.new) result }
     ensures read_fault { result ≡ Status.ReadFault → Rose (S.faults source.old) (S.faults source.new) }
-    ensures not_built { result ≡ Status.Script ScriptFault.NotBuilt 0
-        → TakesAll (S.left source.old) (S.left source.new) (λ bytes. IsAccepted bytes → ⊥) }
-    ensures whole { (fault : _) (line : ℕ) → result ≡ Status.Script fault line → IsSim words.now × (line ≡ 0) }
+    ensures refused { (fault : _) (line : ℕ) → result ≡ Status.Script fault line
+        → IsSim words.now × IsCause (S.left source.old) (S.left source.new) fault line }
+    ensures not_built { result ≡ Status.NotBuilt
+        → IsSim words.now × TakesAll (S.left source.old) (S.left source.new) IsUnserved }
+    ensures answers { IsSim words.now → (Rose (S.faults source.old) (S.faults source.new) → ⊥)
+        → IfSome (S.left source.old) (λ bytes. Answers bytes result) }
 
     // What `sim` writes to the sink.
     ensures done { result ≡ Status.Done → IsSim words.now
@@ -59,7 +65,7 @@ pub fn nomad_main<T: Threads + Wait + Sync, G: Gate, S: Source, K: Sink>(
     ensures write_fault { result ≡ Status.WriteFault → Rose (K.faults sink.old) (K.faults sink.new) }
     ensures unwritten { result ≢ Status.Done → result ≢ Status.WriteFault → sink.new ≡ sink.old }
 
-    // The words of a form, for `sim` a first script, and no fault: then it is done, unless memory is wanting.
+    // The words of a form, for `sim` a script that is served, and no fault: then it is done, unless memory is wanting.
     ensures complete { IsSim words.now → IfSome (S.left source.old) (λ bytes. IsAccepted bytes → length bytes ≤ MOST_BYTES
         → (Rose (S.faults source.old) (S.faults source.new) → ⊥) → (Rose (K.faults sink.old) (K.faults sink.new) → ⊥)
         → (result ≡ Status.Done) ⊎ (result ≡ Status.Memory)) }
@@ -72,23 +78,29 @@ pub fn nomad_main<T: Threads + Wait + Sync, G: Gate, S: Source, K: Sink>(
 /// The commands that need no threads. `sim` reads a script from the source, runs it and writes its output to the sink;
 /// `gen N SIZE` reads nothing and writes the script of the number N, with SIZE lines of programs.
 ///
-/// The order of the answers is: Usage, then reading (ReadFault, Script with TooLong, Memory, as they come), then Script
-/// with NotBuilt, then Memory, and WriteFault last. Nothing is written before the whole text stands.
+/// The order of the answers is: Usage (or Memory, where there is none to read the words), then reading (ReadFault, Script with TooLong, Memory, as they come), then Script
+/// with the first fault, then NotBuilt, then Memory, and WriteFault last. Nothing is written before the whole text
+/// stands.
 pub fn plain_call<S: Source, K: Sink>(
     alloc: Global,
     words: &[String],
     source: &mut S,
     sink: &mut K,
 ) -> Status
-    ensures usage { (result ≡ Status.Usage) ↔ (IsForm words.now → ⊥) }
-    ensures unread { result ≡ Status.Usage → source.new ≡ source.old }
+    // Words of no form, and then nothing is read.
+    ensures usage { result ≡ Status.Usage → IsForm words.now → ⊥ }
+    ensures no_form { (IsForm words.now → ⊥) → IsOrMemory result Status.Usage }
+    ensures unread { (IsForm words.now → ⊥) → source.new ≡ source.old }
 
-    // What was taken from the source, and when it was too much.
+    // What was taken from the source, and why a text is refused.
     ensures takes { Takes (S.left source.old) (S.left source.new) result }
     ensures read_fault { result ≡ Status.ReadFault → Rose (S.faults source.old) (S.faults source.new) }
-    ensures not_built { result ≡ Status.Script ScriptFault.NotBuilt 0
-        → TakesAll (S.left source.old) (S.left source.new) (λ bytes. IsAccepted bytes → ⊥) }
-    ensures whole { (fault : _) (line : ℕ) → result ≡ Status.Script fault line → IsSim words.now × (line ≡ 0) }
+    ensures refused { (fault : _) (line : ℕ) → result ≡ Status.Script fault line
+        → IsSim words.now × IsCause (S.left source.old) (S.left source.new) fault line }
+    ensures not_built { result ≡ Status.NotBuilt
+        → IsSim words.now × TakesAll (S.left source.old) (S.left source.new) IsUnserved }
+    ensures answers { IsSim words.now → (Rose (S.faults source.old) (S.faults source.new) → ⊥)
+        → IfSome (S.left source.old) (λ bytes. Answers bytes result) }
 
     // What `sim` writes to the sink.
     ensures done { result ≡ Status.Done → IsSim words.now
@@ -106,21 +118,25 @@ pub fn plain_call<S: Source, K: Sink>(
     ensures write_fault { result ≡ Status.WriteFault → Rose (K.faults sink.old) (K.faults sink.new) }
     ensures unwritten { result ≢ Status.Done → result ≢ Status.WriteFault → sink.new ≡ sink.old }
 
-    // The words of a form, for `sim` a first script, and no fault: then it is done, unless memory is wanting.
+    // The words of a form, for `sim` a script that is served, and no fault: then it is done, unless memory is wanting.
     ensures complete { IsSim words.now → IfSome (S.left source.old) (λ bytes. IsAccepted bytes → length bytes ≤ MOST_BYTES
         → (Rose (S.faults source.old) (S.faults source.new) → ⊥) → (Rose (K.faults sink.old) (K.faults sink.new) → ⊥)
         → (result ≡ Status.Done) ⊎ (result ≡ Status.Memory)) }
     ensures generated_complete { (n size : ℕ) → IsGen words.now n size → (Rose (K.faults sink.old) (K.faults sink.new) → ⊥)
         → (result ≡ Status.Done) ⊎ (result ≡ Status.Memory) }
 {
-    match form_of(words) {
+    let form = match form_of(alloc, words) {
+        Ok(form) => form,
+        Err(AllocError) => return Status::Memory,
+    };
+    match form {
         None => Status::Usage,
         Some(Form::Sim) => sim_call(alloc, source, sink),
         Some(Form::Gen { number, size }) => gen_call(alloc, number, size, sink),
     }
 }
 
-/// The bytes of a first script have one output: where a clause names some text that is its output, it is this one.
+/// The bytes of a script have one output: where a clause names some text that is its output, it is this one.
 pub fn one_output()
     ensures { (bytes text other : List ℕ) → IsOutput bytes text → IsOutput bytes other → text ≡ other }
 {}
@@ -132,6 +148,7 @@ fn gen_call<K: Sink>(alloc: Global, number: u64, size: u32, sink: &mut K) -> Sta
     ensures usage { result ≢ Status.Usage }
     ensures read { result ≢ Status.ReadFault }
     ensures refused { (fault : _) (line : ℕ) → result ≢ Status.Script fault line }
+    ensures not_built { result ≢ Status.NotBuilt }
     ensures done { result ≡ Status.Done → Appends (K.held sink.old) (K.held sink.new) (script_text (generated number size)) }
     ensures write_fault { result ≡ Status.WriteFault → Rose (K.faults sink.old) (K.faults sink.new) }
     ensures front { result ≡ Status.WriteFault
@@ -160,9 +177,11 @@ fn sim_call<S: Source, K: Sink>(alloc: Global, source: &mut S, sink: &mut K) -> 
     ensures usage { result ≢ Status.Usage }
     ensures takes { Takes (S.left source.old) (S.left source.new) result }
     ensures read_fault { result ≡ Status.ReadFault → Rose (S.faults source.old) (S.faults source.new) }
-    ensures not_built { result ≡ Status.Script ScriptFault.NotBuilt 0
-        → TakesAll (S.left source.old) (S.left source.new) (λ bytes. IsAccepted bytes → ⊥) }
-    ensures whole { (fault : _) (line : ℕ) → result ≡ Status.Script fault line → line ≡ 0 }
+    ensures refused { (fault : _) (line : ℕ) → result ≡ Status.Script fault line
+        → IsCause (S.left source.old) (S.left source.new) fault line }
+    ensures not_built { result ≡ Status.NotBuilt → TakesAll (S.left source.old) (S.left source.new) IsUnserved }
+    ensures answers { (Rose (S.faults source.old) (S.faults source.new) → ⊥)
+        → IfSome (S.left source.old) (λ bytes. Answers bytes result) }
     ensures done { result ≡ Status.Done
         → TakesAll (S.left source.old) (S.left source.new) (WritesOutput (K.held sink.old) (K.held sink.new)) }
     ensures write_fault { result ≡ Status.WriteFault → Rose (K.faults sink.old) (K.faults sink.new) }
@@ -182,12 +201,8 @@ fn sim_call<S: Source, K: Sink>(alloc: Global, source: &mut S, sink: &mut K) -> 
         Err(ReadRefusal::Memory) => return Status::Memory,
     };
     match output_of(alloc, &bytes) {
-        Ok(Some(text)) => write_text(sink, &text),
-        Ok(None) => Status::Script {
-            fault: ScriptFault::NotBuilt,
-            line: 0,
-        },
-        Err(AllocError) => Status::Memory,
+        Ok(text) => write_text(sink, &text),
+        Err(status) => status,
     }
 }
 
@@ -204,15 +219,45 @@ fn write_text<K: Sink>(sink: &mut K, text: &[u8]) -> Status
     }
 }
 
-/// The output of the first script whose text the bytes are. None exactly where they are the text of none.
-fn output_of(alloc: Global, bytes: &[u8]) -> Result<Option<Vec<u8>>, AllocError>
-    ensures some { IfOk result (λ o. IfSome o (λ text. IsOutput bytes.now text.items)) }
-    ensures none { IfOk result (λ o. IfNone o (IsAccepted bytes.now → ⊥)) }
+/// The output of the script that the bytes are, or the status of bytes that have none.
+fn output_of(alloc: Global, bytes: &[u8]) -> Result<Vec<u8>, Status>
+    requires { length bytes.now < 2 ^ 32 - 1 }
+    ensures output { IfOk result (λ text. IsOutput bytes.now text.items) }
+    ensures refused { IfErr result (IsRefusal bytes.now) }
+    ensures first { (fault : _) (line : ℕ) → IsFirstFault bytes.now fault line
+        → IsRefusedAs result (Status.Script fault line) }
+    ensures unserved { IsUnserved bytes.now → IsRefusedAs result Status.NotBuilt }
+    ensures accepted { IsAccepted bytes.now → IfErr result (λ status. status ≡ Status.Memory) }
 {
-    let Some(script) = read_first(alloc, bytes)? else {
-        return Ok(None);
+    let script = match parse(alloc, bytes) {
+        Ok(script) => script,
+        Err(refusal) => return Err(status_of(refusal)),
     };
-    let list = run(alloc, &script)?;
-    let text = print_accesses(alloc, &list)?;
-    Ok(Some(text))
+    if !is_served(&script) {
+        return Err(Status::NotBuilt);
+    }
+    match script_output(alloc, &script) {
+        Ok(text) => Ok(text),
+        Err(AllocError) => Err(Status::Memory),
+    }
+}
+
+/// The status of a text that was refused.
+fn status_of(refusal: ScriptRefusal) -> Status
+    ensures { result ≡ status_of refusal }
+{
+    match refusal {
+        ScriptRefusal::At { fault, line } => Status::Script { fault, line },
+        ScriptRefusal::Memory => Status::Memory,
+    }
+}
+
+/// The output of a script that is served.
+fn script_output(alloc: Global, script: &Script) -> Result<Vec<u8>, AllocError>
+    requires script { IsScript script.now }
+    requires served { IsServed script.now }
+    ensures { IfOk result (λ text. IsOutputOf script.now text.items) }
+{
+    let results = run(alloc, script)?;
+    print_cpu(alloc, 0, &script.programs[0], &results)
 }

@@ -2,13 +2,11 @@
 #![tactic(auto)]
 
 mod call;
-mod print;
 mod run;
 pub mod status;
-mod words;
 
 pub use call::{nomad_main, one_output, plain_call};
-pub use status::{ScriptFault, Status};
+pub use status::Status;
 
 #[cfg(test)]
 mod tests;

@@ -1,53 +1,86 @@
-//! Running a first script on a machine.
+//! Running a script on a machine whose pages don't move.
 
-ghost use Rattle.std.specs.Prelude.{◌≡◌, ℕ, IfOk};
-ghost use Rattle.nm_first.specs.Script.{IsLine};
-ghost use Rattle.nm_flat.specs.Memory.{Memory, IsMemory, IsTrueOf, IsLegal, with_access};
-ghost use Rattle.nm_top.specs.Output.{FollowsProgram, access_of};
+ghost use Rattle.std.specs.Prelude.{◌≡◌, ◌↔◌, ◌<◌, IsTrue, IfOk};
+ghost use Rattle.std.specs.List.{AllByRecursion};
+ghost use Rattle.nm_script.specs.Script.{IsScript, IsAccess};
+ghost use Rattle.nm_report.specs.Summary.{IsNoAwait};
+ghost use Rattle.nm_top.specs.Output.{IsSerial, IsServed, IsRun};
+ghost use Rattle.nm_top.specs.Running.{Makes};
 
 use nm_core::Still;
-use nm_first::{FirstScript, Line};
-use nm_flat::{Access, AccessKind};
+use nm_report::LineResult;
+use nm_script::{Line, Schedule, Script};
 use std::alloc::{AllocError, Global};
 
-/// The accesses of a script's processor, in order.
-pub fn run(alloc: Global, script: &FirstScript) -> Result<Vec<Access>, AllocError>
-    ensures follows { IfOk result (λ list. FollowsProgram script.now.program list.items) }
-    ensures legal { IfOk result (λ list. IsLegal script.now.geometry list.items) }
+/// Whether a machine whose pages don't move can run the script.
+pub fn is_served(script: &Script) -> bool
+    requires { IsScript script.now }
+    ensures { IsTrue result ↔ IsServed script.now }
 {
-    let mut machine = Still::start(alloc, &script.geometry)?;
-    let mut list = Vec::with_capacity(alloc, script.program.len())?;
-    for line in &script.program {
-        let access = make_access(&mut machine, *line);
-        list.push(access)?;
-    }
-    Ok(list)
+    script.geometry.cpus == 1 && is_serial(&script.schedule) && has_no_await(&script.programs[0])
 }
 
-/// Makes the access of a line.
-fn make_access(machine: &mut Still<'_>, line: Line) -> Access
-    requires { IsLine machine.old.geometry line }
-    ensures geometry { machine.new.geometry ≡ machine.old.geometry }
-    ensures follows { (x : ℕ) × (result ≡ access_of line x) }
-    ensures truth { (m : Memory) → IsMemory machine.old.geometry machine.old.words m → IsTrueOf machine.old.geometry m result }
-    ensures memory { (m : Memory) → IsMemory machine.old.geometry machine.old.words m
-        → IsMemory machine.new.geometry machine.new.words (with_access machine.old.geometry m result) }
+/// Whether the actors take turns by number.
+fn is_serial(schedule: &Schedule) -> bool
+    ensures { IsTrue result ↔ IsSerial schedule.now }
+{
+    match schedule {
+        Schedule::Serial { .. } => true,
+        Schedule::Shuffle { .. } => false,
+        Schedule::Plan { .. } => false,
+    }
+}
+
+/// Whether no line is an await.
+fn has_no_await(program: &[Line]) -> bool
+    ensures { IsTrue result ↔ AllByRecursion IsNoAwait program.now }
+{
+    program.iter().all(|line| !is_await(*line))
+}
+
+/// Whether the line is an await.
+fn is_await(line: Line) -> bool
+    ensures { IsTrue result ↔ (IsNoAwait line → ⊥) }
 {
     match line {
-        Line::Load { v, w } => Access {
-            cpu: 0,
-            vpage: v,
-            word: w,
-            kind: AccessKind::Load(machine.load(v, w)),
-        },
+        Line::Load { .. } | Line::Store { .. } | Line::Add { .. } => false,
+        Line::Await { .. } => true,
+    }
+}
+
+/// What the lines of the script's processor give, in order.
+pub fn run(alloc: Global, script: &Script) -> Result<Vec<LineResult>, AllocError>
+    requires script { IsScript script.now }
+    requires served { IsServed script.now }
+    ensures { IfOk result (λ results. IsRun script.now results.items) }
+{
+    let mut machine = Still::start(alloc, &script.geometry)?;
+    let program = &script.programs[0];
+    let mut results = Vec::with_capacity(alloc, program.len())?;
+    for line in program {
+        let given = make_line(&mut machine, *line);
+        results.push(given)?;
+    }
+    Ok(results)
+}
+
+/// Makes a line on the machine, and tells what it gave.
+fn make_line(machine: &mut Still<'_>, line: Line) -> LineResult
+    requires access { IsAccess machine.old.geometry line }
+    requires no_await { IsNoAwait line }
+    ensures { Makes line result machine.old machine.new }
+{
+    match line {
+        Line::Load { v, w } => LineResult::Loaded(machine.load(v, w)),
         Line::Store { v, w, x } => {
             machine.store(v, w, x);
-            Access {
-                cpu: 0,
-                vpage: v,
-                word: w,
-                kind: AccessKind::Store(x),
-            }
+            LineResult::Stored
         }
+        Line::Add { v, w, x } => {
+            let had = machine.load(v, w);
+            machine.store(v, w, had.wrapping_add(x));
+            LineResult::Added(had)
+        }
+        Line::Await { .. } => unreachable!(),
     }
 }

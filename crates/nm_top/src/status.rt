@@ -3,14 +3,7 @@
 ghost use Rattle.std.specs.Prelude.{◌≡◌};
 ghost use Rattle.nm_top.specs.Answer.{number_of};
 
-/// Why a script is refused.
-#[derive(Clone, Copy, Debug, PartialEq, Eq)]
-pub enum ScriptFault {
-    /// More than 16,777,216 bytes were taken. Its line is 0.
-    TooLong,
-    /// The bytes are no first script, and nothing else is read yet. Its line is 0.
-    NotBuilt,
-}
+use nm_script::ScriptFault;
 
 /// How a call ended.
 #[derive(Clone, Copy, Debug, PartialEq, Eq)]
@@ -19,13 +12,15 @@ pub enum Status {
     Done,
     /// The words are none of the forms. Nothing was read or written.
     Usage,
-    /// The bytes that were read have this fault. Nothing was written.
+    /// The bytes that were read have this first fault. Nothing was written.
     Script {
-        /// The fault.
+        /// The fault. `TooLong` where more than 16,777,216 bytes were taken.
         fault: ScriptFault,
-        /// The line where it is, from 1, or 0 where it is in no line.
+        /// The line where it is, from 1, or 0 where it is `TooLong`.
         line: u32,
     },
+    /// The bytes that were read are a script that `sim` can't run yet. Nothing was written.
+    NotBuilt,
     /// A read failed. Nothing was written.
     ReadFault,
     /// A write failed. The sink holds a part of the output, not all of it, behind what it held.
@@ -42,7 +37,7 @@ impl Status {
         match self {
             Status::Done => 0,
             Status::Usage => 2,
-            Status::Script { .. } => 3,
+            Status::Script { .. } | Status::NotBuilt => 3,
             Status::ReadFault => 4,
             Status::WriteFault => 5,
             Status::Memory => 6,

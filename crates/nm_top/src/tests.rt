@@ -2,6 +2,7 @@
 
 use super::*;
 use nm_io::{MemSink, MemSource, Open};
+use nm_script::ScriptFault;
 use std::alloc::{AllocError, Global};
 use std::test::Fail;
 
@@ -11,8 +12,107 @@ const SMALLEST: &[u8] =
 const LAST_WORD: &[u8] =
     b"nomad 1\npage 4\ntiers 4 8\ncpus 1\nserial turns 1000\nmap 0 0 rw\ncpu 0\nstore 0.3 42\nload 0.3\nstore 0.3 18446744073709551615\nload 0.3\n";
 
+// Two virtual pages of one backing page, one of them to be read alone, no line of the schedule, and no last newline.
 const ALIASING: &[u8] =
-    b"nomad 1\npage 4\ntiers 4 8\ncpus 1\nserial turns 1000\nmap 0 0 rw\nmap 1 0 ro\ncpu 0\nstore 0.1 9\nload 1.1\n";
+    b"nomad 1\npage 4\ntiers 4 8\ncpus 1\nmap 1 0 ro\nmap 0 0 rw\ncpu 0\nstore 0.1 9\nload 1.1";
+
+// Three nodes in two tiers, a retry, pages of 512 words, and adds that wrap.
+const NODES: &[u8] =
+    b"nomad 2\nnode 127 4\nnode 128 10\nnode 0 1\ncpus 1\nretry 3\nserial turns 1000\nmap 7 4 rw\ncpu 0\nadd 7.511 18446744073709551615\nadd 7.511 2\nload 7.511\n";
+
+// Scripts that are not served: an await, two processors, a shuffle, a plan.
+const UNSERVED: [&[u8]; 4] = [
+    b"nomad 1\ntiers 4 8\ncpus 1\nmap 0 0 rw\ncpu 0\nawait 0.0 0 1\n",
+    b"nomad 1\ntiers 4 8\ncpus 2\nmap 0 0 rw\ncpu 0\ncpu 1\n",
+    b"nomad 1\ntiers 4 8\ncpus 1\nshuffle 7 turns 1000\nmap 0 0 rw\ncpu 0\n",
+    b"nomad 2\nnode 0 4\nnode 128 8\ncpus 1\nplan turns 10\ngo m lock 1\nmap 0 0 rw\ncpu 0\n",
+];
+
+// Each text with its first fault and the line of it.
+const FAULTS: [(&[u8], ScriptFault, u32); 22] = [
+    (b"", ScriptFault::Empty, 1),
+    (b"nomad 3\n", ScriptFault::BadHeader, 1),
+    (b"nomad 2\npage 4\ntiers 4 8\n", ScriptFault::BadLine, 3),
+    (b"nomad 1\npage 4\ntiers 4 ", ScriptFault::BadNumber, 3),
+    (b"nomad 1\npage 04\ntiers 4 8\n", ScriptFault::BadNumber, 2),
+    (b"nomad 1\npage 3\ntiers 4 8\n", ScriptFault::OutOfRange, 2),
+    (b"nomad 1\ntiers 1 4096\n", ScriptFault::OutOfRange, 2),
+    (
+        b"nomad 1\ntiers 4 8\ncpus 1\nmap 0 0 ro\ncpu 0\nstore 0.0 1\n",
+        ScriptFault::ReadOnly,
+        6,
+    ),
+    (
+        b"nomad 1\ntiers 4 8\ncpus 1\nmap 0 0 ro\ncpu 0\nadd 0.0 1\n",
+        ScriptFault::ReadOnly,
+        6,
+    ),
+    (
+        b"nomad 1\ntiers 4 8\ncpus 1\nmap 0 0 rw\ncpu 0\nload 1.0\n",
+        ScriptFault::Unmapped,
+        6,
+    ),
+    (
+        b"nomad 1\npage 4\ntiers 4 8\ncpus 1\nmap 0 0 rw\ncpu 0\nload 0.4\n",
+        ScriptFault::OutOfRange,
+        7,
+    ),
+    (
+        b"nomad 1\ntiers 4 8\ncpus 1\nmap 0 0 rw\ncpu 0\nload 0.0\nstore 0.0 18446744073709551616\n",
+        ScriptFault::BadNumber,
+        7,
+    ),
+    (
+        b"nomad 1\ntiers 4 8\ncpus 1\nmap 0 0 rw\ncpu 0\njump 0.0\n",
+        ScriptFault::BadLine,
+        6,
+    ),
+    (
+        b"nomad 1\ntiers 4 8\ncpus 1\nmap 0 0 rw\ncpu 0\n\n",
+        ScriptFault::BadLine,
+        6,
+    ),
+    (
+        b"nomad 1\ntiers 4 8\ncpus 1\nmap 0 0 rw\nmap 0 0 rw\n",
+        ScriptFault::DuplicateMap,
+        5,
+    ),
+    (
+        b"nomad 1\ntiers 4 8\ncpus 1\nmap 0 2 rw\n",
+        ScriptFault::TooManyPages,
+        4,
+    ),
+    (
+        b"nomad 1\ntiers 4 8\ncpus 1\nmap 0 0 rw\n",
+        ScriptFault::MissingLine,
+        5,
+    ),
+    (
+        b"nomad 1\ntiers 4 8\ncpus 1\nretry 3\n",
+        ScriptFault::BadLine,
+        4,
+    ),
+    (
+        b"nomad 2\nnode 0 1\nnode 128 1\nnode 256 1\nnode 384 1\nnode 512 1\n",
+        ScriptFault::TooManyTiers,
+        6,
+    ),
+    (
+        b"nomad 2\nnode 0 4\nnode 127 8\ncpus 1\n",
+        ScriptFault::TooFewTiers,
+        4,
+    ),
+    (
+        b"nomad 2\nnode 0 4\nnode 128 8\ncpus 1\nretry 1001\n",
+        ScriptFault::OutOfRange,
+        5,
+    ),
+    (
+        b"nomad 2\nnode 0 4\nnode 128 8\ncpus 1\ncpu 0\n",
+        ScriptFault::BadLine,
+        5,
+    ),
+];
 
 /// The words of a call.
 fn words(alloc: Global, texts: &[&str]) -> Result<Vec<String>, AllocError> {
@@ -24,14 +124,19 @@ fn words(alloc: Global, texts: &[&str]) -> Result<Vec<String>, AllocError> {
 }
 
 #[test]
-fn writes_the_accesses_of_first_scripts(rt: HostRuntime) -> Result<(), Fail> {
+fn writes_the_accesses(rt: HostRuntime) -> Result<(), Fail> {
     let alloc = rt.alloc();
     let sim = words(alloc, &["sim"])?;
-    let rows: [(&[u8], &[u8]); 2] = [
+    let rows: [(&[u8], &[u8]); 4] = [
         (SMALLEST, b"cpu 0\nload 0.0 0\n"),
         (
             LAST_WORD,
             b"cpu 0\nstore 0.3 42\nload 0.3 42\nstore 0.3 18446744073709551615\nload 0.3 18446744073709551615\n",
+        ),
+        (ALIASING, b"cpu 0\nstore 0.1 9\nload 1.1 9\n"),
+        (
+            NODES,
+            b"cpu 0\nadd 7.511 18446744073709551615 gave 0\nadd 7.511 2 gave 18446744073709551615\nload 7.511 1\n",
         ),
     ];
     for (script, want) in rows {
@@ -45,21 +150,45 @@ fn writes_the_accesses_of_first_scripts(rt: HostRuntime) -> Result<(), Fail> {
     Ok(())
 }
 
-#[test]
-fn answers_what_is_no_first_script(rt: HostRuntime) -> Result<(), Fail> {
-    let alloc = rt.alloc();
+/// What `sim` answers to a text, and how many bytes it wrote.
+fn answer_to(alloc: Global, text: &[u8]) -> Result<(Status, usize), Fail> {
     let sim = words(alloc, &["sim"])?;
-    for script in [ALIASING, &SMALLEST[..75], &SMALLEST[1..]] {
-        let mut source = MemSource::new(alloc, script, 16, &[])?;
-        let mut sink = MemSink::new(alloc, 1000, 16, &[])?;
-        let status = plain_call(alloc, &sim, &mut source, &mut sink);
-        let want = Status::Script {
-            fault: ScriptFault::NotBuilt,
-            line: 0,
-        };
-        assert_eq!(rt; status, want);
-        assert_eq!(rt; status.number(), 3);
-        assert!(rt; sink.bytes().is_empty());
+    let mut source = MemSource::new(alloc, text, 1 << 20, &[])?;
+    let mut sink = MemSink::new(alloc, 1000, 16, &[])?;
+    let status = plain_call(alloc, &sim, &mut source, &mut sink);
+    Ok((status, sink.bytes().len()))
+}
+
+#[test]
+fn answers_first_faults(rt: HostRuntime) -> Result<(), Fail> {
+    for (text, fault, line) in FAULTS {
+        let (status, written) = answer_to(rt.alloc(), text)?;
+        assert_eq!(rt; status, Status::Script { fault, line });
+        assert_eq!(rt; (status.number(), written), (3, 0));
+    }
+    Ok(())
+}
+
+#[test]
+fn answers_texts_that_are_too_long(rt: HostRuntime) -> Result<(), Fail> {
+    let mut text = Vec::from_elem(rt.alloc(), b'x', 16_777_216)?;
+    let (status, _) = answer_to(rt.alloc(), &text)?;
+    let fault = ScriptFault::BadHeader;
+    assert_eq!(rt; status, Status::Script { fault, line: 1 });
+    text.push(b'x')?;
+    let (status, written) = answer_to(rt.alloc(), &text)?;
+    let fault = ScriptFault::TooLong;
+    assert_eq!(rt; status, Status::Script { fault, line: 0 });
+    assert_eq!(rt; (status.number(), written), (3, 0));
+    Ok(())
+}
+
+#[test]
+fn answers_scripts_that_are_not_served(rt: HostRuntime) -> Result<(), Fail> {
+    for text in UNSERVED {
+        let (status, written) = answer_to(rt.alloc(), text)?;
+        assert_eq!(rt; status, Status::NotBuilt);
+        assert_eq!(rt; (status.number(), written), (3, 0));
     }
     Ok(())
 }
@@ -67,16 +196,23 @@ fn answers_what_is_no_first_script(rt: HostRuntime) -> Result<(), Fail> {
 #[test]
 fn answers_words_of_no_form(rt: HostRuntime) -> Result<(), Fail> {
     let alloc = rt.alloc();
-    let lists: [&[&str]; 9] = [
+    let lists: [&[&str]; 16] = [
         &[],
         &["simm"],
-        &["gen", "7"],
         &["sim", "x"],
+        &["sim", "sim"],
         &["-h"],
+        &["sim", "--help"],
+        &["help"],
+        &["help", "gen"],
+        &["gen"],
+        &["gen", "7"],
         &["gen", "07", "1"],
         &["gen", "7", "0"],
         &["gen", "7", "100001"],
-        &["drill", "7", "1"],
+        &["gen", "18446744073709551616", "1"],
+        &["gen", "7", "1", "1"],
+        &["drill", "7"],
     ];
     for list in lists {
         let list = words(alloc, list)?;

@@ -36,6 +36,7 @@ fn tell(rt: &impl Eprint, status: Status) -> io::Result<()> {
         Status::Done => Ok(()),
         Status::Usage => eprintln!(rt; "nomad: usage"),
         Status::Script { fault, line } => eprintln!(rt; "nomad: line {line}: {fault:?}"),
+        Status::NotBuilt => eprintln!(rt; "nomad: not built"),
         Status::ReadFault => eprintln!(rt; "nomad: read fault"),
         Status::WriteFault => eprintln!(rt; "nomad: write fault"),
         Status::Memory => eprintln!(rt; "nomad: memory"),

@@ -1,37 +1,23 @@
--- Each line of the program is run in turn.
-use Rattle.std.proofs.Common.{◌≡◌, ℕ, List, ◌<◌, length, get_or, sym, ◌∙◌, ap, subst, rules, arith}
-use Rattle.nm_base.specs.Geometry.{Geometry}
-use Rattle.nm_first.specs.declared.line.Line.{Line}
-use Rattle.nm_first.specs.declared.line.Line.TheVariants.{Load}
-use Rattle.nm_first.specs.Script.{IsLine}
-use Rattle.nm_top.specs.Output.{access_of}
-use Rattle.nm_top.proofs.Runs.{HasRun-start, HasRun-more, FollowsProgram-whole, line_at}
+-- Each line of the program is made in turn.
+use Rattle.std.proofs.Common.{◌≡◌, ◌<◌, ◌∙◌, length, get_or, ap, subst, rules}
+use Rattle.nm_script.specs.declared.script.Line.TheVariants.{Load}
+use Rattle.nm_top.specs.Output.{first_program}
+use Rattle.nm_top.proofs.Runs.{HasRun-start, HasRun-more, first-found}
 use Rattle.nm_top.proofs.run.run.Goals as goal
 
 pub loop-line-init : goal.loop-line-init
-loop-line-init c = record {
-  items = c.deref-line-items.ensures.value ∙ ap (λ s. s.program) c.script.view_is;
-  run = HasRun-start c.args.script.now.geometry c.args.script.now.program c.in_ok-machine.machine.geometry c.in_ok-machine.machine.words c.in_ok-list.list.items (search rules) (search rules) (search rules);
-}
-
-pub make_access-access-requires : goal.make_access-access-requires
-make_access-access-requires c =
-    let items = c.deref-line-items.ensures.value in
-    let within : c.loop-line.line-index < length c.script.inside.program.items = subst (λ (p : List Line). c.loop-line.line-index < length p) items c.loop-line-test.true in
-    let here : IsLine c.script.inside.geometry (get_or c.script.inside.program.items c.loop-line.line-index (Load 0 0)) = line_at c.script.inside.geometry c.script.inside.program.items c.loop-line.line-index (Load 0 0) c.script.invariant.1 within in
-    let there : IsLine c.script.inside.geometry (get_or c.deref-line-items.result.now c.loop-line.line-index (Load 0 0)) = subst (λ (p : List Line). IsLine c.script.inside.geometry (get_or p c.loop-line.line-index (Load 0 0))) (sym items) here in
-    let same : c.script.inside.geometry ≡ c.loop-line.machine.geometry = ap (λ s. s.geometry) c.script.view_is ∙ sym c.loop-line.invariant.run.geometry in
-    subst (λ (g : Geometry). IsLine g (get_or c.deref-line-items.result.now c.loop-line.line-index (Load 0 0))) same there
+loop-line-init c =
+    let at : c.index-program.result.now ≡ get_or c.script.inside.programs.items 0 c.index-program.result.now = search rules in
+    record {
+      items = c.deref-line-items.ensures.value ∙ first-found (λ p. p.items) c.script.inside.programs.items c.args.script.now c.index-program.result.now (ap (λ s. s.programs) c.script.view_is) c.requires.script at;
+      run = HasRun-start c.args.script.now.geometry (first_program c.args.script.now) c.in_ok-machine.machine c.in_ok-results.results.items (search rules) (search rules) (search rules);
+    }
 
 pub loop-line-preserved : goal.loop-line-preserved
 loop-line-preserved c =
-    let within : c.loop-line.line-index < length c.args.script.now.program = subst (λ (p : List Line). c.loop-line.line-index < length p) c.loop-line.invariant.items c.loop-line-test.true in
-    let follows = subst (λ (p : List Line). (x : ℕ) × (c.make_access-access.result ≡ access_of (get_or p c.loop-line.line-index (Load 0 0)) x)) c.loop-line.invariant.items c.make_access-access.ensures.follows in
+    let items = c.loop-line.invariant.items in
+    let within : c.loop-line.line-index < length (first_program c.args.script.now) = subst (λ (p : _). c.loop-line.line-index < length p) items c.loop-line-test.true in
     record {
-      items = c.loop-line.invariant.items;
-      run = HasRun-more c.args.script.now.geometry c.args.script.now.program c.loop-line.line-index c.loop-line.machine.geometry c.make_access-access.new.machine.geometry c.loop-line.machine.words c.make_access-access.new.machine.words c.loop-line.list.items c.push.new.self.items (Load 0 0) c.make_access-access.result within c.loop-line.invariant.run c.make_access-access.ensures.geometry follows c.make_access-access.ensures.truth c.make_access-access.ensures.memory (search rules);
+      items = items;
+      run = HasRun-more c.args.script.now.geometry (first_program c.args.script.now) c.loop-line.line-index c.loop-line.machine c.make_line-given.new.machine c.loop-line.results.items c.push.new.self.items (Load 0 0) c.make_line-given.result within c.loop-line.invariant.run (rw (← items) c.make_line-given.ensures) (search rules);
     }
-
-pub returns-clause-follows : goal.returns-clause-follows
-returns-clause-follows c =
-    FollowsProgram-whole c.args.script.now.geometry c.args.script.now.program c.loop-line.line-index c.loop-line.machine.geometry c.loop-line.machine.words c.loop-line.list.items (omega (arith, ap length c.loop-line.invariant.items)) c.loop-line.invariant.run

@@ -1,0 +1,76 @@
+-- From a command with its fields to the form of the words.
+use Rattle.std.proofs.Common.{◌≡◌, ◌≢◌, ℕ, ◌==◌, ◌≤◌, false, List, [], ◌∷◌, ◌↔◌, String, map, string_bytes, Option, Some, None, length, codes, refl, sym, ap, subst, ◌∙◌, inl, inr, arith}
+use Rattle.std.specs.declared.alloc.Global.{Global}
+use Rattle.std.proofs.lemmas.Fmt.{decimal_injective}
+use Rattle.std.proofs.lemmas.Bool.Decides.{eqb_tells}
+use Rattle.nm_text.specs.Numbers.{IsNumber}
+use Rattle.nm_text.specs.Cuts.{Lacks}
+use Rattle.nm_text.proofs.NumberLemmas.{decimal-lacks}
+use Rattle.nm_text.proofs.CutLemmas.{Lacks-first}
+use Rattle.nm_command.specs.declared.form.Form.{Form}
+use Rattle.nm_command.specs.declared.form.Form.TheVariants as forms
+use Rattle.nm_command.specs.Line.{Splits, is_refused}
+use Rattle.nm_command.specs.Words.{IsSim, IsGen, AreNumbers}
+
+-- a field is the spelling of one number
+pub same_number : (field : List ℕ) (m n : ℕ) → IsNumber field m → IsNumber field n → m ≡ n
+same_number field m n h k = decimal_injective m n h.0 k.0 (sym h.1 ∙ k.1)
+
+-- the form that was read is the one that two fields say
+pub form_is : (first second : List ℕ) (number size n s : ℕ) → IsNumber first number → IsNumber second size → 1 ≤ size → size ≤ 100000 → (Some (forms.Gen number size) ≡ Some (forms.Gen n s)) ↔ AreNumbers first second n s
+form_is first second number size n s f g low high = (
+  λ e.
+      let a : number ≡ n = cc in
+      let b : size ≡ s = cc in
+      record { is_number = subst (IsNumber first) a f; is_size = subst (IsNumber second) b g; low = omega (arith, b, low); high = omega (arith, b, high) },
+  λ h.
+      let a = same_number first number n f h.is_number in
+      let b = same_number second size s g h.is_size in
+      ap (λ m. Some (forms.Gen m size)) a ∙ ap (λ t. Some (forms.Gen n t)) b,
+)
+
+not_eq : (x y : ℕ) → x ≢ y → (x == y) ≡ false
+not_eq x y n = elim (eqb_tells x y) [ inl h ↦ absurd (n h.1) | inr h ↦ h.0 ]
+
+-- a number is no option, and not the word help
+plain_field : (field : List ℕ) → Lacks 45 field → Lacks 104 field → is_refused field ≡ false
+plain_field [] h k = refl
+plain_field (x ∷ xs) h k = rw (not_eq x 45 (Lacks-first 45 x xs h).0, not_eq x 104 (Lacks-first 104 x xs k).0) refl
+
+number_field : (field : List ℕ) (n : ℕ) → IsNumber field n → is_refused field ≡ false
+number_field field n h =
+    plain_field field (subst (Lacks 45) (sym h.1) (decimal-lacks n 45 h.0 refl)) (subst (Lacks 104) (sym h.1) (decimal-lacks n 104 h.0 refl))
+
+-- words with no command have no form
+pub none_sim : (words : List (String Global)) → Splits (map string_bytes words) None → IsSim words → ⊥
+none_sim words none h = (none (rw h (refl, tt))).0 h
+
+pub none_gen : (words : List (String Global)) (n s : ℕ) → Splits (map string_bytes words) None → IsGen words n s → ⊥
+none_gen words n s none h =
+    (none (rw h.are (refl, (number_field h.number n h.numbers.is_number, (number_field h.size s h.numbers.is_size, tt))))).1 h.number h.size h.are
+
+-- the texts behind the first, and the first of them
+abbrev rest_of : List (List ℕ) → List (List ℕ)
+rest_of [] = []
+rest_of (x ∷ xs) = xs
+
+abbrev head_of : List (List ℕ) → List ℕ
+head_of [] = []
+head_of (x ∷ xs) = x
+
+-- the word sim is no gen
+pub apart : (texts : List (List ℕ)) (a b : List ℕ) → texts ≡ codes "sim" ∷ [] → texts ≡ codes "gen" ∷ a ∷ b ∷ [] → ⊥
+apart texts a b h k =
+    let one : length texts ≡ 1 = ap length h in
+    let three : length texts ≡ 3 = ap length k in absurd (omega (arith, one, three))
+
+-- the fields that were read are those of the words
+pub gen_is : (words : List (String Global)) (r : Option Form) (number size : List ℕ) → map string_bytes words ≡ codes "gen" ∷ number ∷ size ∷ [] → ((n s : ℕ) → (r ≡ Some (forms.Gen n s)) ↔ AreNumbers number size n s) → (n s : ℕ) → (r ≡ Some (forms.Gen n s)) ↔ IsGen words n s
+gen_is words r number size are read n s = (
+  λ e. record { number = number; size = size; are = are; numbers = (read n s).0 e },
+  λ h.
+      let both = sym h.are ∙ are in
+      let first : h.number ≡ number = ap (λ t. head_of (rest_of t)) both in
+      let second : h.size ≡ size = ap (λ t. head_of (rest_of (rest_of t))) both in
+      (read n s).1 (subst (λ t. AreNumbers number t n s) second (subst (λ t. AreNumbers t h.size n s) first h.numbers)),
+)

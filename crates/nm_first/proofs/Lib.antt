@@ -1,4 +1,0 @@
-pub mod Fields
-pub mod Heads
-pub mod Programs
-pub mod Whole
