@@ -1,5 +1,5 @@
 -- Words of free frames.
-use Rattle.std.proofs.Common.{ℕ, ◌^◌, ◌<◌, ◌≤◌, ◌*◌, ◌+◌, ◌≡◌, Bool, true, false, nat_lt, refl, arith}
+use Rattle.std.proofs.Common.{ℕ, ◌^◌, ◌<◌, ◌*◌, ◌+◌, ◌≡◌, Bool, true, false, nat_lt, refl, arith}
 use Rattle.std.specs.Prelude.{slice_index}
 use Rattle.std.specs.Int.{bit_at}
 use Rattle.std.proofs.lemmas.Bool.{ltb-true, ltb-false}

@@ -7,10 +7,8 @@ ghost use Rattle.nm_shape.specs.Keyed.{IsKeyed};
 ghost use Rattle.nm_shape.specs.Ranged.{IsInRangeReply, IsNarrowWalk};
 
 use crate::advancing::advance;
-use nm_action::{AckTo, Action, Cell, Reply};
 use nm_base::{Geometry, VPage};
-use nm_permit::allowed;
-use nm_view::ActorView;
+use nm_event::{AckTo, Action, ActorView, Cell, Reply, allowed};
 use std::alloc::{AllocError, Global};
 use std::test::Fail;
 
