@@ -1,5 +1,5 @@
 -- Lists by numbers: what each change keeps.
-use Rattle.std.proofs.Common.{◌≡◌, ◌≢◌, ℕ, zero, suc, ◌+◌, ◌<◌, ◌≤◌, ◌==◌, if◌then◌else◌, Bool, true, false, List, [], ◌∷◌, ◌++◌, map, take, get_or, Option, Some, None, All, length, refl, sym, ap, ◌∙◌, arith}
+use Rattle.std.proofs.Common.{◌≡◌, ◌≢◌, ℕ, zero, suc, ◌+◌, ◌<◌, ◌≤◌, ◌==◌, if◌then◌else◌, Bool, true, false, List, [], ◌∷◌, ◌++◌, map, take, get_or, Option, Some, None, All, length, refl, sym, ap, subst, ◌∙◌, arith}
 use Rattle.std.specs.Prelude.{count_by}
 use Rattle.std.proofs.lemmas.List.Sums.{count_by_more_yes, count_by_more_no}
 use Rattle.std.specs.List.{filter}
@@ -182,4 +182,8 @@ pigeon_step key p bs d n xs lt rest o h false e =
 
 pub pigeon_among : {A B : Type 0} (key : A → ℕ) (p : B → Bool) (bs : List B) (d : B) (n : ℕ) (xs : List A) → n ≤ length bs → Once key xs → All (IsAmong key p bs d n) xs → length xs ≤ count_by p (take n bs)
 pigeon_among key p bs d zero xs lt o h = let none : length xs ≤ 0 = pigeon key zero xs o (all_same (IsAmong key p bs d zero) (λ x. key x < zero) xs (λ x i. i.below) h) in omega (arith, none)
-pigeon_among key p bs d (suc n) xs lt o h = pigeon_step key p bs d n xs (omega (arith, lt)) (λ ys oys hys. pigeon_among key p bs d n ys (omega (arith, lt)) oys hys) o h (p (get_or bs n d)) refl
+pigeon_among key p bs d (suc n) xs lt o h =
+    let few : length xs ≤ count_by p (take (n + 1) bs) = pigeon_step key p bs d n xs (omega (arith, lt)) (λ ys oys hys. pigeon_among key p bs d n ys (omega (arith, lt)) oys hys) o h (p (get_or bs n d)) refl in
+    let next : n + 1 ≡ suc n = omega arith in
+    let P : ℕ → Type 0 = λ k. length xs ≤ count_by p (take k bs) in
+    subst P next few
