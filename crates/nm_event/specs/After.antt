@@ -279,7 +279,7 @@ after_of g view (Walk v e write) Done = record view { cache = put cached_page (w
 after_of g view (Peek v) (Word n) = record view { peeked = put peeked_page (record { vpage = v; stamp = n; fresh = true }) view.peeked }
 after_of g view Poll (Word n) = record view { req_seen = n; peeked = map stale view.peeked }
 after_of g view (Ack to) Done = record view { acked = acked_word view to; cache = kept_entries view to }
-after_of g view (Lock b) Done = record view { ops = view.ops ++ opened b view.room.vpages ∷ [] }
+after_of g view (Lock b) Done = record view { ops = view.ops ++ opened b view.room.aliases ∷ [] }
 after_of g view (Unlock b) Done = record view { ops = erase page_of b view.ops; owned = spoiled b view.owned }
 after_of g view Bump (Word n) = record view { bumps = view.bumps + 1; ops = map (bumped_to (n + 1)) view.ops }
 after_of g view (SeeAck p) (Word n) = record view { ops = map (seen_at p n) view.ops }

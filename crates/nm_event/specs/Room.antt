@@ -25,7 +25,7 @@ pub record IsWithinRoom (view : View) : Type 0 where
   pub cache : length view.cache ≤ view.room.vpages
   pub peeked : length view.peeked ≤ view.room.vpages
   pub owned : length view.owned ≤ view.room.frames
-  pub ops : All (IsOpWithin view.room.vpages) view.ops
+  pub ops : All (IsOpWithin view.room.aliases) view.ops
 
 -- the view has room for a step: its lists are within their room before and after it
 pub record HasRoom (g : Geometry) (view : View) (action : Action) (reply : Reply) : Type 0 where

@@ -28,8 +28,8 @@ fn change_in(ops: &mut [OpenOp], page: u32, change: OpChange)
 
 /// Changes the operation on a page.
 pub(crate) fn change_op(view: &mut ActorView, page: u32, change: OpChange)
-    requires before { All (IsOpWithin view.old.room.vpages) view.old.ops }
-    requires after { All (IsOpWithin view.old.room.vpages) (edit page_of page (changed change) view.old.ops) }
+    requires before { All (IsOpWithin view.old.room.aliases) view.old.ops }
+    requires after { All (IsOpWithin view.old.room.aliases) (edit page_of page (changed change) view.old.ops) }
     ensures { view.new ≡ record view.old { ops = edit page_of page (changed change) view.old.ops } }
 {
     change_in(&mut view.ops, page, change);
@@ -37,8 +37,8 @@ pub(crate) fn change_op(view: &mut ActorView, page: u32, change: OpChange)
 
 /// Changes the operation on the backing page of a virtual page.
 pub(crate) fn change_op_of(g: &Geometry, view: &mut ActorView, vpage: u32, change: OpChange)
-    requires before { All (IsOpWithin view.old.room.vpages) view.old.ops }
-    requires after { All (IsOpWithin view.old.room.vpages) (edit_of g.now vpage (changed change) view.old.ops) }
+    requires before { All (IsOpWithin view.old.room.aliases) view.old.ops }
+    requires after { All (IsOpWithin view.old.room.aliases) (edit_of g.now vpage (changed change) view.old.ops) }
     ensures { view.new ≡ record view.old { ops = edit_of g.now vpage (changed change) view.old.ops } }
 {
     if let Some(page) = backing(g, vpage) {

@@ -38,12 +38,12 @@ keyed_ack g view Seen k = with_cache g (record view { acked = view.req_seen }) (
 keyed_ack g view Off k = with_cache g (record view { acked = acked_word view Off }) [] tt (none_left (λ e. IsVPage g e.vpage)) (with_counts g view view.req_seen view.bumps (acked_word view Off) view.raises k.bumps k.raises k)
 keyed_ack g view End k = with_cache g (record view { acked = acked_word view End }) [] tt (none_left (λ e. IsVPage g e.vpage)) (with_counts g view view.req_seen view.bumps (acked_word view End) view.raises k.bumps k.raises k)
 
-keyed_lock : (g : Geometry) (view : View) (b : ℕ) → IsPage g b → MayLock view b → IsKeyed g view → IsKeyed g (record view { ops = view.ops ++ opened b view.room.vpages ∷ [] })
+keyed_lock : (g : Geometry) (view : View) (b : ℕ) → IsPage g b → MayLock view b → IsKeyed g view → IsKeyed g (record view { ops = view.ops ++ opened b view.room.aliases ∷ [] })
 keyed_lock g view b p may k =
-    let new : Op = opened b view.room.vpages in
+    let new : Op = opened b view.room.aliases in
     with_ops g view (view.ops ++ new ∷ []) (rw (length-append view.ops (new ∷ [])) (omega (arith, may.few)))
     (once_join page_of new view.ops k.ops_once may.fresh)
-    (all_join (IsOpKeyed g) view.ops new k.ops (keyed_opened g b view.room.vpages p (ap (λ r. r.vpages) k.room))) k
+    (all_join (IsOpKeyed g) view.ops new k.ops (keyed_opened g b view.room.aliases p (ap (λ r. r.aliases) k.room))) k
 
 keyed_unlock : (g : Geometry) (view : View) (b : ℕ) → IsKeyed g view → IsKeyed g (record view { ops = erase page_of b view.ops })
 keyed_unlock g view b k = with_ops g view (erase page_of b view.ops) (omega (arith, length_erase page_of b view.ops, k.few)) (once_erase page_of b view.ops k.ops_once) (all_erase page_of (IsOpKeyed g) b view.ops k.ops) k

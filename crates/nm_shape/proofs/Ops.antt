@@ -9,7 +9,7 @@ use Rattle.nm_action.specs.declared.action.Cell.TheVariants.{Home, Shadow}
 use Rattle.nm_view.specs.Lists.{find, erase, put, first, itself}
 use Rattle.nm_view.specs.Views.{Op}
 use Rattle.nm_view.specs.Operations.{shadow_word}
-use Rattle.nm_view.specs.Opening.{opened}
+use Rattle.nm_view.specs.Opening.{most_aliases, opened}
 use Rattle.nm_view.specs.Named.{IsShadowName}
 use Rattle.nm_view.specs.Ranges.{IsPage, IsFrame}
 use Rattle.nm_view.proofs.Items.{all_join}
@@ -44,7 +44,7 @@ zero_below n = pow_pos n
 
 -- Changes of one operation.
 
-pub keyed_opened : (g : Geometry) (page room : ℕ) → IsPage g page → room ≡ length g.vpages → IsOpKeyed g (opened page room)
+pub keyed_opened : (g : Geometry) (page room : ℕ) → IsPage g page → room ≡ most_aliases g → IsOpKeyed g (opened page room)
 keyed_opened g page room p e = record { page = p; home = tt; shadow = tt; looked = own_none g page; taken = own_none g page; wet = numbers_none g page; raised = own_none g page; seen = zero_below g.cpus; copied = omega arith; room = e }
 
 pub keyed_looked : (g : Geometry) (v word : ℕ) (o : Op) → backing_page g v ≡ Some o.page → IsOpKeyed g o → IsOpKeyed g (looked_at v word o)

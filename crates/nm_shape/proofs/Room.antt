@@ -1,6 +1,7 @@
 -- The lists of a view whose numbers are in range are within their room.
-use Rattle.std.proofs.Common.{◌≡◌, ℕ, ◌+◌, ◌^◌, ◌<◌, ◌≤◌, inl, inr, List, Option, Some, None, All, length, refl, sym, subst, ap, arith}
-use Rattle.std.specs.Prelude.{count_ones, slice_index}
+use Rattle.std.proofs.Common.{◌≡◌, ◌≢◌, ℕ, zero, suc, ◌+◌, ◌^◌, ◌<◌, ◌≤◌, ◌==◌, Bool, true, false, inl, inr, List, take, get_or, Option, Some, None, All, length, refl, sym, subst, ap, arith}
+use Rattle.std.specs.Prelude.{count_ones, count_by, slice_index, option_map}
+use Rattle.std.proofs.lemmas.List.{take_all}
 use Rattle.std.specs.Option.{IfSome}
 use Rattle.std.proofs.lemmas.Grind.{common_steps}
 use Rattle.std.proofs.lemmas.Nat.{ones-le}
@@ -11,27 +12,47 @@ use Rattle.nm_action.specs.declared.action.Reply.{Reply}
 use Rattle.nm_action.specs.declared.action.Reply.TheVariants.{Done, Word, Busy, Lost}
 use Rattle.nm_action.specs.declared.action.Action.{Action}
 use Rattle.nm_action.specs.declared.action.Action.TheVariants.{Load, Store, Add, Look, Walk, Peek, Poll, Ack, Lock, Unlock, Bump, SeeAck, Raise, Soften, Arm, ClearDirty, Unmap, Map, Grant, CopyLoad, CopyStore, SetHome, SetShadow, TakeTurn, Scan, GiveFrame, PutFrame, ReleaseTurn, Mark, Read}
-use Rattle.nm_view.specs.Lists.{first, itself}
+use Rattle.nm_view.specs.Lists.{first, itself, Once}
 use Rattle.nm_view.specs.Views.{Op, View}
 use Rattle.nm_view.specs.Operations.{cached_page, peeked_page, owned_frame, op_on, free_words}
 use Rattle.nm_view.specs.Named.{IsShadowName}
-use Rattle.nm_view.specs.Ranges.{IsTier}
+use Rattle.nm_view.specs.Ranges.{IsTier, IsPage}
 use Rattle.nm_permit.specs.Permitted.{Allowed, MayScan}
 use Rattle.nm_event.specs.After.{known_home}
 use Rattle.nm_event.specs.Room.{IsOpWithin, IsWithinRoom, NumbersFit}
-use Rattle.nm_shape.specs.Keyed.{AreOwnPages, AreOwnNumbers, IsOpKeyed, IsOwnedInRange, IsKeyed}
+use Rattle.nm_shape.specs.Keyed.{IsOpKeyed, IsOwnedInRange, IsKeyed}
 use Rattle.nm_shape.specs.Ranged.{IsInRangeReply, IsNarrowWalk}
-use Rattle.nm_shape.proofs.Keys.{all_same, pigeon}
+use Rattle.nm_view.specs.Opening.{is_mapped_to, alias_count, most_below, most_aliases}
+use Rattle.nm_shape.proofs.Keys.{all_same, pigeon, IsAmong, pigeon_among}
 use Rattle.nm_shape.proofs.Done.{op_found, known_in_range, few_frames}
 
-backed : (vs : List (Option VPage)) (v b : ℕ) → backing_among vs v ≡ Some b → v < length vs
-backed vs v b e = grind (arith, common_steps)
+mapped : (o : Option VPage) (b : ℕ) → option_map (λ q. q.page) o ≡ Some b → is_mapped_to b o ≡ true
+mapped None b e = absurd (cc)
+mapped (Some q) b e = let same : q.page ≡ b = cc in rw same (grind arith)
 
-pages_within : (g : Geometry) (page : ℕ) (xs : List (ℕ × ℕ)) → AreOwnPages g page xs → length xs ≤ length g.vpages
-pages_within g page xs h = pigeon first (length g.vpages) xs h.once (all_same (λ p. backing_page g p.0 ≡ Some page) (λ p. p.0 < length g.vpages) xs (λ p e. backed g.vpages p.0 page e) h.own)
+within : (vs : List (Option VPage)) (v b : ℕ) → backing_among vs v ≡ Some b → v < length vs
+within vs v b e = grind (arith, common_steps)
 
-numbers_within : (g : Geometry) (page : ℕ) (xs : List ℕ) → AreOwnNumbers g page xs → length xs ≤ length g.vpages
-numbers_within g page xs h = pigeon itself (length g.vpages) xs h.once (all_same (λ v. backing_page g v ≡ Some page) (λ v. v < length g.vpages) xs (λ v e. backed g.vpages v page e) h.own)
+-- what has a virtual page of a backing page stands at one of its virtual pages
+backed : {A : Type 0} (key : A → ℕ) (vs : List (Option VPage)) (b : ℕ) (x : A) → backing_among vs (key x) ≡ Some b → IsAmong key (is_mapped_to b) vs None (length vs) x
+backed key vs b x e = record { below = within vs (key x) b e; passes = mapped (get_or vs (key x) None) b e }
+
+most_go : (vs : List (Option VPage)) (b n : ℕ) (t : Bool) → (b == n) ≡ t → b < suc n → ((k : ℕ) → k < n → alias_count vs k ≤ most_below vs n) → alias_count vs b ≤ most_below vs (suc n)
+most_go vs b n true e lt rest = let same : b ≡ n = grind (arith, e) in rw same (omega arith)
+most_go vs b n false e lt rest = let apart : b ≢ n = grind (arith, e) in let less : alias_count vs b ≤ most_below vs n = rest b (omega (arith, apart, lt)) in omega (arith, less)
+
+most_of : (vs : List (Option VPage)) (b n : ℕ) → b < n → alias_count vs b ≤ most_below vs n
+most_of vs b zero lt = let bad : ⊥ = omega (arith, lt) in absurd bad
+most_of vs b (suc n) lt = most_go vs b n (b == n) refl lt (λ k below. most_of vs k n below)
+
+few_aliases : {A : Type 0} (g : Geometry) (key : A → ℕ) (page : ℕ) (xs : List A) → IsPage g page → Once key xs → All (λ x. backing_page g (key x) ≡ Some page) xs → length xs ≤ most_aliases g
+few_aliases g key page xs is o h =
+    let among : All (IsAmong key (is_mapped_to page) g.vpages None (length g.vpages)) xs = all_same (λ x. backing_page g (key x) ≡ Some page) (IsAmong key (is_mapped_to page) g.vpages None (length g.vpages)) xs (λ x e. backed key g.vpages page x e) h in
+    let all : take (length g.vpages) g.vpages ≡ g.vpages = take_all (length g.vpages) g.vpages (omega arith) in
+    let few : length xs ≤ count_by (is_mapped_to page) (take (length g.vpages) g.vpages) = pigeon_among key (is_mapped_to page) g.vpages None (length g.vpages) xs (omega arith) o among in
+    let most : alias_count g.vpages page ≤ most_aliases g = most_of g.vpages page (page_count g) is in
+    let same : count_by (is_mapped_to page) (take (length g.vpages) g.vpages) ≡ alias_count g.vpages page = ap (λ vs. count_by (is_mapped_to page) vs) all in
+    omega (arith, few, most, same)
 
 few_words : (g : Geometry) → IsGeometry g → g.words < 1024
 few_words g is = let size = is.ranges.0 in let lt : 2 ^ size.0 < 2 ^ 10 = pow-lt {i = size.0} {j = 10} (omega (arith, size.1)) in omega (arith, lt, size.2)
@@ -47,12 +68,12 @@ shadow_fits : (g : Geometry) (word : Option ℕ) → IsGeometry g → IfSome wor
 shadow_fits g None is h = tt
 shadow_fits g (Some w) is h = named_fits g w is h
 
-op_within : (g : Geometry) (o : Op) → IsGeometry g → IsOpKeyed g o → IsOpWithin (length g.vpages) o
+op_within : (g : Geometry) (o : Op) → IsGeometry g → IsOpKeyed g o → IsOpWithin (most_aliases g) o
 op_within g o is k = record {
-  looked = pages_within g o.page o.looked k.looked;
-  taken = pages_within g o.page o.taken k.taken;
-  wet = numbers_within g o.page o.wet k.wet;
-  raised = pages_within g o.page o.raised k.raised;
+  looked = few_aliases g first o.page o.looked k.page k.looked.once k.looked.own;
+  taken = few_aliases g first o.page o.taken k.page k.taken.once k.taken.own;
+  wet = few_aliases g itself o.page o.wet k.page k.wet.once k.wet.own;
+  raised = few_aliases g first o.page o.raised k.page k.raised.once k.raised.own;
   room = k.room;
   copied = omega (arith, few_words g is, k.copied);
   shadow = shadow_fits g o.shadow is k.shadow;
@@ -61,13 +82,14 @@ op_within g o is k = record {
 pub within_room : (g : Geometry) (view : View) → IsGeometry g → IsKeyed g view → IsWithinRoom view
 within_room g view is k =
     let vpages : view.room.vpages ≡ length g.vpages = ap (λ r. r.vpages) k.room in
+    let aliases : view.room.aliases ≡ most_aliases g = ap (λ r. r.aliases) k.room in
     let frames : view.room.frames ≡ frame_count g = ap (λ r. r.frames) k.room in
     let P : ℕ → Type 0 = λ n. All (IsOpWithin n) view.ops in
     record {
       cache = rw vpages (pigeon cached_page (length g.vpages) view.cache k.cache_once k.cache);
       peeked = rw vpages (pigeon peeked_page (length g.vpages) view.peeked k.peeked_once k.peeked);
       owned = rw frames (pigeon owned_frame (frame_count g) view.owned k.owned_once (all_same (IsOwnedInRange g) (λ w. w.frame < frame_count g) view.owned (λ w h. h.frame) k.owned));
-      ops = subst P (sym vpages) (all_same (IsOpKeyed g) (IsOpWithin (length g.vpages)) view.ops (λ o h. op_within g o is h) k.ops);
+      ops = subst P (sym aliases) (all_same (IsOpKeyed g) (IsOpWithin (most_aliases g)) view.ops (λ o h. op_within g o is h) k.ops);
     }
 
 -- Numbers.

@@ -10,7 +10,7 @@ use Rattle.nm_view.specs.Views.{Op, View, most_ops}
 use Rattle.nm_view.specs.Operations.{page_of, cached_page, peeked_page, owned_frame, free_words}
 use Rattle.nm_view.specs.Named.{IsShadowName}
 use Rattle.nm_view.specs.Ranges.{IsPage, IsVPage, IsFrame, IsTier}
-use Rattle.nm_view.specs.Opening.{unscanned, room_of, IsActor}
+use Rattle.nm_view.specs.Opening.{unscanned, most_aliases, room_of, IsActor}
 
 -- items by virtual pages of a backing page, none of them twice
 pub record AreOwnPages (g : Geometry) (page : ℕ) (pairs : List (ℕ × ℕ)) : Type 0 where
@@ -33,7 +33,7 @@ pub record IsOpKeyed (g : Geometry) (o : Op) : Type 0 where
   pub raised : AreOwnPages g o.page o.raised
   pub seen : o.seen < 2 ^ g.cpus
   pub copied : o.copied ≤ g.words
-  pub room : o.room ≡ length g.vpages
+  pub room : o.room ≡ most_aliases g
 
 -- the numbers of a fill are in range
 abbrev pub IsFillInRange : Geometry → Fill → Type 0

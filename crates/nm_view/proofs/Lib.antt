@@ -1,3 +1,4 @@
+pub mod Aliases
 mod Closing
 pub mod Items
 mod Known

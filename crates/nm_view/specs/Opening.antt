@@ -1,6 +1,7 @@
 -- Views and operations at their beginning.
-use Rattle.std.specs.Prelude.{ℕ, ◌+◌, ◌<◌, false, [], length, None}
-use Rattle.nm_base.specs.Geometry.{Geometry, frame_count}
+use Rattle.std.specs.Prelude.{◌≡◌, ℕ, zero, suc, ◌+◌, ◌<◌, ◌==◌, max, Bool, false, List, [], length, count_by, slice_index, slice_set, Option, Some, None}
+use Rattle.nm_base.specs.Geometry.{Geometry, page_count, frame_count}
+use Rattle.nm_base.specs.declared.geometry.VPage.{VPage}
 use Rattle.nm_view.specs.declared.view.Phase.TheVariants.{Held}
 use Rattle.nm_view.specs.declared.view.Scanned.{Scanned}
 use Rattle.nm_view.specs.declared.view.Room.{Room}
@@ -31,9 +32,27 @@ opened page room = record {
 abbrev pub unscanned : Scanned
 unscanned = record { words = 0; sum = 0; least = None }
 
+-- a virtual page is mapped to a backing page
+abbrev pub is_mapped_to : ℕ → Option VPage → Bool
+is_mapped_to page None = false
+is_mapped_to page (Some p) = p.page == page
+
+-- how many virtual pages of a list are mapped to a backing page
+abbrev pub alias_count : List (Option VPage) → ℕ → ℕ
+alias_count vs page = count_by (is_mapped_to page) vs
+
+-- the most virtual pages that one of the backing pages below n has
+abbrev pub most_below : List (Option VPage) → ℕ → ℕ
+most_below vs zero = 0
+most_below vs (suc n) = max (alias_count vs n) (most_below vs n)
+
+-- the most virtual pages that one backing page has
+abbrev pub most_aliases : Geometry → ℕ
+most_aliases g = most_below g.vpages (page_count g)
+
 -- for how much the lists of each view have room
 abbrev pub room_of : Geometry → Room
-room_of g = record { vpages = length g.vpages; frames = frame_count g }
+room_of g = record { vpages = length g.vpages; aliases = most_aliases g; frames = frame_count g }
 
 -- the view of an actor that has made no step
 abbrev pub opening : Geometry → ℕ → View
@@ -55,3 +74,13 @@ opening g number = record {
 -- there is such an actor: a processor, the migrator or the reclaimer
 abbrev pub IsActor : Geometry → ℕ → Type 0
 IsActor g number = number < g.cpus + 2
+
+-- one more virtual page of a backing page is counted, if there is such a page
+abbrev pub counted : Option ℕ → List ℕ → List ℕ
+counted None counts = counts
+counted (Some page) counts = slice_set counts page (slice_index counts page + 1)
+
+-- a count for each of so many backing pages: how many virtual pages of a list are mapped to it
+pub record HasCounts (counts : List ℕ) (vs : List (Option VPage)) (pages : ℕ) : Type 0 where
+  pub size : length counts ≡ pages
+  pub each : (b : ℕ) → b < pages → slice_index counts b ≡ alias_count vs b

@@ -66,18 +66,18 @@ fn shelve(ops: &mut Vec<OpenOp>, closed: &mut Vec<OpenOp>, page: u32, room: usiz
 /// Opens an operation on a page.
 pub fn open_op(view: &mut ActorView, page: u32)
     requires { length view.old.ops < most_ops }
-    ensures { view.new ≡ record view.old { ops = view.old.ops ++ opened page view.old.room.vpages ∷ [] } }
+    ensures { view.new ≡ record view.old { ops = view.old.ops ++ opened page view.old.room.aliases ∷ [] } }
 {
-    let room = view.room.vpages;
+    let room = view.room.aliases;
     let op = reopened(&mut view.closed, page, room);
     view.ops.push_reserved(op);
 }
 
 /// Closes the operation on a page.
 pub fn close_op(view: &mut ActorView, page: u32)
-    requires { All (λ o. o.room ≡ view.old.room.vpages) view.old.ops }
+    requires { All (λ o. o.room ≡ view.old.room.aliases) view.old.ops }
     ensures { view.new ≡ record view.old { ops = erase page_of page view.old.ops } }
 {
-    let room = view.room.vpages;
+    let room = view.room.aliases;
     shelve(&mut view.ops, &mut view.closed, page, room);
 }

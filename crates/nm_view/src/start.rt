@@ -1,9 +1,11 @@
 //! Opening views.
 
-ghost use Rattle.std.specs.Prelude.{◌≡◌, ◌≤◌, All, IfOk, length, vec_capacity};
+ghost use Rattle.std.specs.Prelude.{◌≡◌, ◌≤◌, ◌<◌, ◌^◌, All, IfOk, IfSome, length, slice_index, vec_capacity};
 ghost use Rattle.nm_view.specs.Views.{most_ops};
-ghost use Rattle.nm_view.specs.Opening.{opened, opening, IsActor};
+ghost use Rattle.nm_view.specs.Opening.{opened, opening, counted, most_aliases, HasCounts, IsActor};
+ghost use Rattle.nm_base.specs.Geometry.{page_count};
 
+use crate::reading::backing;
 use crate::view::{ActorView, MOST_OPS, OFF, OpenOp, Phase, Room, Scanned};
 use nm_base::Geometry;
 use std::alloc::{AllocError, Global};
@@ -59,6 +61,40 @@ pub const UNSCANNED: Scanned = Scanned {
     least: None,
 };
 
+/// Counts one more virtual page of a backing page, if there is such a page.
+fn count_alias(counts: &mut Vec<usize>, page: Option<u32>)
+    requires within { IfSome page (λ b. b < length counts.old.items) }
+    requires few { (b : _) → slice_index counts.old.items b < 2 ^ 63 }
+    ensures { counts.new.items ≡ counted page counts.old.items }
+{
+    if let Some(page) = page {
+        counts[page as usize] += 1;
+    }
+}
+
+/// How many virtual pages each backing page has.
+fn alias_counts(alloc: Global, g: &Geometry) -> Result<Vec<usize>, AllocError>
+    ensures { IfOk result (λ counts. HasCounts counts.items g.now.vpages (page_count g.now)) }
+{
+    let mut counts = vec![in alloc; 0; g.pages() as usize]?;
+    for v in 0..g.vpages.len() {
+        count_alias(&mut counts, backing(g, v as u32));
+    }
+    Ok(counts)
+}
+
+/// The most virtual pages that one backing page has. `AllocError` comes where there is no memory to count them.
+fn most_aliases(alloc: Global, g: &Geometry) -> Result<usize, AllocError>
+    ensures { IfOk result (λ n. n ≡ most_aliases g.now) }
+{
+    let counts = alias_counts(alloc, g)?;
+    let mut most = 0;
+    for page in 0..g.pages() {
+        most = counts[page as usize].max(most);
+    }
+    Ok(most)
+}
+
 impl ActorView {
     /// The view of an actor that has made no step, with room for all that it may hold. The actor is a processor, or
     /// the migrator or the reclaimer, which come after the processors.
@@ -68,13 +104,14 @@ impl ActorView {
     {
         let room = Room {
             vpages: g.vpages.len(),
+            aliases: most_aliases(alloc, g)?,
             frames: g.frames() as usize,
         };
         let cache = Vec::with_capacity(alloc, room.vpages)?;
         let peeked = Vec::with_capacity(alloc, room.vpages)?;
         let owned = Vec::with_capacity(alloc, room.frames)?;
         let ops = Vec::with_capacity(alloc, MOST_OPS)?;
-        let closed = closed_ops(alloc, room.vpages)?;
+        let closed = closed_ops(alloc, room.aliases)?;
         Ok(ActorView {
             number,
             cache,

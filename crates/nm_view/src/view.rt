@@ -80,8 +80,10 @@ pub struct Scanned {
 /// For how much the lists of a view have room.
 #[derive(Clone, Copy, Debug, PartialEq, Eq)]
 pub struct Room {
-    /// Virtual pages in each list of virtual pages.
+    /// Virtual pages of the machine: cached ones, and peeked ones.
     pub vpages: usize,
+    /// The most virtual pages that one backing page has: those in each list of an operation.
+    pub aliases: usize,
     /// Owned frames.
     pub frames: usize,
 }
@@ -207,5 +209,5 @@ impl Model for ActorView {
     ghost invariant = { λ v. (v.room.vpages ≤ vec_capacity v.cache) × (v.room.vpages ≤ vec_capacity v.peeked)
         × (v.room.frames ≤ vec_capacity v.owned) × (most_ops ≤ vec_capacity v.ops) × (most_ops ≤ vec_capacity v.closed)
         × (length v.ops.items + length v.closed.items ≡ most_ops)
-        × All (λ o. o.room ≡ v.room.vpages) v.closed.items };
+        × All (λ o. o.room ≡ v.room.aliases) v.closed.items };
 }
