@@ -1,0 +1,6 @@
+//! What the parts of an actor's work, the actors, and the machine under them promise each other.
+#![tactic(auto)]
+
+pub mod part;
+
+pub use part::Part;

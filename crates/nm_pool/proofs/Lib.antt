@@ -1,0 +1,6 @@
+pub mod Lists
+pub mod Scans
+pub mod Views
+pub mod Begun
+pub mod Steps
+pub mod Played

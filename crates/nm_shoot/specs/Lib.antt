@@ -1,0 +1,3 @@
+pub mod Shootdown
+pub mod Flushed
+pub mod Asking

@@ -1,0 +1,124 @@
+//! The shootdown as a part of an actor's work.
+
+ghost use Rattle.std.specs.Prelude.{◌≡◌, ◌≤◌};
+ghost use Rattle.nm_shoot.specs.Asking.{ask, cpus_of, IsNew};
+
+use nm_event::{Action, Reply, Step};
+use nm_part::Part;
+
+/// How far a shootdown has come.
+#[derive(Clone, Copy, Debug, PartialEq, Eq)]
+pub(crate) enum Stage {
+    /// It has not begun.
+    New,
+    /// It has bumped.
+    Bumping,
+    /// It has asked this processor for an acknowledgement of at least this number.
+    Seeing { cpu: u32, number: u64 },
+}
+
+/// A shootdown: it bumps, and then reads each processor's acknowledgement, in order, each again until it is at least the
+/// number drawn, which is its outcome.
+#[derive(Clone, Copy, Debug, PartialEq, Eq)]
+pub struct Shoot {
+    cpus: u32,
+    stage: Stage,
+}
+
+impl Shoot {
+    /// A shootdown of all processors. Conditions where it begins: there are so many processors, the view's bumps are
+    /// below 2^56, and no due operation of the view has a wet page.
+    pub fn new(cpus: u32) -> Shoot
+        ensures made { cpus_of result ≡ cpus }
+        ensures new { IsNew result }
+    {
+        Shoot {
+            cpus,
+            stage: Stage::New,
+        }
+    }
+
+    /// Asks a processor, or is over where there is none left.
+    fn see(&mut self, cpu: u32, number: u64) -> Step<u64>
+        ensures stage { self.new ≡ record self.old { stage = Stage.Seeing cpu number } }
+        ensures step { result ≡ ask self.old.cpus cpu number }
+    {
+        self.stage = Stage::Seeing { cpu, number };
+        if cpu < self.cpus {
+            Step::Do(Action::SeeAck { cpu })
+        } else {
+            Step::Over(number)
+        }
+    }
+}
+
+impl Part for Shoot {
+    type Outcome = u64;
+
+    type Made = u32;
+
+    ghost use Rattle.nm_shoot.specs.Shootdown.{IsShootdown};
+    ghost use Rattle.nm_shoot.specs.Flushed.{MayShoot, IsFlushed};
+    ghost use Rattle.nm_shoot.specs.Asking.{cpus_of, IsNew, Awaits};
+
+    ghost made = { cpus_of };
+
+    ghost is_new = { IsNew };
+
+    ghost may_begin = { MayShoot };
+
+    ghost shape = { λ cpus g own number. IsShootdown cpus own number };
+
+    ghost leaves = { λ cpus g view number left. IsFlushed g view number left };
+
+    ghost awaits = { Awaits };
+
+    fn first(&mut self) -> Step<u64> {
+        self.stage = Stage::Bumping;
+        Step::Do(Action::Bump)
+    }
+
+    fn after(&mut self, reply: Reply) -> Step<u64> {
+        let Reply::Word(word) = reply else {
+            unreachable!()
+        };
+        match self.stage {
+            Stage::New => unreachable!(),
+            Stage::Bumping => self.see(0, word + 1),
+            Stage::Seeing { cpu, number } => if word < number {
+                self.see(cpu, number)
+            } else {
+                self.see(cpu + 1, number)
+            },
+        }
+    }
+}
+
+#[cfg(test)]
+mod tests {
+    use super::*;
+    use nm_base::{Geometry, VPage};
+    use std::test::Fail;
+
+    // On a machine of one processor, which acknowledges late.
+    #[test]
+    fn waits_for_the_number_drawn(rt: HostRuntime) -> Result<(), Fail> {
+        let vpage = VPage {
+            page: 0,
+            writable: true,
+        };
+        let g = Geometry::new(rt.alloc(), 4, &[4, 8], 1, &[Some(vpage)])?;
+        let mut shoot = Shoot::new(g.cpus);
+        let Step::Do(Action::Bump) = shoot.first() else {
+            panic!(rt; "no bump")
+        };
+        let Step::Do(Action::SeeAck { cpu: 0 }) = shoot.after(Reply::Word(0)) else {
+            panic!(rt; "not asked")
+        };
+        let Step::Do(Action::SeeAck { cpu: 0 }) = shoot.after(Reply::Word(0)) else {
+            panic!(rt; "not asked again")
+        };
+        assert_eq!(rt; shoot.after(Reply::Word(1)), Step::Over(1));
+        Ok(())
+    }
+}
