@@ -1,0 +1,4 @@
+pub mod Exchanges
+pub mod Names
+pub mod Ranged
+pub mod Words
