@@ -5,6 +5,8 @@ pub mod ends;
 pub mod machine;
 mod reading;
 pub mod state;
+#[cfg(test)]
+mod tests;
 
 pub use ends::{EndWords, Role};
 pub use machine::Still;

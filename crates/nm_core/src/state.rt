@@ -126,6 +126,14 @@ impl State {
         })
     }
 
+    /// The geometry of the machine.
+    pub fn geometry(&self) -> &Geometry
+        ensures same { result.now ≡ self.now.geometry }
+        ensures kept { IsKept self.now }
+    {
+        &self.geometry
+    }
+
     /// Makes one step of an actor: the exchange of the action, and the change of the actor's view by the reply. It
     /// takes no memory.
     ///
@@ -140,6 +148,8 @@ impl State {
         ensures busy { (w : ℕ) → (result ≡ Reply.Busy w) ↔ IsBusyWith self.old actor action w }
         ensures lost { (w : ℕ) → (result ≡ Reply.Lost w) ↔ IsLostTo self.old actor action w }
         ensures refused { IsRefusal result → self.new ≡ self.old }
+        ensures before { IsKept self.old }
+        ensures after { IsKept self.new }
     {
         make_step(
             &self.geometry,
