@@ -1,7 +1,5 @@
 //! Steps by hand.
 
-ghost use Rattle.std.specs.Prelude.{◌≡◌};
-
 use crate::{EndWords, Role, State};
 use nm_action::{AckTo, Action, Bit, Cell, Reply};
 use nm_base::{Geometry, VPage};
@@ -38,6 +36,44 @@ fn make_all(rt: &impl Abort, state: &mut State, actor: u32, steps: &[(Action, Re
     for (action, reply) in steps {
         assert_eq!(rt; make(state, actor, *action), Some(*reply), "{action:?}");
     }
+}
+
+/// The role of a frame that exists.
+fn role(state: &State, frame: u32) -> Option<Role> {
+    if frame >= state.geometry().frames() {
+        return None;
+    }
+    Some(state.role(frame))
+}
+
+/// The page and the shadow of a frame that exists, if it is a master.
+fn shadow(state: &State, frame: u32) -> Option<(u32, u32)> {
+    if frame >= state.geometry().frames() {
+        return None;
+    }
+    state.shadow(frame)
+}
+
+/// The home and the mark of a page that exists.
+fn page(state: &State, page: u32) -> Option<(Option<u32>, u64)> {
+    if page >= state.geometry().pages() {
+        return None;
+    }
+    Some((state.home(page), state.mark(page)))
+}
+
+/// Writes the end words, where there is room for them.
+fn write_end(state: &State, end: &mut EndWords) -> bool {
+    let pages = state.geometry().pages() as usize;
+    let frames = state.geometry().frames() as usize;
+    if end.homes.len() != pages || end.marks.len() != pages {
+        return false;
+    }
+    if end.shadows.len() != frames || end.roles.len() != frames {
+        return false;
+    }
+    state.end_words(end);
+    true
 }
 
 /// A lock that is held answers Busy, and a mark that is another answers Lost; both stay as they were.
@@ -398,29 +434,26 @@ fn promotion_by_hand(rt: HostRuntime) -> Result<(), Fail> {
     demand(&rt, &mut state, 1, 2, 1023, 0x2005);
     clear(&rt, &mut state);
     copy(&rt, &mut state);
-    state.end_words(&mut end);
+    assert!(rt; write_end(&state, &mut end));
     assert_eq!(rt; end.homes.as_slice(), [Some(2)].as_slice());
     assert_eq!(rt; end.roles.first().copied(), Some(Role::Held));
     assert_eq!(rt; end.settled, false);
     commit(&rt, &mut state);
+    assert_eq!(rt; page(&state, 0), Some((Some(0), 0)));
     assert_eq!(rt;
-        (state.home(0), state.shadow(0), state.mark(0)),
-        (Some(0), Some((0, 2)), 0)
+        (shadow(&state, 0), shadow(&state, 2)),
+        (Some((0, 2)), None)
     );
-    assert_eq!(rt; state.shadow(2), None);
-    assert_eq!(rt;
-        (state.role(0), state.role(1), state.role(2)),
-        (Role::Mapped, Role::Free, Role::Shadow)
-    );
-    state.end_words(&mut end);
-    assert_eq!(rt; end.settled, false);
+    assert_eq!(rt; role(&state, 0), Some(Role::Mapped));
+    assert_eq!(rt; role(&state, 1), Some(Role::Free));
+    assert_eq!(rt; role(&state, 2), Some(Role::Shadow));
     make_all(
         &rt,
         &mut state,
         0,
         &[(Action::Ack { to: AckTo::End }, Reply::Done)],
     );
-    state.end_words(&mut end);
+    assert!(rt; write_end(&state, &mut end));
     assert_eq!(rt; end.homes.as_slice(), [Some(0)].as_slice());
     assert_eq!(rt; end.shadows.first().copied(), Some(Some((0, 2))));
     assert_eq!(rt; end.marks.as_slice(), [0].as_slice());

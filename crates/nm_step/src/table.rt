@@ -272,3 +272,41 @@ pub fn reply_of(action: Action, word: u64) -> Reply
         Action::Read { .. } => Reply::Word(word),
     }
 }
+
+#[cfg(test)]
+mod tests {
+    use super::*;
+    use nm_base::VPage;
+    use std::test::Fail;
+
+    #[test]
+    fn reads_rows(rt: HostRuntime) -> Result<(), Fail> {
+        let vpage = Some(VPage {
+            page: 0,
+            writable: true,
+        });
+        let g = Geometry::new(rt.alloc(), 4, &[4, 70], 1, &[vpage])?;
+        let view = ActorView::start(rt.alloc(), &g, 1)?;
+        let lock = Action::Lock { page: 0 };
+        assert_eq!(rt; where_of(&g, &view, lock), Where::Lock(0));
+        assert_eq!(rt; change_of(&g, &view, lock), Change::IfIs(0, 2));
+        assert_eq!(rt;
+            (reply_of(lock, 0), reply_of(lock, 1)),
+            (Reply::Done, Reply::Busy(1))
+        );
+        let give = Action::GiveFrame { frame: 70 };
+        assert_eq!(rt; where_of(&g, &view, give), Where::Free(1, 1));
+        assert_eq!(rt; change_of(&g, &view, give), Change::And(u64::MAX - 4));
+        let walk = Action::Walk {
+            vpage: 0,
+            expect: 5,
+            write: true,
+        };
+        assert_eq!(rt; change_of(&g, &view, walk), Change::IfIs(5, 29));
+        assert_eq!(rt;
+            (reply_of(walk, 5), reply_of(walk, 0)),
+            (Reply::Done, Reply::Lost(0))
+        );
+        Ok(())
+    }
+}

@@ -6,5 +6,5 @@ pub mod names;
 pub mod store;
 
 pub use exchanges::Change;
-pub use names::Where;
+pub use names::{Where, is_place};
 pub use store::Words;

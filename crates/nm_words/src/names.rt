@@ -1,10 +1,11 @@
 //! The names of the machine's words.
 
-ghost use Rattle.std.specs.Prelude.{◌≡◌, ◌<◌, ◌≤◌, ◌+◌, ◌*◌, sum_by, length};
+ghost use Rattle.std.specs.Prelude.{◌≡◌, ◌↔◌, IsTrue, ◌<◌, ◌≤◌, ◌+◌, ◌*◌, sum_by, length};
 ghost use Rattle.nm_base.specs.Geometry.{frame_count};
 ghost use Rattle.nm_words.specs.Names.{IsPlace, words_for, first_free, free_count, free_place, mem_place};
 
 use nm_base::Geometry;
+use nm_view::reading::free_words;
 
 /// The name of a 64-bit word of the machine. Virtual pages, backing pages, frames, processors and tiers go by their
 /// numbers.
@@ -32,6 +33,25 @@ pub enum Where {
     Free(u32, u32),
     /// Of a frame, a word of its memory.
     Mem(u32, u32),
+}
+
+/// Whether a machine of this geometry has a word.
+pub fn is_place(g: &Geometry, place: Where) -> bool
+    ensures { IsTrue result ↔ IsPlace g.now place }
+{
+    match place {
+        Where::Req => true,
+        Where::Pte(vpage) => (vpage as usize) < g.vpages.len(),
+        Where::Stamp(vpage) => (vpage as usize) < g.vpages.len(),
+        Where::Home(page) => page < g.pages(),
+        Where::Shadow(frame) => frame < g.frames(),
+        Where::Lock(page) => page < g.pages(),
+        Where::Mark(page) => page < g.pages(),
+        Where::Ack(cpu) => cpu < g.cpus,
+        Where::Turn(tier) => (tier as usize) < g.tiers.len(),
+        Where::Free(tier, k) => (tier as usize) < g.tiers.len() && k < free_words(g, tier),
+        Where::Mem(frame, i) => frame < g.frames() && i < g.words,
+    }
 }
 
 /// The words that stand for so many frames.

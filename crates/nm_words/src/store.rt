@@ -77,6 +77,15 @@ impl Words {
     /// The words of a machine in which nothing was done: every frame is free, every processor is Off, and every other
     /// word is 0. `AllocError` comes where there is no memory for them.
     pub fn start(alloc: Global, g: &Geometry) -> Result<Words, AllocError>
+        ensures words { IfOk result (λ w. w ≡ opening_words g.now) }
+        ensures sizes { IfOk result (HasSizes g.now) }
+    {
+        let words = Words::opening(alloc, g)?;
+        Ok(words)
+    }
+
+    /// The words of a machine in which nothing was done.
+    fn opening(alloc: Global, g: &Geometry) -> Result<Words, AllocError>
         ensures { IfOk result (λ w. w ≡ opening_words g.now) }
     {
         let pages = g.pages() as usize;
@@ -197,8 +206,27 @@ impl Words {
 #[cfg(test)]
 mod tests {
     use super::*;
+    use crate::names::is_place;
     use nm_base::VPage;
+    use std::process::Abort;
     use std::test::Fail;
+
+    /// Makes exchanges, and asserts what each tells and leaves.
+    fn exchange_all(
+        rt: &impl Abort,
+        g: &Geometry,
+        words: &mut Words,
+        rows: &[(Where, Change, u64, u64)],
+    )
+        requires { HasSizes g.now words.old }
+    {
+        for (place, change, want, left) in rows {
+            assert!(rt; is_place(g, *place), "{place:?}");
+            let told = words.exchange(g, *place, *change);
+            assert_eq!(rt; told, *want, "{place:?} {change:?}");
+            assert_eq!(rt; words.load(g, *place), *left, "{place:?} {change:?}");
+        }
+    }
 
     #[test]
     fn exchanges_words(rt: HostRuntime) -> Result<(), Fail> {
@@ -208,31 +236,29 @@ mod tests {
         });
         let g = Geometry::new(rt.alloc(), 4, &[4, 70], 1, &[vpage])?;
         let mut words = Words::start(rt.alloc(), &g)?;
-        for (place, change, want, left) in [
-            (Where::Req, Change::Add(1), 0, 1),
-            (Where::Pte(0), Change::Swap(5), 0, 5),
-            (Where::Stamp(0), Change::Add(u64::MAX), 0, u64::MAX),
-            (Where::Stamp(0), Change::Add(2), u64::MAX, 1),
-            (Where::Home(0), Change::Put(3), 3, 3),
-            (Where::Shadow(73), Change::Or(6), 0, 6),
-            (Where::Shadow(73), Change::Xor(3), 6, 5),
-            (Where::Lock(0), Change::IfIs(0, 2), 0, 2),
-            (Where::Lock(0), Change::IfIs(0, 1), 2, 2),
-            (Where::Mark(0), Change::Keep, 0, 0),
-            (Where::Ack(0), Change::Keep, u64::MAX - 1, u64::MAX - 1),
-            (Where::Turn(1), Change::Put(0), 0, 0),
-            (Where::Free(0, 0), Change::And(6), 15, 6),
-            (Where::Free(1, 0), Change::Keep, u64::MAX, u64::MAX),
-            (Where::Free(1, 1), Change::And(32), 63, 32),
-            (Where::Mem(73, 3), Change::Swap(9), 0, 9),
-        ] {
-            assert_eq!(rt;
-                words.exchange(&g, place, change),
-                want,
-                "{place:?} {change:?}"
-            );
-            assert_eq!(rt; words.load(&g, place), left, "{place:?} {change:?}");
-        }
+        exchange_all(
+            &rt,
+            &g,
+            &mut words,
+            &[
+                (Where::Req, Change::Add(1), 0, 1),
+                (Where::Pte(0), Change::Swap(5), 0, 5),
+                (Where::Stamp(0), Change::Add(u64::MAX), 0, u64::MAX),
+                (Where::Stamp(0), Change::Add(2), u64::MAX, 1),
+                (Where::Home(0), Change::Put(3), 3, 3),
+                (Where::Shadow(73), Change::Or(6), 0, 6),
+                (Where::Shadow(73), Change::Xor(3), 6, 5),
+                (Where::Lock(0), Change::IfIs(0, 2), 0, 2),
+                (Where::Lock(0), Change::IfIs(0, 1), 2, 2),
+                (Where::Mark(0), Change::Keep, 0, 0),
+                (Where::Ack(0), Change::Keep, u64::MAX - 1, u64::MAX - 1),
+                (Where::Turn(1), Change::Put(0), 0, 0),
+                (Where::Free(0, 0), Change::And(6), 15, 6),
+                (Where::Free(1, 0), Change::Keep, u64::MAX, u64::MAX),
+                (Where::Free(1, 1), Change::And(32), 63, 32),
+                (Where::Mem(73, 3), Change::Swap(9), 0, 9),
+            ],
+        );
         assert_eq!(rt; words.homes(), [3].as_slice());
         assert_eq!(rt; words.shadows().len(), 74);
         assert_eq!(rt;
