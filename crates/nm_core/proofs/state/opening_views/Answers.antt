@@ -1,0 +1,17 @@
+-- One opening view more.
+use Rattle.std.proofs.Common.{arith, sym, ap, ◌∙◌, ◌++◌, ◌∷◌, [], map}
+use Rattle.std.specs.List.{range_with_len}
+use Rattle.std.proofs.lemmas.Grind.{common_steps}
+use Rattle.std.proofs.lemmas.List.FromFn.{map-range_with_len_more}
+use Rattle.nm_view.specs.Opening.{opening}
+use Rattle.nm_core.proofs.state.opening_views.Goals as goal
+
+pub loop-number-preserved : goal.loop-number-preserved
+loop-number-preserved c =
+    let n = c.loop-number.number in
+    let more = map-range_with_len_more (opening c.args.g.now) 0 n n (omega arith) in
+    record {
+      made = rw (c.push_reserved.ensures.items, c.loop-number.invariant.made, c.in_ok-view.ensures) (sym more);
+      count = grind (arith, common_steps);
+      room = omega (arith, c.push_reserved.ensures.capacity, c.loop-number.invariant.room);
+    }

@@ -1,0 +1,4 @@
+pub mod InPlace
+pub mod InRange
+pub mod Keyed
+pub mod Naming

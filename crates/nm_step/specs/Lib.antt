@@ -1,0 +1,4 @@
+pub mod Drawn
+pub mod Named
+pub mod Replies
+pub mod Table

@@ -1,0 +1,4 @@
+pub mod Flat
+pub mod Groups
+pub mod Places
+pub mod Standing

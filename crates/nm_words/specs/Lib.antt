@@ -1,0 +1,5 @@
+pub mod Exchanges
+pub mod Flat
+pub mod Names
+pub mod Ranged
+pub mod Words

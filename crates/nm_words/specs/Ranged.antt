@@ -1,0 +1,25 @@
+-- What the words of a machine can be, whatever its actors do within what is permitted.
+use Rattle.std.specs.Prelude.{◌≡◌, ℕ, ◌≤◌}
+use Rattle.nm_base.specs.Geometry.{Geometry, frame_count}
+use Rattle.nm_base.specs.PageWord.{frame_of}
+use Rattle.nm_view.specs.Ranges.{IsFrame}
+use Rattle.nm_view.specs.Named.{IsShadowName, HasOwnBits}
+use Rattle.nm_words.specs.declared.names.Where.{Where}
+use Rattle.nm_words.specs.declared.names.Where.TheVariants.{Req, Pte, Stamp, Home, Shadow, Free}
+use Rattle.nm_words.specs.Names.{IsPlace}
+use Rattle.nm_words.specs.Words.{Words, word_at}
+
+-- what a word can be, where the actors together have made so many bumps and so many raises: the number of bumps is
+-- this one, no stamp exceeds the raises, table words and homes name frames in range, shadow words pages and frames
+abbrev pub IsRanged : Geometry → ℕ → ℕ → Where → ℕ → Type 0
+IsRanged g bumps raises Req word = word ≡ bumps
+IsRanged g bumps raises (Pte v) word = IsFrame g (frame_of word)
+IsRanged g bumps raises (Stamp v) word = word ≤ raises
+IsRanged g bumps raises (Home b) word = word ≤ frame_count g
+IsRanged g bumps raises (Shadow m) word = IsShadowName g word
+IsRanged g bumps raises (Free t k) word = HasOwnBits g t k word
+IsRanged g bumps raises _ word = Unit {0}
+
+-- each word of the machine is what it can be
+abbrev pub AreRanged : Geometry → ℕ → ℕ → Words → Type 0
+AreRanged g bumps raises w = (c : Where) → IsPlace g c → IsRanged g bumps raises c (word_at g w c)
