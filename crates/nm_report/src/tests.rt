@@ -221,7 +221,10 @@ fn one_processor(rt: HostRuntime) -> Result<(), Fail> {
     let program = [Line::Add { v: 0, w: 0, x: 5 }, LOAD, LOAD];
     let given = [LineResult::Added(0), LineResult::Loaded(5)];
     let text = print_cpu(rt.alloc(), 3, &program, &given)?;
-    assert_eq!(rt; text.as_slice(), b"cpu 3\nadd 0.0 5 gave 0\nload 0.0 5\n".as_slice());
+    assert_eq!(rt;
+        text.as_slice(),
+        b"cpu 3\nadd 0.0 5 gave 0\nload 0.0 5\n".as_slice()
+    );
     Ok(())
 }
 
