@@ -12,7 +12,7 @@ abbrev pub is_refused : Text → Bool
 is_refused [] = false
 is_refused (x ∷ xs) = x == 45 || bytes_eq (x ∷ xs) (codes "help")
 
--- the command of the words and its fields; none where a word is refused or the words name no command with its fields
+-- the command of the words and its fields; none where a word is an option or help, or the words name no command with its fields
 abbrev pub Splits : List Text → Option Fields → Type 0
 Splits words (Some Sim) = words ≡ codes "sim" ∷ []
 Splits words (Some (Gen number size)) = words ≡ codes "gen" ∷ number.now ∷ size.now ∷ []

@@ -5,7 +5,7 @@ ghost use Rattle.clap.specs.Words.{app_of, found_of, rows_of, subcommand_rows_of
 ghost use Rattle.nm_command.specs.Line.{nomad, is_refused, Splits, Tells, TellsGen};
 
 use clap::error::ErrorKind;
-use clap::{Arg, ArgAction, ArgMatches, Command};
+use clap::{Arg, ArgMatches, Command};
 use std::alloc::{AllocError, Global};
 
 /// A command of the program with its fields.
@@ -22,7 +22,8 @@ pub enum Fields<'a> {
     },
 }
 
-/// The command that the words name, and its fields. None exactly where they name none.
+/// The command that the words name, and its fields. None exactly where a word is an option or `help`, or the words name
+/// no command with its fields. `AllocError` comes where there is no memory to read them.
 pub fn fields_of<'a>(alloc: Global, words: &'a [String]) -> Result<Option<Fields<'a>>, AllocError>
     ensures { IfOk result (Splits (map string_bytes words.now)) }
 {
@@ -78,7 +79,7 @@ fn is_refused(word: &str) -> bool
     word.as_bytes().first() == Some(&b'-') || word == "help"
 }
 
-/// The command line of the program.
+/// The command line of the program. Help is no form of the words, so it has none.
 fn make_command<'a>(alloc: Global) -> Result<Command<'a>, AllocError>
     ensures { IfOk result (λ c. app_of c ≡ nomad) }
 {
