@@ -1,0 +1,99 @@
+//! The chair of a machine that has no page, no tier and no processor: a smallest chair, for tests.
+
+ghost use Rattle.std.specs.Prelude.{◌≡◌, ◌+◌};
+
+use crate::chair::{PagePort, Stepper, Tells};
+use nm_event::{Action, Full, Lane, Reply};
+use std::sync::Wait;
+
+/// How often a lane refused.
+#[derive(Drop)]
+pub(crate) struct Refused {
+    pub(crate) fulls: u64,
+    pub(crate) empties: u64,
+}
+
+/// The chair of the machine's only actor.
+#[derive(Drop)]
+pub(crate) struct Alone {
+    pub(crate) bumps: u64,
+    pub(crate) candidates: Refused,
+    pub(crate) pending: Refused,
+}
+
+impl Alone {
+    pub(crate) fn new() -> Alone
+        ensures { result ≡ record { bumps = 0; candidates = record { fulls = 0; empties = 0 }; pending = record { fulls = 0; empties = 0 } } }
+    {
+        Alone {
+            bumps: 0,
+            candidates: Refused {
+                fulls: 0,
+                empties: 0,
+            },
+            pending: Refused {
+                fulls: 0,
+                empties: 0,
+            },
+        }
+    }
+}
+
+impl Tells for Alone {
+    type Name = u32;
+
+    ghost use Rattle.nm_actor.specs.Alone.{lone_lane, lone_state};
+
+    ghost state = { λ c. lone_state c.bumps (lone_lane c.candidates.fulls c.candidates.empties) (lone_lane c.pending.fulls c.pending.empties) };
+}
+
+impl Stepper for Alone {
+    fn step(&mut self, action: Action) -> Reply {
+        match action {
+            Action::Bump => {
+                let old = self.bumps;
+                self.bumps += 1;
+                Reply::Word(old)
+            }
+            _ => unreachable!(),
+        }
+    }
+}
+
+/// Counts once more. A count that can rise no more waits for ever.
+fn rise<T: Wait>(rt: &T, count: &mut u64)
+    ensures { count.new ≡ count.old + 1 }
+{
+    if *count == u64::MAX {
+        for _ in rt.forever() {}
+        unreachable!()
+    }
+    *count += 1;
+}
+
+impl PagePort for Alone {
+    fn put<T: Wait>(&mut self, rt: &T, lane: Lane, _page: u32) -> Result<(), Full> {
+        match lane {
+            Lane::Candidates => rise(rt, &mut self.candidates.fulls),
+            Lane::Pending => rise(rt, &mut self.pending.fulls),
+        }
+        Err(Full)
+    }
+
+    fn take<T: Wait>(&mut self, rt: &T, lane: Lane) -> Option<u32> {
+        match lane {
+            Lane::Candidates => rise(rt, &mut self.candidates.empties),
+            Lane::Pending => rise(rt, &mut self.pending.empties),
+        }
+        None
+    }
+}
+
+#[test]
+fn refuses_every_page(rt: HostRuntime) {
+    let mut chair = Alone::new();
+    assert!(rt; chair.put(&rt, Lane::Candidates, 3).is_err());
+    assert_eq!(rt; chair.take(&rt, Lane::Pending), None);
+    assert_eq!(rt; chair.candidates.fulls, 1);
+    assert_eq!(rt; chair.pending.empties, 1);
+}

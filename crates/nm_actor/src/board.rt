@@ -1,0 +1,43 @@
+//! Boards.
+
+ghost use Rattle.std.specs.Prelude.{◌≡◌, true};
+
+use crate::chair::{PagePort, Stepper, Tells};
+use std::sync::Wait;
+
+/// A board gives each actor a chair, once, and takes it back.
+pub trait Board {
+    ghost use Rattle.nm_view.specs.Opening.{IsActor};
+    ghost use Rattle.nm_actor.specs.Boards.{BoardState, HasSat, IsChairOf, IsOpeningChair, IsLast, IsRested, with_sat, with_stood};
+
+    /// Its name.
+    type Name;
+
+    /// Its chairs.
+    type Chair: Tells<Name = Self::Name> + Stepper + PagePort + Send;
+
+    // Its name, its geometry, the capacities of its lanes, who has sat and who has stood with which lists, and whether
+    // `rest` was called.
+    ghost board: { Self → BoardState Self.Name };
+
+    /// Gives an actor its chair, on which nothing was done yet. Conditions: there is such an actor, and it has not sat.
+    fn sit<T: Wait>(&mut self, rt: &T, actor: u32) -> Self::Chair
+        requires exists { IsActor (board self.old).geometry actor }
+        requires once { ¬ HasSat (board self.old) actor }
+        ensures board { board self.new ≡ with_sat actor (board self.old) }
+        ensures chair { IsOpeningChair (board self.old) actor (Self.Chair.state result) };
+
+    /// Tells the last chair what each lane holds: the pages that the lane lists of all chairs put and did not take.
+    /// Conditions: the chair is of this board, its actor has sat and not stood, and every other chair has stood.
+    fn rest<T: Wait>(&mut self, rt: &T, chair: &mut Self::Chair)
+        requires of { IsChairOf (board self.old) (Self.Chair.state chair.old) }
+        requires last { IsLast (board self.old) (Self.Chair.state chair.old) }
+        ensures board { board self.new ≡ record (board self.old) { rested = true } }
+        ensures chair { IsRested (board self.old) (Self.Chair.state chair.old) (Self.Chair.state chair.new) };
+
+    /// Takes a chair back, and tells its lists from then on. Condition: the chair is of this board, and its actor has sat
+    /// and not stood.
+    fn stand<T: Wait>(&mut self, rt: &T, chair: Self::Chair)
+        requires { IsChairOf (board self.old) (Self.Chair.state chair) }
+        ensures { board self.new ≡ with_stood (Self.Chair.state chair) (board self.old) };
+}
