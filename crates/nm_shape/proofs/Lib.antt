@@ -1,3 +1,4 @@
+mod Bits
 mod Done
 mod Fits
 mod Frames

@@ -7,10 +7,8 @@ ghost use Rattle.nm_event.specs.Fitting.{IsReplyOf};
 ghost use Rattle.nm_shape.specs.Keyed.{IsKeyed};
 ghost use Rattle.nm_shape.specs.Ranged.{IsInRangeReply, IsNarrowWalk};
 
-use nm_action::{Action, Reply};
 use nm_base::Geometry;
-use nm_event::after;
-use nm_view::ActorView;
+use nm_event::{Action, ActorView, Reply, after};
 
 /// Changes the view of an actor as its action and the reply say. It takes no memory. Where the view's numbers are in
 /// range and no number stands twice in a list of it, it has room for the step, and both hold afterwards.

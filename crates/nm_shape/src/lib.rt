@@ -5,3 +5,6 @@
 pub mod advancing;
 
 pub use advancing::advance;
+
+#[cfg(test)]
+mod tests;
