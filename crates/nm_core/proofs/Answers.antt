@@ -1,11 +1,11 @@
 -- What the words leave of the reply to a permitted action.
-use Rattle.std.proofs.Common.{◌≡◌, ℕ, ◌+◌, ◌*◌, ◌^◌, ◌<◌, ◌≤◌, ◌==◌, if◌then◌else◌, Bool, true, false, refl, sym, subst, inl, inr, arith}
+use Rattle.std.proofs.Common.{◌≡◌, ℕ, ◌≤◌, ◌==◌, if◌then◌else◌, Bool, true, false, refl, subst, arith}
 use Rattle.std.proofs.lemmas.Bool.{eqb-true}
 use Rattle.nm_base.specs.Geometry.{Geometry, frame_count}
 use Rattle.nm_base.specs.PageWord.{frame_of}
 use Rattle.nm_action.specs.declared.action.Cell.TheVariants as cells
 use Rattle.nm_action.specs.declared.action.Reply.{Reply}
-use Rattle.nm_action.specs.declared.action.Reply.TheVariants.{Done, Word, Busy, Lost}
+use Rattle.nm_action.specs.declared.action.Reply.TheVariants.{Done, Busy, Lost}
 use Rattle.nm_action.specs.declared.action.Action.{Action}
 use Rattle.nm_action.specs.declared.action.Action.TheVariants.{Load, Store, Add, Look, Walk, Peek, Poll, Ack, Lock, Unlock, Bump, SeeAck, Raise, Soften, Arm, ClearDirty, Unmap, Map, Grant, CopyLoad, CopyStore, SetHome, SetShadow, TakeTurn, Scan, GiveFrame, PutFrame, ReleaseTurn, Mark, Read}
 use Rattle.nm_view.specs.Ranges.{IsFrame, IsWord}
@@ -15,7 +15,7 @@ use Rattle.nm_shape.specs.Ranged.{IsInRangeReply, IsNarrowWalk}
 use Rattle.nm_words.specs.Exchanges.{told}
 use Rattle.nm_words.specs.Ranged.{IsRanged}
 use Rattle.nm_step.specs.Replies.{IsNamed}
-use Rattle.nm_step.specs.Table.{where_of, change_of, reply_of, unless_busy, unless_lost}
+use Rattle.nm_step.specs.Table.{where_of, change_of, reply_of}
 
 -- what holds of both replies holds of the one that is given
 either : (P : Reply → Type 0) (x y : Reply) (b : Bool) → (b ≡ true → P x) → P y → P (if b then x else y)

@@ -1,23 +1,22 @@
 -- When a step is refused, and that it then changes nothing.
-use Rattle.std.proofs.Common.{◌≡◌, ◌≢◌, ◌↔◌, ℕ, ◌+◌, ◌==◌, if◌then◌else◌, Bool, true, false, List, get_or, set, refl, sym, ap, subst, ◌∙◌, inl, inr, arith}
+use Rattle.std.proofs.Common.{◌≡◌, ◌≢◌, ◌↔◌, ℕ, ◌+◌, ◌==◌, if◌then◌else◌, Bool, true, false, set, refl, sym, ap, ◌∙◌}
 use Rattle.std.proofs.lemmas.Bool.{eqb-true, eq-eqb}
 use Rattle.std.proofs.lemmas.List.{set-get_or}
 use Rattle.nm_base.specs.Geometry.{Geometry}
-use Rattle.nm_action.specs.declared.action.Cell.TheVariants as cells
 use Rattle.nm_action.specs.declared.action.Reply.{Reply}
-use Rattle.nm_action.specs.declared.action.Reply.TheVariants.{Done, Word, Busy, Lost}
+use Rattle.nm_action.specs.declared.action.Reply.TheVariants.{Done, Busy, Lost}
 use Rattle.nm_action.specs.declared.action.Action.{Action}
-use Rattle.nm_action.specs.declared.action.Action.TheVariants.{Load, Store, Add, Look, Walk, Peek, Poll, Ack, Lock, Unlock, Bump, SeeAck, Raise, Soften, Arm, ClearDirty, Unmap, Map, Grant, CopyLoad, CopyStore, SetHome, SetShadow, TakeTurn, Scan, GiveFrame, PutFrame, ReleaseTurn, Mark, Read}
+use Rattle.nm_action.specs.declared.action.Action.TheVariants.{Walk, Lock, TakeTurn, Mark}
 use Rattle.nm_view.specs.Views.{View}
 use Rattle.nm_view.specs.Opening.{opening}
 use Rattle.nm_event.specs.After.{after_of}
 use Rattle.nm_words.specs.declared.names.Where.{Where}
 use Rattle.nm_words.specs.declared.names.Where.TheVariants as names
 use Rattle.nm_words.specs.Names.{free_place, mem_place}
-use Rattle.nm_words.specs.Words.{Words, word_at, with_word, exchanged}
-use Rattle.nm_step.specs.Table.{where_of, change_of, reply_of, unless_busy, unless_lost, walked_word}
-use Rattle.nm_core.specs.State.{State, state_of, view_of, place_of, word_found, reply_by, reply_to, step}
-use Rattle.nm_core.specs.Causes.{IsTaking, expected_of, IsBusyWith, IsLostTo, IsRefusal}
+use Rattle.nm_words.specs.Words.{Words, word_at, with_word}
+use Rattle.nm_step.specs.Table.{walked_word}
+use Rattle.nm_core.specs.State.{State, state_of, view_of, word_found, reply_to, step}
+use Rattle.nm_core.specs.Causes.{IsBusyWith, IsLostTo, IsRefusal}
 
 -- a word that is written again leaves the words
 with_word-same : (g : Geometry) (w : Words) (c : Where) → with_word g w c (word_at g w c) ≡ w

@@ -1,5 +1,5 @@
 -- That the state in which nothing was done has what every step keeps.
-use Rattle.std.proofs.Common.{◌≡◌, ℕ, ◌+◌, ◌^◌, ◌<◌, ◌≤◌, List, [], ◌∷◌, length, map, get_or, refl, sym, subst, ◌∙◌, arith}
+use Rattle.std.proofs.Common.{◌≡◌, ℕ, ◌<◌, List, [], ◌∷◌, length, map, refl, sym, subst, arith}
 use Rattle.std.specs.Prelude.{sum_by}
 use Rattle.std.specs.List.{range_with_len}
 use Rattle.std.proofs.lemmas.List.Elements.{All-nil}
@@ -8,15 +8,14 @@ use Rattle.std.proofs.lemmas.List.Sums.{sum_by-cons}
 use Rattle.nm_base.specs.Geometry.{Geometry, IsGeometry}
 use Rattle.nm_view.specs.declared.view.CacheEntry.{CacheEntry}
 use Rattle.nm_view.specs.Ranges.{IsFrame}
-use Rattle.nm_view.specs.Views.{View, Op}
+use Rattle.nm_view.specs.Views.{View}
 use Rattle.nm_view.specs.Opening.{opening, IsActor}
 use Rattle.nm_shape.proofs.Laws.{keyed_opening}
 use Rattle.nm_words.specs.Words.{Words, opening_words}
-use Rattle.nm_words.specs.Ranged.{AreRanged}
 use Rattle.nm_words.proofs.Groups.{HasSizes-opening}
 use Rattle.nm_words.proofs.Standing.{AreRanged-opening}
-use Rattle.nm_step.specs.Named.{NamesFrames, OpNamesFrames}
-use Rattle.nm_core.specs.State.{State, state_of, view_of, start, actor_count}
+use Rattle.nm_step.specs.Named.{OpNamesFrames}
+use Rattle.nm_core.specs.State.{state_of, view_of, start, actor_count}
 use Rattle.nm_core.specs.Kept.{IsViewKept, IsKept, bumps_of, raises_of}
 
 -- what every opening view has none of, all have none of

@@ -1,6 +1,5 @@
 -- That a permitted step keeps what every step keeps.
-use Rattle.std.proofs.Common.{◌≡◌, ◌≢◌, ℕ, ◌+◌, ◌*◌, ◌^◌, ◌<◌, ◌≤◌, List, All, length, map, get_or, set, refl, sym, ap, subst, ◌∙◌, inl, inr, arith}
-use Rattle.std.specs.Prelude.{sum_by}
+use Rattle.std.proofs.Common.{◌≡◌, ℕ, ◌+◌, ◌^◌, ◌<◌, ◌≤◌, All, length, get_or, set, sym, ap, subst, ◌∙◌, inl, inr, arith}
 use Rattle.std.proofs.lemmas.Bool.{cases_eq}
 use Rattle.std.proofs.lemmas.List.{length-set, get_or-set_same, get_or-set_other, get_or_default}
 use Rattle.std.proofs.lemmas.List.Sums.{sum_by-set, sum_by-le}
@@ -15,21 +14,19 @@ use Rattle.nm_event.specs.Fitting.{IsReplyOf, most_bumps, most_raises}
 use Rattle.nm_permit.specs.Permitted.{Allowed}
 use Rattle.nm_shape.specs.Keyed.{IsKeyed}
 use Rattle.nm_shape.specs.Ranged.{IsInRangeReply, IsNarrowWalk}
-use Rattle.nm_words.specs.declared.names.Where.{Where}
 use Rattle.nm_words.specs.Names.{IsPlace}
 use Rattle.nm_words.specs.Exchanges.{changed, told}
-use Rattle.nm_words.specs.Words.{Words, word_at, exchanged}
+use Rattle.nm_words.specs.Words.{Words, exchanged}
 use Rattle.nm_words.specs.Ranged.{IsRanged, AreRanged}
 use Rattle.nm_words.proofs.Groups.{HasSizes-with_word}
 use Rattle.nm_words.proofs.Standing.{AreRanged-with_word}
 use Rattle.nm_step.specs.Drawn.{bumps_after, raises_after}
-use Rattle.nm_step.specs.Named.{NamesFrames}
 use Rattle.nm_step.specs.Replies.{IsNamed}
 use Rattle.nm_step.specs.Table.{where_of, change_of}
 use Rattle.nm_step.proofs.InPlace.{IsPlace-where_of}
 use Rattle.nm_step.proofs.InRange.{IsRanged-changed}
 use Rattle.nm_step.proofs.Naming.{NamesFrames-after, number-after}
-use Rattle.nm_core.specs.State.{State, state_of, view_of, place_of, word_found, exchange_of, told_by, reply_by, reply_to, step, actor_count}
+use Rattle.nm_core.specs.State.{State, state_of, view_of, place_of, word_found, exchange_of, told_by, reply_by, reply_to, step}
 use Rattle.nm_core.specs.Kept.{IsViewKept, IsKept, bumps_of, raises_of}
 use Rattle.nm_core.proofs.Counts.{counts-after, bumps-few, raises-few, bumps-sum, raises-sum, raises-more, bumps-elsewhere}
 use Rattle.nm_core.proofs.Answers.{IsReplyOf-reply_of, IsNamed-reply_of, IsNarrowWalk-reply_of, IsInRangeReply-reply_of}

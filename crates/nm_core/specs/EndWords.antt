@@ -1,5 +1,5 @@
 -- The words of a machine at the end of a run, as a report reads them.
-use Rattle.std.specs.Prelude.{◌≡◌, ℕ, ◌+◌, ◌-◌, ◌*◌, ◌/◌, ◌%◌, ◌^◌, ◌==◌, ◌↔◌, if◌then◌else◌, Bool, false, List, length, map, replicate, Option, Some, None, slice_index, IsTrue}
+use Rattle.std.specs.Prelude.{◌≡◌, ℕ, ◌-◌, ◌/◌, ◌%◌, ◌^◌, ◌==◌, ◌↔◌, if◌then◌else◌, Bool, false, List, length, map, replicate, Option, Some, None, slice_index, IsTrue}
 use Rattle.std.specs.List.{range_with_len}
 use Rattle.nm_base.specs.Geometry.{Geometry, page_count, frame_count}
 use Rattle.nm_core.specs.declared.ends.Role.{Role}

@@ -1,15 +1,14 @@
 -- That the machine has the word on which a permitted action is an exchange.
-use Rattle.std.proofs.Common.{◌≡◌, ◌≢◌, ℕ, ◌+◌, ◌-◌, ◌/◌, ◌<◌, ◌≤◌, Option, Some, None, IsSome, IsSomeAnd, IfSome, get_or, refl, ap, arith}
+use Rattle.std.proofs.Common.{◌≡◌, ◌≢◌, ℕ, ◌+◌, ◌-◌, ◌≤◌, IsSome, IsSomeAnd, get_or, refl, ap, arith}
 use Rattle.std.proofs.lemmas.List.Sums.{sum_by_more}
 use Rattle.nm_base.specs.Geometry.{Geometry, frame_count, first_frame, tier_of}
 use Rattle.nm_base.proofs.Tiers.{IsInTier-tier_of}
 use Rattle.nm_action.specs.declared.action.Cell.TheVariants as cells
 use Rattle.nm_action.specs.declared.action.Action.{Action}
 use Rattle.nm_action.specs.declared.action.Action.TheVariants.{Load, Store, Add, Look, Walk, Peek, Poll, Ack, Lock, Unlock, Bump, SeeAck, Raise, Soften, Arm, ClearDirty, Unmap, Map, Grant, CopyLoad, CopyStore, SetHome, SetShadow, TakeTurn, Scan, GiveFrame, PutFrame, ReleaseTurn, Mark, Read}
-use Rattle.nm_view.specs.declared.view.CacheEntry.{CacheEntry}
 use Rattle.nm_view.specs.Lists.{find}
 use Rattle.nm_view.specs.Ranges.{IsFrame}
-use Rattle.nm_view.specs.Views.{Op, View}
+use Rattle.nm_view.specs.Views.{View}
 use Rattle.nm_view.specs.Operations.{cached_page, page_of, op_on}
 use Rattle.nm_event.specs.After.{known_home}
 use Rattle.nm_permit.specs.Permitted.{Allowed, MayCopyLoad, IsCachedDirty}

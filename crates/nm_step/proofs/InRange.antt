@@ -1,17 +1,14 @@
 -- That a permitted action leaves its word what it can be.
-use Rattle.std.proofs.Common.{◌≡◌, ◌≢◌, ℕ, ◌+◌, ◌-◌, ◌*◌, ◌/◌, ◌%◌, ◌^◌, ◌<◌, ◌≤◌, ◌==◌, ◌⊎◌, max, min, Bool, true, false, if◌then◌else◌, Option, Some, None, IsSome, IsSomeAnd, IfSome, All, get_or, refl, sym, ap, subst, ◌∙◌, inl, inr, arith}
+use Rattle.std.proofs.Common.{◌≡◌, ℕ, ◌+◌, ◌-◌, ◌*◌, ◌/◌, ◌^◌, ◌<◌, ◌≤◌, ◌==◌, Bool, true, false, if◌then◌else◌, Option, Some, None, IsSomeAnd, IfSome, get_or, refl, ap, subst, ◌∙◌, inl, inr, arith}
 use Rattle.std.specs.Prelude.{bit_and, bit_or, bit_xor}
-use Rattle.std.specs.Int.{bit_at}
 use Rattle.std.specs.Int.Bits.{or_zero_r, xor_zero_r}
 use Rattle.std.proofs.lemmas.Bool.{eqb-true, cases_eq}
-use Rattle.std.proofs.lemmas.Nat.{and_shr, and_le_l, or_shr, xor_shr, div-add-mod'}
+use Rattle.std.proofs.lemmas.Nat.{and_shr, and_le_l, or_shr, xor_shr}
 use Rattle.std.proofs.lemmas.Nat.Bits.{bit_at_and, bit_at_or, bit_at-pow_other, bit_at-lt}
 use Rattle.std.proofs.lemmas.List.Sums.{sum_by_more}
 use Rattle.nm_base.specs.Geometry.{Geometry, frame_count, first_frame, tier_of}
 use Rattle.nm_base.specs.PageWord.{frame_of}
 use Rattle.nm_base.proofs.Tiers.{IsInTier-tier_of}
-use Rattle.nm_action.specs.declared.action.Bit.{Bit}
-use Rattle.nm_action.specs.declared.action.Bit.TheVariants.{Hint, Accessed}
 use Rattle.nm_action.specs.declared.action.Cell.TheVariants as cells
 use Rattle.nm_action.specs.declared.action.Action.{Action}
 use Rattle.nm_action.specs.declared.action.Action.TheVariants.{Load, Store, Add, Look, Walk, Peek, Poll, Ack, Lock, Unlock, Bump, SeeAck, Raise, Soften, Arm, ClearDirty, Unmap, Map, Grant, CopyLoad, CopyStore, SetHome, SetShadow, TakeTurn, Scan, GiveFrame, PutFrame, ReleaseTurn, Mark, Read}
@@ -20,7 +17,7 @@ use Rattle.nm_view.specs.Named.{IsShadowName, HasOwnBits}
 use Rattle.nm_view.specs.Ranges.{IsPage, IsFrame}
 use Rattle.nm_view.specs.Views.{Op, View}
 use Rattle.nm_view.specs.Operations.{op_of, shadow_word}
-use Rattle.nm_permit.specs.Permitted.{Allowed, MayMap, HasMappedWord, IsWordBack, IsWordNew}
+use Rattle.nm_permit.specs.Permitted.{Allowed, MayMap, IsWordBack, IsWordNew}
 use Rattle.nm_words.specs.Exchanges.{changed}
 use Rattle.nm_words.specs.Ranged.{IsRanged}
 use Rattle.nm_step.specs.Drawn.{bumps_after, raises_after}

@@ -1,10 +1,10 @@
 -- What holds of each item of a list by numbers.
 use Rattle.std.proofs.Common.{◌≡◌, ℕ, ◌==◌, if◌then◌else◌, Bool, true, false, List, [], ◌∷◌, Option, Some, None, IsSome, IsSomeAnd, All, refl, subst}
-use Rattle.std.proofs.lemmas.List.Elements.{All-nil, All-cons, All-head, All-tail}
+use Rattle.std.proofs.lemmas.List.Elements.{All-cons, All-head, All-tail}
 use Rattle.nm_base.specs.Geometry.{Geometry, backing_page}
 use Rattle.nm_view.specs.Lists.{find, edit, erase, put}
 use Rattle.nm_view.specs.Views.{Op, View}
-use Rattle.nm_view.specs.Operations.{page_of, op_on, op_under, op_of}
+use Rattle.nm_view.specs.Operations.{page_of, op_under, op_of}
 use Rattle.nm_event.specs.After.{edit_under, edit_of}
 
 -- a value of which P holds

@@ -1,25 +1,24 @@
 -- That the frames which a view names stay in range, and what a step leaves of its counts.
-use Rattle.std.proofs.Common.{◌≡◌, ℕ, ◌+◌, ◌<◌, ◌≤◌, Bool, true, false, List, [], ◌∷◌, Option, Some, None, IfSome, All, refl, arith}
+use Rattle.std.proofs.Common.{◌≡◌, ℕ, ◌+◌, All, refl, arith}
 use Rattle.std.proofs.lemmas.List.Elements.{All-nil, All-map, All-weaker, All-push, All-filter}
-use Rattle.nm_base.specs.Geometry.{Geometry, frame_count}
+use Rattle.nm_base.specs.Geometry.{Geometry}
 use Rattle.nm_base.specs.PageWord.{frame_of}
 use Rattle.nm_action.specs.declared.action.AckTo.{AckTo}
 use Rattle.nm_action.specs.declared.action.AckTo.TheVariants.{Seen, Off, End}
 use Rattle.nm_action.specs.declared.action.Cell.{Cell}
 use Rattle.nm_action.specs.declared.action.Cell.TheVariants as cells
 use Rattle.nm_action.specs.declared.action.Reply.{Reply}
-use Rattle.nm_action.specs.declared.action.Reply.TheVariants.{Done, Word, Busy, Lost}
+use Rattle.nm_action.specs.declared.action.Reply.TheVariants.{Done, Word}
 use Rattle.nm_action.specs.declared.action.Action.{Action}
-use Rattle.nm_action.specs.declared.action.Action.TheVariants.{Load, Store, Add, Look, Walk, Peek, Poll, Ack, Lock, Unlock, Bump, SeeAck, Raise, Soften, Arm, ClearDirty, Unmap, Map, Grant, CopyLoad, CopyStore, SetHome, SetShadow, TakeTurn, Scan, GiveFrame, PutFrame, ReleaseTurn, Mark, Read}
+use Rattle.nm_action.specs.declared.action.Action.TheVariants.{Look, Walk, Peek, Poll, Ack, Lock, Unlock, Bump, SeeAck, Raise, ClearDirty, Unmap, Map, Grant, CopyLoad, CopyStore, SetHome, SetShadow, TakeTurn, Scan, GiveFrame, PutFrame, ReleaseTurn, Read}
 use Rattle.nm_view.specs.declared.view.CacheEntry.{CacheEntry}
-use Rattle.nm_view.specs.Lists.{first, erase}
+use Rattle.nm_view.specs.Lists.{first}
 use Rattle.nm_view.specs.Ranges.{IsFrame}
 use Rattle.nm_view.specs.Views.{Op, View}
 use Rattle.nm_view.specs.Opening.{opened}
 use Rattle.nm_view.specs.Operations.{page_of, cached_page}
-use Rattle.nm_event.specs.After.{after_of, walked, kept_entries, is_confirmed, looked_at, read_cell, cleared_at, taken_at, raised_to, bumped_to, seen_at, loaded, copied_one, homed_at, shaded, mapped_at, granted_at, edit_under}
+use Rattle.nm_event.specs.After.{after_of, walked, kept_entries, is_confirmed, looked_at, read_cell, cleared_at, taken_at, raised_to, bumped_to, seen_at, loaded, copied_one, homed_at, shaded, mapped_at, granted_at}
 use Rattle.nm_permit.specs.Permitted.{Allowed}
-use Rattle.nm_step.specs.Drawn.{bumps_after, raises_after}
 use Rattle.nm_step.specs.Named.{NamesFrames, OpNamesFrames}
 use Rattle.nm_step.specs.Replies.{IsNamed}
 use Rattle.nm_step.proofs.Keyed.{All-edit, All-edit_under, All-edit_of, All-put, All-erase}

@@ -1,5 +1,5 @@
 -- The frames that a view names by its cache, its known homes and its taken words.
-use Rattle.std.specs.Prelude.{ℕ, ◌≤◌, All, IfSome}
+use Rattle.std.specs.Prelude.{◌≤◌, All, IfSome}
 use Rattle.nm_base.specs.Geometry.{Geometry, frame_count}
 use Rattle.nm_base.specs.PageWord.{frame_of}
 use Rattle.nm_view.specs.Ranges.{IsFrame}

@@ -1,5 +1,5 @@
 -- What the machine's words leave of a reply, whatever the actors do within what is permitted.
-use Rattle.std.specs.Prelude.{ℕ, ◌≤◌}
+use Rattle.std.specs.Prelude.{◌≤◌}
 use Rattle.nm_base.specs.Geometry.{Geometry, frame_count}
 use Rattle.nm_base.specs.PageWord.{frame_of}
 use Rattle.nm_action.specs.declared.action.Cell.TheVariants.{Home}

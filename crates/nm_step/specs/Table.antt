@@ -1,5 +1,5 @@
 -- The step as a table: for each kind of action the word on which it is an exchange, the exchange, and the reply.
-use Rattle.std.specs.Prelude.{ℕ, ◌+◌, ◌-◌, ◌*◌, ◌/◌, ◌%◌, ◌^◌, ◌==◌, if◌then◌else◌, Bool, true, false, Option, Some, None, bit_or}
+use Rattle.std.specs.Prelude.{ℕ, ◌+◌, ◌-◌, ◌/◌, ◌%◌, ◌^◌, ◌==◌, if◌then◌else◌, Bool, true, false, Option, Some, None, bit_or}
 use Rattle.nm_base.specs.Geometry.{Geometry, first_frame, tier_of}
 use Rattle.nm_action.specs.declared.action.Bit.{Bit}
 use Rattle.nm_action.specs.declared.action.Bit.TheVariants.{Hint, Accessed}

@@ -1,5 +1,5 @@
 -- That the list of all words is read and written at the place of a name as the words are by the name.
-use Rattle.std.proofs.Common.{◌≡◌, ◌≢◌, ℕ, zero, suc, ◌+◌, ◌-◌, ◌*◌, ◌<◌, ◌≤◌, List, [], ◌∷◌, ◌++◌, length, map, take, get_or, set, sum, refl, sym, ap, ◌∙◌, inl, inr, arith}
+use Rattle.std.proofs.Common.{◌≡◌, ℕ, zero, suc, ◌+◌, ◌-◌, ◌<◌, ◌≤◌, List, [], ◌∷◌, ◌++◌, length, map, take, get_or, set, sum, refl, sym, ap, ◌∙◌, inl, inr, arith}
 use Rattle.std.specs.Prelude.{sum_by}
 use Rattle.std.specs.List.{flat_map}
 use Rattle.std.proofs.lemmas.Bool.{cases_lt}
@@ -9,7 +9,7 @@ use Rattle.std.proofs.lemmas.List.Concat.{length-flat_map, get_or-flat_map, flat
 use Rattle.nm_base.specs.Geometry.{Geometry}
 use Rattle.nm_words.specs.declared.names.Where.{Where}
 use Rattle.nm_words.specs.declared.names.Where.TheVariants.{Req, Pte, Stamp, Home, Shadow, Lock, Mark, Ack, Turn, Free, Mem}
-use Rattle.nm_words.specs.Names.{IsPlace, free_place, mem_place}
+use Rattle.nm_words.specs.Names.{IsPlace}
 use Rattle.nm_words.specs.Words.{Words, word_at, with_word, HasSizes}
 use Rattle.nm_words.specs.Flat.{groups_of, sizes_of, flat, group_of, offset_of, at}
 use Rattle.nm_words.proofs.Places.{free_place-lt, mem_place-lt, free-same, mem-same}

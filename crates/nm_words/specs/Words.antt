@@ -1,5 +1,5 @@
 -- The words of a machine in groups: how each is read and written by its name, and what they are at first.
-use Rattle.std.specs.Prelude.{◌≡◌, ℕ, ◌+◌, ◌-◌, ◌*◌, ◌^◌, min, List, length, map, replicate, slice_index, slice_set}
+use Rattle.std.specs.Prelude.{◌≡◌, ℕ, ◌-◌, ◌*◌, ◌^◌, min, List, length, map, replicate, slice_index, slice_set}
 use Rattle.std.specs.List.{range_with_len, flat_map}
 use Rattle.nm_base.specs.Geometry.{Geometry, page_count, frame_count}
 use Rattle.nm_view.specs.Views.{off_word}

@@ -1,5 +1,5 @@
 -- Each place was written.
-use Rattle.std.proofs.Common.{◌≡◌, ℕ, ◌<◌, length, ap, ◌∙◌, arith, None}
+use Rattle.std.proofs.Common.{◌≡◌, length, ap, arith, None}
 use Rattle.std.proofs.lemmas.List.FromFn.{fill_by_all}
 use Rattle.nm_base.specs.Geometry.{frame_count}
 use Rattle.nm_core.specs.State.{State}
