@@ -13,22 +13,22 @@ use Rattle.nm_report.specs.Summary.{is_load, is_store, AddsUp, IsNoAwait, HasNoA
 
 -- a result that fits a line other than an await is a load or a store
 one-kind : (l : Line) (r : LineResult) → Fits l r → IsNoAwait l → cond (is_load r) 1 0 + cond (is_store r) 1 0 ≡ 1
-one-kind (Load v w) (Loaded x) fit no = refl
-one-kind (Load v w) Stored fit no = absurd fit
-one-kind (Load v w) (Added y) fit no = absurd fit
-one-kind (Load v w) (Met n) fit no = absurd fit
-one-kind (Load v w) (Missed n) fit no = absurd fit
-one-kind (Store v w x) (Loaded y) fit no = absurd fit
-one-kind (Store v w x) Stored fit no = refl
-one-kind (Store v w x) (Added y) fit no = absurd fit
-one-kind (Store v w x) (Met n) fit no = absurd fit
-one-kind (Store v w x) (Missed n) fit no = absurd fit
-one-kind (Add v w x) (Loaded y) fit no = absurd fit
-one-kind (Add v w x) Stored fit no = absurd fit
-one-kind (Add v w x) (Added y) fit no = refl
-one-kind (Add v w x) (Met n) fit no = absurd fit
-one-kind (Add v w x) (Missed n) fit no = absurd fit
-one-kind (Await v w x max) r fit no = absurd no
+one-kind (Load v w) (Loaded x) fit none = refl
+one-kind (Load v w) Stored fit none = absurd fit
+one-kind (Load v w) (Added y) fit none = absurd fit
+one-kind (Load v w) (Met n) fit none = absurd fit
+one-kind (Load v w) (Missed n) fit none = absurd fit
+one-kind (Store v w x) (Loaded y) fit none = absurd fit
+one-kind (Store v w x) Stored fit none = refl
+one-kind (Store v w x) (Added y) fit none = absurd fit
+one-kind (Store v w x) (Met n) fit none = absurd fit
+one-kind (Store v w x) (Missed n) fit none = absurd fit
+one-kind (Add v w x) (Loaded y) fit none = absurd fit
+one-kind (Add v w x) Stored fit none = absurd fit
+one-kind (Add v w x) (Added y) fit none = refl
+one-kind (Add v w x) (Met n) fit none = absurd fit
+one-kind (Add v w x) (Missed n) fit none = absurd fit
+one-kind (Await v w x max) r fit none = absurd none
 
 more : (p : LineResult → Bool) (r : LineResult) (list : List LineResult) → count_by p (r ∷ list) ≡ cond (p r) 1 0 + count_by p list
 more p r list = sum_by-cons (λ x. cond (p x) 1 0) r list
