@@ -1,5 +1,5 @@
 -- A machine that has no page, no tier and no processor, for tests of the traits: all that an actor can do there is to bump.
-use Rattle.std.specs.Prelude.{◌≡◌, ℕ, zero, suc, [], ◌∷◌, ◌++◌, Option, Some, None}
+use Rattle.std.specs.Prelude.{◌≡◌, ℕ, zero, suc, Bool, true, false, List, [], ◌∷◌, ◌++◌, Option, Some, None}
 use Rattle.nm_base.specs.Geometry.{Geometry}
 use Rattle.nm_action.specs.declared.action.Action.TheVariants.{Bump}
 use Rattle.nm_action.specs.declared.action.Reply.TheVariants.{Word}
@@ -7,8 +7,9 @@ use Rattle.nm_action.specs.declared.turn.Turn.{Turn}
 use Rattle.nm_action.specs.declared.turn.Turn.TheVariants.{Do, End}
 use Rattle.nm_view.specs.Opening.{opening}
 use Rattle.nm_part.specs.Own.{Own}
-use Rattle.nm_actor.specs.Lanes.{LaneState}
+use Rattle.nm_actor.specs.Lanes.{LaneState, Held}
 use Rattle.nm_actor.specs.Chairs.{ChairState}
+use Rattle.nm_actor.specs.Boards.{BoardState, Stood}
 use Rattle.std.proofs.Common.{refl, sym, subst}
 use Rattle.nm_actor.specs.Actors.{Lists, no_lists}
 
@@ -20,21 +21,45 @@ abbrev pub bumps_to : ℕ → Own
 bumps_to zero = []
 bumps_to (suc n) = bumps_to n ++ (Bump, Word n) ∷ []
 
--- a lane with which nobody ever had luck
-abbrev pub lone_lane : ℕ → ℕ → LaneState
-lone_lane fulls empties = record { moves = []; fulls = fulls; empties = empties; held = None }
+-- what a lane holds that has no room, once that is told
+abbrev pub nothing_held : Bool → Option Held
+nothing_held false = None
+nothing_held true = Some (record { capacity = 0; pages = [] })
 
--- the chair of its only actor, which has bumped so often
-abbrev pub lone_state : ℕ → LaneState → LaneState → ChairState ℕ
-lone_state n candidates pending = record {
+-- a lane that has no room, and so holds nothing
+abbrev pub lone_lane : Bool → ℕ → ℕ → LaneState
+lone_lane rested fulls empties = record { moves = []; fulls = fulls; empties = empties; held = nothing_held rested }
+
+-- the chair of an actor that has bumped so often
+abbrev pub lone_state : ℕ → ℕ → LaneState → LaneState → ChairState ℕ
+lone_state actor n candidates pending = record {
   geometry = lone_geometry;
-  actor = 0;
+  actor = actor;
   own = bumps_to n;
-  view = record (opening lone_geometry 0) { bumps = n };
+  view = record (opening lone_geometry actor) { bumps = n };
   candidates = candidates;
   pending = pending;
   board = 0;
 }
+
+-- The board of that machine, which has room for two chairs.
+
+abbrev pub sat_list : Option ℕ → Option ℕ → List ℕ
+sat_list None _ = []
+sat_list (Some a) None = a ∷ []
+sat_list (Some a) (Some b) = a ∷ b ∷ []
+
+-- an actor that has stood after so many bumps
+abbrev pub stood_one : ℕ × ℕ → Stood
+stood_one p = record { actor = p.0; lists = record { own = bumps_to p.1; candidates = []; pending = [] } }
+
+abbrev pub stood_list : Option (ℕ × ℕ) → Option (ℕ × ℕ) → List Stood
+stood_list None _ = []
+stood_list (Some a) None = stood_one a ∷ []
+stood_list (Some a) (Some b) = stood_one a ∷ stood_one b ∷ []
+
+abbrev pub lone_board : List ℕ → List Stood → Bool → BoardState ℕ
+lone_board sat stood rested = record { name = 0; geometry = lone_geometry; candidates = 0; pending = 0; sat = sat; stood = stood; rested = rested }
 
 -- An actor that bumps once, and then gives End.
 

@@ -1,6 +1,6 @@
 //! The chair of a machine that has no page, no tier and no processor: a smallest chair, for tests.
 
-ghost use Rattle.std.specs.Prelude.{◌≡◌, ◌+◌};
+ghost use Rattle.std.specs.Prelude.{◌≡◌, ◌+◌, false};
 
 use crate::chair::{PagePort, Stepper, Tells};
 use nm_event::{Action, Full, Lane, Reply};
@@ -13,20 +13,24 @@ pub(crate) struct Refused {
     pub(crate) empties: u64,
 }
 
-/// The chair of the machine's only actor.
+/// The chair of an actor.
 #[derive(Drop)]
 pub(crate) struct Alone {
+    pub(crate) actor: u32,
     pub(crate) bumps: u64,
+    pub(crate) rested: bool,
     pub(crate) candidates: Refused,
     pub(crate) pending: Refused,
 }
 
 impl Alone {
-    pub(crate) fn new() -> Alone
-        ensures { result ≡ record { bumps = 0; candidates = record { fulls = 0; empties = 0 }; pending = record { fulls = 0; empties = 0 } } }
+    pub(crate) fn new(actor: u32) -> Alone
+        ensures { result ≡ record { actor = actor; bumps = 0; rested = false; candidates = record { fulls = 0; empties = 0 }; pending = record { fulls = 0; empties = 0 } } }
     {
         Alone {
+            actor,
             bumps: 0,
+            rested: false,
             candidates: Refused {
                 fulls: 0,
                 empties: 0,
@@ -44,7 +48,7 @@ impl Tells for Alone {
 
     ghost use Rattle.nm_actor.specs.Alone.{lone_lane, lone_state};
 
-    ghost state = { λ c. lone_state c.bumps (lone_lane c.candidates.fulls c.candidates.empties) (lone_lane c.pending.fulls c.pending.empties) };
+    ghost state = { λ c. lone_state c.actor c.bumps (lone_lane c.rested c.candidates.fulls c.candidates.empties) (lone_lane c.rested c.pending.fulls c.pending.empties) };
 }
 
 impl Stepper for Alone {
@@ -91,7 +95,7 @@ impl PagePort for Alone {
 
 #[test]
 fn refuses_every_page(rt: HostRuntime) {
-    let mut chair = Alone::new();
+    let mut chair = Alone::new(1);
     assert!(rt; chair.put(&rt, Lane::Candidates, 3).is_err());
     assert_eq!(rt; chair.take(&rt, Lane::Pending), None);
     assert_eq!(rt; chair.candidates.fulls, 1);

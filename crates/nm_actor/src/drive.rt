@@ -76,7 +76,7 @@ mod tests {
 
     #[test]
     fn a_part_is_driven_to_its_end(rt: HostRuntime) {
-        let mut chair = Alone::new();
+        let mut chair = Alone::new(0);
         let mut part = OneBump { asked: false };
         assert_eq!(rt; run_part(&rt, &mut part, &mut chair), 0);
         assert_eq!(rt; chair.bumps, 1);

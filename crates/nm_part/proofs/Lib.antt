@@ -1,1 +1,3 @@
 pub mod OwnLemmas
+pub mod Inside
+pub mod Nesting

@@ -103,6 +103,51 @@ mod tests {
         }
     }
 
+    /// Looks at a virtual page, and then is the inner part.
+    #[derive(Drop)]
+    struct Nested<P> {
+        vpage: u32,
+        inner: P,
+        asked: bool,
+        inside: bool,
+    }
+
+    impl<P: Part + Drop> Part for Nested<P> {
+        type Outcome = P::Outcome;
+
+        type Made = (u32, P::Made);
+
+        ghost use Rattle.std.specs.Prelude.{◌≡◌, false};
+        ghost use Rattle.nm_part.specs.Nested.{MayNest, IsNested, LeavesNested, IsLooking, IsInside, AwaitsNested};
+
+        ghost made = { λ p. record { 0 = p.vpage; 1 = P.made p.inner } };
+
+        ghost is_new = { λ p. (p.asked ≡ false) × (p.inside ≡ false) × P.is_new p.inner };
+
+        ghost may_begin = { λ made g view. MayNest P.may_begin P.shape made.0 made.1 g view };
+
+        ghost shape = { λ made g own outcome. IsNested (P.shape made.1 g) made.0 own outcome };
+
+        ghost leaves = { λ made g view outcome left. LeavesNested (P.leaves made.1 g) g made.0 view outcome left };
+
+        ghost awaits = { λ p g view own action. AwaitsNested p.inside
+            (P.is_new p.inner × IsLooking (λ g view. MayNest P.may_begin P.shape p.vpage (P.made p.inner) g view) p.vpage g view own action)
+            (IsInside (P.awaits p.inner) p.vpage g view own action) };
+
+        fn first(&mut self) -> Step<P::Outcome> {
+            self.asked = true;
+            Step::Do(Action::Look { vpage: self.vpage })
+        }
+
+        fn after(&mut self, reply: Reply) -> Step<P::Outcome> {
+            if self.inside {
+                return self.inner.after(reply);
+            }
+            self.inside = true;
+            self.inner.first()
+        }
+    }
+
     #[test]
     fn a_part_is_driven_by_replies(rt: HostRuntime) {
         let mut glance = Glance {
@@ -110,5 +155,16 @@ mod tests {
             asked: false,
         };
         assert_eq!(rt; glance.first(), Step::Do(Action::Look { vpage: 3 }));
+        let inner = Glance {
+            vpage: 3,
+            asked: false,
+        };
+        let mut nested = Nested {
+            vpage: 2,
+            inner,
+            asked: false,
+            inside: false,
+        };
+        assert_eq!(rt; nested.first(), Step::Do(Action::Look { vpage: 2 }));
     }
 }
