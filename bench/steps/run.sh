@@ -5,10 +5,11 @@ set -e
 top=$(cd "$(dirname "$0")/../.." && pwd)
 copy=${1:-$(mktemp -d)}
 mkdir -p "$copy"
-cp -r "$top/crates" "$top/crates.txt" "$top/HANDLES" "$copy/"
+(cd "$top" && tar --exclude=out -cf - crates crates.txt HANDLES) | tar -xf - -C "$copy"
 cd "$copy"
 [ -d crates/steps ] || rt new crates/steps start_io
-rm -rf crates/steps/proofs crates/steps/specs crates/steps/stdin crates/steps/stdout
+rm -rf crates/steps/proofs crates/steps/specs crates/steps/src crates/steps/stdin crates/steps/stdout
+mkdir crates/steps/src
 cp "$top/bench/steps/main.txt" crates/steps/src/main.rt
 grep -q "^steps:" crates.txt || echo "steps: nm_base nm_action nm_view nm_permit nm_core" >> crates.txt
 (cd crates/steps && rt fmt && rt run)

@@ -1,5 +1,5 @@
 -- When a step is refused, and that it then changes nothing.
-use Rattle.std.proofs.Common.{◌≡◌, ◌≢◌, ◌↔◌, ℕ, ◌+◌, ◌==◌, if◌then◌else◌, Bool, true, false, set, refl, sym, ap, ◌∙◌}
+use Rattle.std.proofs.Common.{◌≡◌, ◌≢◌, ◌↔◌, ℕ, ◌+◌, ◌==◌, if◌then◌else◌, Bool, true, false, set, refl, sym, ap, ◌∙◌, subst}
 use Rattle.std.proofs.lemmas.Bool.{eqb-true, eq-eqb}
 use Rattle.std.proofs.lemmas.List.{set-get_or}
 use Rattle.nm_base.specs.Geometry.{Geometry}
@@ -97,3 +97,13 @@ refused_same s actor (Lock b) h =
 refused_same s actor (TakeTurn t) h =
     refused_go s actor (names.Turn t) ((view_of s actor).number + 1) (word_found s actor (TakeTurn t) == 0) Done (Busy (word_found s actor (TakeTurn t))) (after_of s.geometry (view_of s actor) (TakeTurn t)) (λ done. done) refl h
 refused_same s actor a h = absurd h
+
+-- The same, of a state that is another's value.
+
+pub busy_at : (s now : State) (actor : ℕ) (a : Action) (r : Reply) (w : ℕ) → s ≡ now → r ≡ reply_to s actor a → (r ≡ Busy w) ↔ IsBusyWith now actor a w
+busy_at s now actor a r w same is =
+    subst (λ (n : State). (r ≡ Busy w) ↔ IsBusyWith n actor a w) same (subst (λ (q : Reply). (q ≡ Busy w) ↔ IsBusyWith s actor a w) (sym is) (busy_cause s actor a w))
+
+pub lost_at : (s now : State) (actor : ℕ) (a : Action) (r : Reply) (w : ℕ) → s ≡ now → r ≡ reply_to s actor a → (r ≡ Lost w) ↔ IsLostTo now actor a w
+lost_at s now actor a r w same is =
+    subst (λ (n : State). (r ≡ Lost w) ↔ IsLostTo n actor a w) same (subst (λ (q : Reply). (q ≡ Lost w) ↔ IsLostTo s actor a w) (sym is) (lost_cause s actor a w))

@@ -186,7 +186,6 @@ impl State {
     }
 
     /// Writes the home of each backing page.
-    #[tactic(auto, using(std::proofs::lemmas::List::FromFn::fill_by_all))]
     fn write_homes(&self, homes: &mut [Option<u32>])
         requires { length homes.old ≡ page_count self.now.geometry }
         ensures { homes.new ≡ map (home_of self.now) (range_with_len 0 (page_count self.now.geometry)) }
@@ -197,7 +196,6 @@ impl State {
     }
 
     /// Writes the shadow word of each frame.
-    #[tactic(auto, using(std::proofs::lemmas::List::FromFn::fill_by_all))]
     fn write_shadows(&self, shadows: &mut [Option<(u32, u32)>])
         requires { length shadows.old ≡ frame_count self.now.geometry }
         ensures { shadows.new ≡ map (shadow_at self.now) (all_frames self.now.geometry) }
@@ -216,7 +214,6 @@ impl State {
     }
 
     /// Writes the role of each frame.
-    #[tactic(auto, using(std::proofs::lemmas::List::FromFn::fill_by_all))]
     fn write_roles(&self, roles: &mut [Role])
         requires { length roles.old ≡ frame_count self.now.geometry }
         ensures { roles.new ≡ map (role_of self.now) (all_frames self.now.geometry) }
