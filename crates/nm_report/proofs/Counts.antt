@@ -3,10 +3,10 @@ use Rattle.std.proofs.Common.{◌≡◌, ℕ, zero, suc, ◌+◌, ◌<◌, ◌�
 use Rattle.std.specs.Prelude.{count_by, cond}
 use Rattle.std.proofs.lemmas.List.Sums.{sum_by-cons}
 use Rattle.nm_base.specs.Geometry.{Geometry, frame_count, first_frame}
-use Rattle.nm_report.specs.declared.end_words.Role.{Role}
-use Rattle.nm_report.specs.declared.end_words.Role.TheVariants.{Free, Mapped, Shadow, Held}
-use Rattle.nm_report.specs.Plain.{EndWords}
-use Rattle.nm_report.specs.Ends.{HasRoom, SumTo, is_free, is_mapped, is_shadow, is_held, tier_frames, tier_roles}
+use Rattle.nm_core.specs.declared.ends.Role.{Role}
+use Rattle.nm_core.specs.declared.ends.Role.TheVariants.{Free, Mapped, Shadow, Held}
+use Rattle.nm_core.specs.EndWords.{EndWords, HasRoom}
+use Rattle.nm_report.specs.Ends.{SumTo, is_free, is_mapped, is_shadow, is_held, tier_frames, tier_roles}
 
 sum-cons : (n : ℕ) (ns : List ℕ) → sum (n ∷ ns) ≡ n + sum ns
 sum-cons n ns = sum_by-cons (λ x. x) n ns

@@ -1,26 +1,9 @@
 -- End words: how long their lists are, what they may name, and how many frames of a tier have each role.
 use Rattle.std.specs.Prelude.{◌≡◌, ℕ, ◌+◌, ◌<◌, ◌==◌, if◌then◌else◌, Bool, true, false, List, length, take, drop, slice_index, slice_index_or, replicate, All, Option, Some, None, IfSome, count_by}
 use Rattle.nm_base.specs.Geometry.{Geometry, page_count, frame_count, first_frame}
-use Rattle.nm_report.specs.declared.end_words.Role.{Role}
-use Rattle.nm_report.specs.declared.end_words.Role.TheVariants.{Free, Mapped, Shadow, Held}
-use Rattle.nm_report.specs.Plain.{EndWords}
-
--- no page has a frame, no frame a shadow, no page a mark, every frame is free, and nothing is settled
-abbrev pub empty_end : Geometry → EndWords
-empty_end g = record {
-  homes = replicate (page_count g) None;
-  shadows = replicate (frame_count g) None;
-  marks = replicate (page_count g) 0;
-  roles = replicate (frame_count g) Free;
-  settled = false;
-}
-
--- a home and a mark for each backing page, a shadow word and a role for each frame
-pub record HasRoom (g : Geometry) (e : EndWords) : Type 0 where
-  pub homes : length e.homes ≡ page_count g
-  pub shadows : length e.shadows ≡ frame_count g
-  pub marks : length e.marks ≡ page_count g
-  pub roles : length e.roles ≡ frame_count g
+use Rattle.nm_core.specs.declared.ends.Role.{Role}
+use Rattle.nm_core.specs.declared.ends.Role.TheVariants.{Free, Mapped, Shadow, Held}
+use Rattle.nm_core.specs.EndWords.{EndWords}
 
 -- every home is a frame, and every shadow word names a page and a frame
 pub record NamesInRange (g : Geometry) (e : EndWords) : Type 0 where

@@ -7,11 +7,12 @@ use Rattle.nm_action.specs.declared.tally.Tally.{Tally}
 use Rattle.nm_script.specs.declared.script.Line.{Line}
 use Rattle.nm_script.specs.declared.script.Line.TheVariants.{Load, Store, Add, Await}
 use Rattle.nm_script.specs.Items.{line, place_text}
-use Rattle.nm_report.specs.declared.end_words.Role.{Role}
+use Rattle.nm_core.specs.declared.ends.Role.{Role}
 use Rattle.nm_report.specs.declared.line_result.LineResult.{LineResult}
 use Rattle.nm_report.specs.declared.line_result.LineResult.TheVariants.{Loaded, Stored, Added, Met, Missed}
-use Rattle.nm_report.specs.Plain.{EndWords, Report}
-use Rattle.nm_report.specs.Ends.{HasRoom, NamesInRange, is_free, is_mapped, is_shadow, is_held, tier_frames, tier_roles, home_of, shadow_of}
+use Rattle.nm_core.specs.EndWords.{EndWords, HasRoom}
+use Rattle.nm_report.specs.Plain.{Report}
+use Rattle.nm_report.specs.Ends.{NamesInRange, is_free, is_mapped, is_shadow, is_held, tier_frames, tier_roles, home_of, shadow_of}
 
 -- ---- the lines of the processors
 

@@ -4,14 +4,15 @@ ghost use Rattle.std.specs.Prelude.{◌≡◌, ◌<◌, ◌++◌, map, length, s
 ghost use Rattle.std.specs.Fmt.{decimal};
 ghost use Rattle.nm_base.specs.Geometry.{frame_count, page_count};
 ghost use Rattle.nm_script.specs.Items.{place_text};
-ghost use Rattle.nm_report.specs.Ends.{HasRoom, NamesInRange, is_free, is_mapped, is_shadow, is_held, named_beside};
+ghost use Rattle.nm_core.specs.EndWords.{HasRoom};
+ghost use Rattle.nm_report.specs.Ends.{NamesInRange, is_free, is_mapped, is_shadow, is_held, named_beside};
 ghost use Rattle.nm_report.specs.Texts.{IsPrintable, AllFit, EachFits, report_text, asked_text, given_text, made_text, all_made_text, cpu_text, cpus_text, roles_text, tier_text, tiers_text, shadow_text, home_text, page_text, pages_text, tally_text, faults_text, marks_text, moves_text, work_text, settled_text, counts_text};
 
-use crate::end_words::{EndWords, Role};
 use crate::line_result::LineResult;
 use crate::report::Report;
 use nm_action::Tally;
 use nm_base::Geometry;
+use nm_core::{EndWords, Role};
 use nm_script::Line;
 use nm_text::push_number;
 use std::alloc::{AllocError, Global};

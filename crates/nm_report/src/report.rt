@@ -1,8 +1,8 @@
 //! What a report is made from.
 
-use crate::end_words::EndWords;
 use crate::line_result::LineResult;
 use nm_action::Tally;
+use nm_core::EndWords;
 use nm_script::Script;
 use std::marker::Model;
 

@@ -1,6 +1,7 @@
 //! Tests of the texts of reports and summaries.
 
-ghost use Rattle.nm_report.specs.Ends.{HasRoom, NamesInRange};
+ghost use Rattle.nm_core.specs.EndWords.{HasRoom};
+ghost use Rattle.nm_report.specs.Ends.{NamesInRange};
 ghost use Rattle.nm_report.specs.Texts.{AllFit};
 ghost use Rattle.nm_report.specs.Summary.{IsNoAwait};
 ghost use Rattle.std.specs.Prelude.{◌≡◌, [], ◌∷◌, IfOk};
