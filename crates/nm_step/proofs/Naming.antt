@@ -43,7 +43,7 @@ NamesFrames-after g view (Walk v e write) Done may named h = record { cache = Al
 NamesFrames-after g view (Peek v) (Word n) may named h = record { cache = h.cache; ops = h.ops }
 NamesFrames-after g view Poll (Word n) may named h = record { cache = h.cache; ops = h.ops }
 NamesFrames-after g view (Ack to) Done may named h = record { cache = kept g view to h; ops = h.ops }
-NamesFrames-after g view (Lock b) Done may named h = record { cache = h.cache; ops = All-push (OpNamesFrames g) view.ops (opened b view.room.vpages) h.ops (names-opened g b view.room.vpages) }
+NamesFrames-after g view (Lock b) Done may named h = record { cache = h.cache; ops = All-push (OpNamesFrames g) view.ops (opened b view.room.aliases) h.ops (names-opened g b view.room.aliases) }
 NamesFrames-after g view (Unlock b) Done may named h = record { cache = h.cache; ops = All-erase page_of b (OpNamesFrames g) view.ops h.ops }
 NamesFrames-after g view Bump (Word n) may named h = record { cache = h.cache; ops = All-map (OpNamesFrames g) (bumped_to (n + 1)) view.ops (All-weaker (OpNamesFrames g) (λ o. OpNamesFrames g (bumped_to (n + 1) o)) (λ o k. record { home = k.home; taken = k.taken }) view.ops h.ops) }
 NamesFrames-after g view (SeeAck p) (Word n) may named h = record { cache = h.cache; ops = All-map (OpNamesFrames g) (seen_at p n) view.ops (All-weaker (OpNamesFrames g) (λ o. OpNamesFrames g (seen_at p n o)) (λ o k. record { home = k.home; taken = k.taken }) view.ops h.ops) }
