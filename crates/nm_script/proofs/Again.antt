@@ -47,15 +47,15 @@ last_of-again : (f : List ℕ) → Lacks 32 f → last_of f ≡ Some f
 unfolding last_of
 last_of-again f h = rw (cut_of-lacks 32 f h) refl
 
-one_of-again : (word f : List ℕ) → Lacks 32 f → one_of word (word ++ f) ≡ Some f
+pub one_of-again : (word f : List ℕ) → Lacks 32 f → one_of word (word ++ f) ≡ Some f
 unfolding one_of
 one_of-again word f h = rw (strip_of-again word f) (last_of-again f h)
 
-two_of-again : (word a b : List ℕ) → Lacks 32 a → Lacks 32 b → two_of word (word ++ (a ++ 32 ∷ b)) ≡ Some (a, b)
+pub two_of-again : (word a b : List ℕ) → Lacks 32 a → Lacks 32 b → two_of word (word ++ (a ++ 32 ∷ b)) ≡ Some (a, b)
 unfolding two_of
 two_of-again word a b h k = rw (strip_of-again word (a ++ 32 ∷ b)) (rw (cut_of-again 32 a b h) (rw (last_of-again b k) refl))
 
-three_of-again : (word a b c : List ℕ) → Lacks 32 a → Lacks 32 b → Lacks 32 c → three_of word (word ++ (a ++ 32 ∷ (b ++ 32 ∷ c))) ≡ Some (a, b, c)
+pub three_of-again : (word a b c : List ℕ) → Lacks 32 a → Lacks 32 b → Lacks 32 c → three_of word (word ++ (a ++ 32 ∷ (b ++ 32 ∷ c))) ≡ Some (a, b, c)
 unfolding three_of
 three_of-again word a b c h k l =
     rw (strip_of-again word (a ++ 32 ∷ (b ++ 32 ∷ c))) (rw (cut_of-again 32 a (b ++ 32 ∷ c) h) (rw (cut_of-again 32 b c k) (rw (last_of-again c l) refl)))
@@ -107,15 +107,15 @@ unfolding schedule_line serial_in
 serial-again t h =
     rw (one_of-again (codes "serial turns ") (decimal t) (lacks t (omega arith))) (rw (ranged_in-again 0 8000000 t (omega arith) (omega arith) h) refl)
 
-serial_shuffle : (x : List ℕ) → one_of (codes "serial turns ") (codes "shuffle " ++ x) ≡ None
+pub serial_shuffle : (x : List ℕ) → one_of (codes "serial turns ") (codes "shuffle " ++ x) ≡ None
 unfolding one_of strip_of
 serial_shuffle x = refl
 
-serial_plan : (x : List ℕ) → one_of (codes "serial turns ") (codes "plan turns " ++ x) ≡ None
+pub serial_plan : (x : List ℕ) → one_of (codes "serial turns ") (codes "plan turns " ++ x) ≡ None
 unfolding one_of strip_of
 serial_plan x = refl
 
-shuffle_plan : (x : List ℕ) → shuffle_of (codes "plan turns " ++ x) ≡ None
+pub shuffle_plan : (x : List ℕ) → shuffle_of (codes "plan turns " ++ x) ≡ None
 unfolding shuffle_of three_of strip_of
 shuffle_plan x = refl
 
@@ -133,7 +133,7 @@ unfolding schedule_line plan_in
 plan-again t h =
     rw (serial_plan (decimal t)) (rw (shuffle_plan (decimal t)) (rw (one_of-again (codes "plan turns ") (decimal t) (lacks t (omega arith))) (rw (ranged_in-again 0 8000000 t (omega arith) (omega arith) h) refl)))
 
-kind-again : (k : ActionKind) → (kind_among all_kinds (kind_text k) ≡ Some k) × Lacks 32 (kind_text k)
+pub kind-again : (k : ActionKind) → (kind_among all_kinds (kind_text k) ≡ Some k) × Lacks 32 (kind_text k)
 kind-again kinds.Load = (refl, refl)
 kind-again kinds.Store = (refl, refl)
 kind-again kinds.Add = (refl, refl)
@@ -211,7 +211,7 @@ go_line-again cpus g few h =
     let small : g.actor < 2 ^ 64 = omega (arith, h.0, few) in
     rw (go_of-again cpus g small h.2) (rw (actor_in-again cpus g.actor small h.0) (rw (ranged_in-again 1 1000000 g.count (omega (arith, h.2)) h.1 h.2) refl))
 
-right-again : (w : Bool) → (right_of (right_text w) ≡ Some w) × Lacks 32 (right_text w)
+pub right-again : (w : Bool) → (right_of (right_text w) ≡ Some w) × Lacks 32 (right_text w)
 unfolding right_of
 right-again true = (refl, refl)
 right-again false = (refl, refl)
@@ -249,27 +249,27 @@ writes-again : (o : Option VPage) (l : Line) → IsSomeAnd o (λ p. p.writable �
 writes-again None l h = absurd h
 writes-again (Some p) l h = rw h refl
 
-load_store : (x : List ℕ) → one_of (codes "load ") (codes "store " ++ x) ≡ None
+pub load_store : (x : List ℕ) → one_of (codes "load ") (codes "store " ++ x) ≡ None
 unfolding one_of strip_of
 load_store x = refl
 
-load_add : (x : List ℕ) → one_of (codes "load ") (codes "add " ++ x) ≡ None
+pub load_add : (x : List ℕ) → one_of (codes "load ") (codes "add " ++ x) ≡ None
 unfolding one_of strip_of
 load_add x = refl
 
-load_await : (x : List ℕ) → one_of (codes "load ") (codes "await " ++ x) ≡ None
+pub load_await : (x : List ℕ) → one_of (codes "load ") (codes "await " ++ x) ≡ None
 unfolding one_of strip_of
 load_await x = refl
 
-store_add : (x : List ℕ) → two_of (codes "store ") (codes "add " ++ x) ≡ None
+pub store_add : (x : List ℕ) → two_of (codes "store ") (codes "add " ++ x) ≡ None
 unfolding two_of strip_of
 store_add x = refl
 
-store_await : (x : List ℕ) → two_of (codes "store ") (codes "await " ++ x) ≡ None
+pub store_await : (x : List ℕ) → two_of (codes "store ") (codes "await " ++ x) ≡ None
 unfolding two_of strip_of
 store_await x = refl
 
-add_await : (x : List ℕ) → two_of (codes "add ") (codes "await " ++ x) ≡ None
+pub add_await : (x : List ℕ) → two_of (codes "add ") (codes "await " ++ x) ≡ None
 unfolding two_of strip_of
 add_await x = refl
 

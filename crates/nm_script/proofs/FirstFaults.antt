@@ -10,12 +10,14 @@ use Rattle.nm_script.specs.Plain.{Script}
 use Rattle.nm_script.specs.Fields.{lines_of}
 use Rattle.nm_script.specs.Told.{Told, nothing, with_item, is_whole, script_of}
 use Rattle.nm_script.specs.Grammar.{AreLines}
+use Rattle.nm_script.specs.LineFaults.{IsLineFault}
 use Rattle.nm_script.specs.Faults.{IsFaultAt, IsFirstFault, IsRefusal}
 use Rattle.nm_script.specs.Holds.{IsTold}
 use Rattle.nm_script.specs.Reading.{◌>>=◌, Reads, step, at_line, told_after, ended, script_in, reading}
 use Rattle.nm_script.proofs.Tellings.{told-step}
 use Rattle.nm_script.proofs.Steps.{step-again}
 use Rattle.nm_script.proofs.Texts.{step-some, lines-found}
+use Rattle.nm_script.proofs.LineFaults.{line-refused, refused-line}
 
 same_fault : {A : Type 0} (a f : ScriptFault) (b n : ℕ) → ◌≡◌ {A = Result A (ScriptFault × ℕ)} (Err (a, b)) (Err (f, n)) → (a ≡ f) × (b ≡ n)
 same_fault a f b n e =
@@ -30,7 +32,7 @@ record Stops (s : Told) (k : ℕ) (ls : List (List ℕ)) (f : ScriptFault) (n : 
   told : Told
   split : ls ≡ front ++ next ∷ rest
   lines : AreLines s front told
-  fault : step told next ≡ Err f
+  fault : IsLineFault told next f
   count : n ≡ length front + k
 
 stops-after : (s m : Told) (k : ℕ) (l : List ℕ) (ls : List (List ℕ)) (f : ScriptFault) (n : ℕ) → IsTold s → step s l ≡ Ok m → Stops m (k + 1) ls f n → Stops s k (l ∷ ls) f n
@@ -52,7 +54,7 @@ stops_case : (s : Told) (k : ℕ) (l : List ℕ) (ls : List (List ℕ)) (f : Scr
 stops_case s k l ls f n (Ok m) told is h later = stops-after s m k l ls f n told is (later m (told-step s m l told is) h)
 stops_case s k l ls f n (Err g) told is h later =
     let same = same_fault g f k n h in
-    record { front = []; next = l; rest = ls; told = s; split = refl; lines = refl; fault = is ∙ ap (λ x. Err x) same.0; count = omega (arith, same.1) }
+    record { front = []; next = l; rest = ls; told = s; split = refl; lines = refl; fault = refused-line s l f told (is ∙ ap (λ x. Err x) same.0); count = omega (arith, same.1) }
 
 stops : (s : Told) (k : ℕ) (ls : List (List ℕ)) (f : ScriptFault) (n : ℕ) → IsTold s → told_after s k ls ≡ Err (f, n) → Stops s k ls f n
 stops s k [] f n told e = absurd (cc)
@@ -89,10 +91,18 @@ runs s t k (l ∷ front) rest told h =
     ∙ runs (with_item s h.0) t (k + 1) front rest (told-step s (with_item s h.0) l told taken) h.3
     ∙ ap (λ j. told_after t j rest) line
 
+-- what holds after lines that follow one another
+told-lines : (s t : Told) (front : List (List ℕ)) → IsTold s → AreLines s front t → IsTold t
+told-lines s t [] told h = subst (λ (u : Told). IsTold u) h told
+told-lines s t (l ∷ front) told h =
+    let taken : step s l ≡ Ok (with_item s h.0) = ap (step s) h.1 ∙ step-again s h.0 told h.2 in
+    told-lines (with_item s h.0) t front (told-step s (with_item s h.0) l told taken) h.3
+
 only : (front rest : List (List ℕ)) (t : Told) (f : ScriptFault) → AreLines nothing front t → IsFaultAt front t rest f → script_in (front ++ rest) ≡ Err (f, length front + 1)
 only [] [] t f lines here = ap (λ g. Err (g, 1)) (sym here)
 only [] (l ∷ ls) t f lines here =
-    let all : told_after nothing 1 (l ∷ ls) ≡ Err (f, 1) = runs nothing t 1 [] (l ∷ ls) (inl refl) lines ∙ ap (λ r. at_line 1 r >>= λ u. told_after u 2 ls) here in
+    let refused : step t l ≡ Err f = line-refused t l f (told-lines nothing t [] (inl refl) lines) here in
+    let all : told_after nothing 1 (l ∷ ls) ≡ Err (f, 1) = runs nothing t 1 [] (l ∷ ls) (inl refl) lines ∙ ap (λ r. at_line 1 r >>= λ u. told_after u 2 ls) refused in
     ap (λ r. r >>= ended (length (l ∷ ls))) all
 only (k ∷ ks) [] t f lines here =
     let n : ℕ = length (k ∷ ks) in
@@ -100,7 +110,8 @@ only (k ∷ ks) [] t f lines here =
     ap script_in (append-nil (k ∷ ks)) ∙ ap (λ r. r >>= ended n) all ∙ ap (λ b. if b then Ok (script_of t) else Err (faults.MissingLine, n + 1)) here.0 ∙ ap (λ g. Err (g, n + 1)) (sym here.1)
 only (k ∷ ks) (l ∷ ls) t f lines here =
     let n : ℕ = length (k ∷ ks) + 1 in
-    let all : told_after nothing 1 ((k ∷ ks) ++ l ∷ ls) ≡ Err (f, n) = runs nothing t 1 (k ∷ ks) (l ∷ ls) (inl refl) lines ∙ ap (λ r. at_line n r >>= λ u. told_after u (n + 1) ls) here in
+    let refused : step t l ≡ Err f = line-refused t l f (told-lines nothing t (k ∷ ks) (inl refl) lines) here in
+    let all : told_after nothing 1 ((k ∷ ks) ++ l ∷ ls) ≡ Err (f, n) = runs nothing t 1 (k ∷ ks) (l ∷ ls) (inl refl) lines ∙ ap (λ r. at_line n r >>= λ u. told_after u (n + 1) ls) refused in
     ap (λ r. r >>= ended (length ((k ∷ ks) ++ l ∷ ls))) all
 
 -- a first fault is what is read

@@ -2,7 +2,11 @@ pub mod Again
 pub mod FieldLemmas
 pub mod Finished
 pub mod FirstFaults
+pub mod Forms
+pub mod FormsFound
 pub mod FullTiers
+pub mod LineFaultRows
+pub mod LineFaults
 pub mod Lines
 pub mod Mapped
 pub mod Memory
@@ -10,6 +14,7 @@ pub mod MoreTiers
 pub mod NeverLong
 pub mod Printed
 pub mod PrintedAgain
+pub mod Questions
 pub mod Says
 pub mod Sections
 pub mod Spelled

@@ -52,7 +52,8 @@ header_in-some s line i e = header_case (bytes_eq line (codes "nomad 1")) (bytes
 size_or : (a : Bool) (w k : ℕ) → k ≤ 9 → (a ≡ true → IsPageSize w) → (a || (w == 2 ^ k)) ≡ true → IsPageSize w
 size_or a w k h f e = elim (or_cases a (w == 2 ^ k) e) [ inl t ↦ f t | inr q ↦ (k, h, eqb-true _ _ q) ]
 
-page_size : (w : ℕ) → is_page_size w ≡ true → IsPageSize w
+-- what the test of a page's words says
+pub page_size : (w : ℕ) → is_page_size w ≡ true → IsPageSize w
 page_size w =
     size_or _ w 9 (omega arith) (size_or _ w 8 (omega arith) (size_or _ w 7 (omega arith) (size_or _ w 6 (omega arith) (size_or _ w 5 (omega arith) (size_or _ w 4 (omega arith) (size_or _ w 3 (omega arith) (size_or _ w 2 (omega arith) (size_or _ w 1 (omega arith) (λ e. (0, omega arith, eqb-true _ _ e))))))))))
 

@@ -24,11 +24,11 @@ use Rattle.nm_script.proofs.Again.{page_line-again, tiers_line-again, node_line-
 
 -- ---- lines of other forms
 
-page_tiers : (x : List ℕ) → page_line (codes "tiers " ++ x) ≡ None
+pub page_tiers : (x : List ℕ) → page_line (codes "tiers " ++ x) ≡ None
 unfolding page_line one_of strip_of
 page_tiers x = refl
 
-page_node : (x : List ℕ) → page_line (codes "node " ++ x) ≡ None
+pub page_node : (x : List ℕ) → page_line (codes "node " ++ x) ≡ None
 unfolding page_line one_of strip_of
 page_node x = refl
 
@@ -40,35 +40,35 @@ node_cpus : (frames : ℕ) (x : List ℕ) → node_line frames (codes "cpus " ++
 unfolding node_line two_of strip_of
 node_cpus frames x = refl
 
-more_cpus : (s : Told) (x : List ℕ) → more_line s (codes "cpus " ++ x) ≡ None
+pub more_cpus : (s : Told) (x : List ℕ) → more_line s (codes "cpus " ++ x) ≡ None
 unfolding more_line
 more_cpus s x = skipped (s.version == 2 && nat_lt (length s.nodes) 16) (node_line s.frames (codes "cpus " ++ x)) (node_cpus s.frames x)
 
-retry_serial : (version : ℕ) (x : List ℕ) → retry_line version (codes "serial turns " ++ x) ≡ None
+pub retry_serial : (version : ℕ) (x : List ℕ) → retry_line version (codes "serial turns " ++ x) ≡ None
 unfolding retry_line one_of strip_of
 retry_serial version x = skipped (version == 2) None refl
 
-retry_shuffle : (version : ℕ) (x : List ℕ) → retry_line version (codes "shuffle " ++ x) ≡ None
+pub retry_shuffle : (version : ℕ) (x : List ℕ) → retry_line version (codes "shuffle " ++ x) ≡ None
 unfolding retry_line one_of strip_of
 retry_shuffle version x = skipped (version == 2) None refl
 
-retry_plan : (version : ℕ) (x : List ℕ) → retry_line version (codes "plan turns " ++ x) ≡ None
+pub retry_plan : (version : ℕ) (x : List ℕ) → retry_line version (codes "plan turns " ++ x) ≡ None
 unfolding retry_line one_of strip_of
 retry_plan version x = skipped (version == 2) None refl
 
-retry_map : (version : ℕ) (x : List ℕ) → retry_line version (codes "map " ++ x) ≡ None
+pub retry_map : (version : ℕ) (x : List ℕ) → retry_line version (codes "map " ++ x) ≡ None
 unfolding retry_line one_of strip_of
 retry_map version x = skipped (version == 2) None refl
 
-schedule_map : (x : List ℕ) → schedule_line (codes "map " ++ x) ≡ None
+pub schedule_map : (x : List ℕ) → schedule_line (codes "map " ++ x) ≡ None
 unfolding schedule_line one_of shuffle_of three_of strip_of
 schedule_map x = refl
 
-go_map : (cpus : ℕ) (x : List ℕ) → go_line cpus (codes "map " ++ x) ≡ None
+pub go_map : (cpus : ℕ) (x : List ℕ) → go_line cpus (codes "map " ++ x) ≡ None
 unfolding go_line go_of three_of strip_of
 go_map cpus x = refl
 
-map_cpu : (s : Told) (x : List ℕ) → map_line s (codes "cpu " ++ x) ≡ None
+pub map_cpu : (s : Told) (x : List ℕ) → map_line s (codes "cpu " ++ x) ≡ None
 unfolding map_line map_of three_of strip_of
 map_cpu s x = refl
 
@@ -80,10 +80,10 @@ cpu_access s (Add v w x) = refl
 cpu_access s (Await v w x n) = refl
 
 -- the second of two readings, where the first gives nothing
-second : {A : Type 0} (x y : Option A) (r : A) → x ≡ None → y ≡ Some r → either_of x y ≡ Some r
+pub second : {A : Type 0} (x y : Option A) (r : A) → x ≡ None → y ≡ Some r → either_of x y ≡ Some r
 second x y r none e = ap (λ o. either_of o y) none ∙ e
 
-first : {A : Type 0} (x y : Option A) (r : A) → x ≡ Some r → either_of x y ≡ Some r
+pub first : {A : Type 0} (x y : Option A) (r : A) → x ≡ Some r → either_of x y ≡ Some r
 first x y r e = ap (λ o. either_of o y) e
 
 -- ---- a line at its place

@@ -254,7 +254,8 @@ told_item s (items.Access l) t told one r e =
 
 -- ---- what the code needs
 
-few_nodes : (s : Told) → IsTold s → IsOneOf (places.Version ∷ places.Page ∷ []) s.place → length s.nodes < 16
+-- before the first tiers there are no nodes
+pub few_nodes : (s : Told) → IsTold s → IsOneOf (places.Version ∷ places.Page ∷ []) s.place → length s.nodes < 16
 few_nodes s told one =
     let h = opened s (places.Version ∷ places.Page ∷ []) ((λ x. cc), ((λ x. cc), tt)) one told in
     let none : s.nodes ≡ [] = elim one [ inl a ↦ (at s places.Version h a).1 | inr r ↦ elim r [ inl b ↦ (at s places.Page h b).1 | inr n ↦ absurd n ] ] in

@@ -1,5 +1,5 @@
 -- The first fault of a text, and its line.
-use Rattle.std.specs.Prelude.{◌≡◌, ◌≢◌, ℕ, ◌+◌, false, List, [], ◌∷◌, ◌++◌, length, Err}
+use Rattle.std.specs.Prelude.{◌≡◌, ◌≢◌, ℕ, ◌+◌, false, List, [], ◌∷◌, ◌++◌, length}
 use Rattle.nm_script.specs.declared.fault.ScriptFault.{ScriptFault}
 use Rattle.nm_script.specs.declared.fault.ScriptFault.TheVariants as faults
 use Rattle.nm_script.specs.declared.fault.ScriptRefusal.{ScriptRefusal}
@@ -7,11 +7,11 @@ use Rattle.nm_script.specs.declared.fault.ScriptRefusal.TheVariants as refusals
 use Rattle.nm_script.specs.Fields.{lines_of}
 use Rattle.nm_script.specs.Told.{Told, nothing, is_whole}
 use Rattle.nm_script.specs.Grammar.{AreLines}
-use Rattle.nm_script.specs.Reading.{step}
+use Rattle.nm_script.specs.LineFaults.{IsLineFault}
 
 -- after lines that told this, the next line has the fault; or there is none, and the text has no line, or ends too early
 abbrev pub IsFaultAt : List (List ℕ) → Told → List (List ℕ) → ScriptFault → Type 0
-IsFaultAt front s (l ∷ ls) f = step s l ≡ Err f
+IsFaultAt front s (l ∷ ls) f = IsLineFault s l f
 IsFaultAt [] s [] f = f ≡ faults.Empty
 IsFaultAt (k ∷ ks) s [] f = (is_whole s ≡ false) × (f ≡ faults.MissingLine)
 

@@ -6,4 +6,5 @@ pub mod Fields
 pub mod Reading
 pub mod Grammar
 pub mod Holds
+pub mod LineFaults
 pub mod Faults
