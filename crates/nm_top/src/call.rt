@@ -78,9 +78,9 @@ pub fn nomad_main<T: Threads + Wait + Sync, G: Gate, S: Source, K: Sink>(
 /// The commands that need no threads. `sim` reads a script from the source, runs it and writes its output to the sink;
 /// `gen N SIZE` reads nothing and writes the script of the number N, with SIZE lines of programs.
 ///
-/// The order of the answers is: Usage (or Memory, where there is none to read the words), then reading (ReadFault, Script with TooLong, Memory, as they come), then Script
-/// with the first fault, then NotBuilt, then Memory, and WriteFault last. Nothing is written before the whole text
-/// stands.
+/// The order of the answers is: Usage, or Memory where there is none to read the words; then reading, with ReadFault,
+/// Script with TooLong, and Memory as they come; then Script with the first fault; then NotBuilt; then Memory; and
+/// WriteFault last. Nothing is written before the whole text stands.
 pub fn plain_call<S: Source, K: Sink>(
     alloc: Global,
     words: &[String],

@@ -9,4 +9,6 @@ pub use call::{nomad_main, one_output, plain_call};
 pub use status::Status;
 
 #[cfg(test)]
+mod part_tests;
+#[cfg(test)]
 mod tests;

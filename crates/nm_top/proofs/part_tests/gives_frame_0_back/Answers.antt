@@ -1,0 +1,45 @@
+use Rattle.std.proofs.Common.{◌≡◌, ℕ, ◌<◌, List, [], ◌∷◌, length, get_or, sum, refl, ap, ◌∙◌, arith, rules}
+use Rattle.nm_base.specs.Geometry.{frame_count}
+use Rattle.nm_action.specs.declared.action.Action.TheVariants.{TakeTurn, Scan, GiveFrame, PutFrame, ReleaseTurn}
+use Rattle.nm_view.specs.declared.view.Fill.TheVariants.{Raw}
+use Rattle.nm_view.specs.Views.{View}
+use Rattle.nm_view.specs.Opening.{opening}
+use Rattle.nm_pool.specs.declared.job.PoolJob.TheVariants.{Take, Level, Back}
+use Rattle.nm_pool.proofs.Played.{may-begin, awaited-at, fits-had, fits-released, fits-given, fits-put, fits-scan}
+use Rattle.nm_top.proofs.part_tests.gives_frame_0_back.Goals as goal
+
+abbrev frame_sum : List ℕ → ℕ
+frame_sum ts = sum ts
+
+pub after-requires : goal.after-requires
+after-requires w c =
+    let g = c.args.g.now in
+    let v : View = record (opening g 0) { owned = record { frame = 0; fill = Raw } ∷ [] } in
+    let tiers = c.requires.tiers in
+    let exists : 0 < frame_count g = (let n = ap (λ ts. frame_sum ts) tiers in omega (arith, n)) in
+    let may = may-begin c.give_back-task.result.made g v (Back 0) c.give_back-task.ensures.made c.requires.limits (exists, refl) refl in
+    let s0 = awaited-at (c.in-Do-TakeTurn-eq0.ensures.step g v may) (TakeTurn 0) (c.in-Do-TakeTurn-eq0.field-0-is ∙ ap (λ (n : ℕ). TakeTurn n) c.in-Do-TakeTurn-eq0.field-0-0-test) in
+    record { geometry = g; view = v; own = _; action = TakeTurn 0; awaited = s0; fits = fits-had g _ 0 }
+
+pub after-requires-2 : goal.after-requires-2
+after-requires-2 w c =
+    let g = c.args.g.now in
+    let v : View = record (opening g 0) { owned = record { frame = 0; fill = Raw } ∷ [] } in
+    let tiers = c.requires.tiers in
+    let exists : 0 < frame_count g = (let n = ap (λ ts. frame_sum ts) tiers in omega (arith, n)) in
+    let may = may-begin c.give_back-task.result.made g v (Back 0) c.give_back-task.ensures.made c.requires.limits (exists, refl) refl in
+    let s0 = awaited-at (c.in-Do-TakeTurn-eq0.ensures.step g v may) (TakeTurn 0) (c.in-Do-TakeTurn-eq0.field-0-is ∙ ap (λ (n : ℕ). TakeTurn n) c.in-Do-TakeTurn-eq0.field-0-0-test) in
+    let s1 = awaited-at (c.in-Do-PutFrame-eq0.ensures.step g v _ (TakeTurn 0) s0 (fits-had g _ 0)) (PutFrame 0) (c.in-Do-PutFrame-eq0.field-0-is ∙ ap (λ (n : ℕ). PutFrame n) c.in-Do-PutFrame-eq0.field-0-0-test) in
+    record { geometry = g; view = v; own = _; action = PutFrame 0; awaited = s1; fits = fits-put g _ 0 12 (omega arith) }
+
+pub after-requires-3 : goal.after-requires-3
+after-requires-3 w c =
+    let g = c.args.g.now in
+    let v : View = record (opening g 0) { owned = record { frame = 0; fill = Raw } ∷ [] } in
+    let tiers = c.requires.tiers in
+    let exists : 0 < frame_count g = (let n = ap (λ ts. frame_sum ts) tiers in omega (arith, n)) in
+    let may = may-begin c.give_back-task.result.made g v (Back 0) c.give_back-task.ensures.made c.requires.limits (exists, refl) refl in
+    let s0 = awaited-at (c.in-Do-TakeTurn-eq0.ensures.step g v may) (TakeTurn 0) (c.in-Do-TakeTurn-eq0.field-0-is ∙ ap (λ (n : ℕ). TakeTurn n) c.in-Do-TakeTurn-eq0.field-0-0-test) in
+    let s1 = awaited-at (c.in-Do-PutFrame-eq0.ensures.step g v _ (TakeTurn 0) s0 (fits-had g _ 0)) (PutFrame 0) (c.in-Do-PutFrame-eq0.field-0-is ∙ ap (λ (n : ℕ). PutFrame n) c.in-Do-PutFrame-eq0.field-0-0-test) in
+    let s2 = awaited-at (c.in-Do-ReleaseTurn-eq0.ensures.step g v _ (PutFrame 0) s1 (fits-put g _ 0 12 (omega arith))) (ReleaseTurn 0) (c.in-Do-ReleaseTurn-eq0.field-0-is ∙ ap (λ (n : ℕ). ReleaseTurn n) c.in-Do-ReleaseTurn-eq0.field-0-0-test) in
+    record { geometry = g; view = v; own = _; action = ReleaseTurn 0; awaited = s2; fits = fits-released g _ 0 }
