@@ -7,9 +7,12 @@ ghost use Rattle.nm_report.specs.Summary.{IsNoAwait};
 ghost use Rattle.std.specs.Prelude.{◌≡◌, [], ◌∷◌, IfOk};
 ghost use Rattle.std.specs.List.{AllByRecursion};
 
-use crate::{EndWords, LineResult, Report, Role, print, print_cpu, summary};
+use crate::{
+    EndWords, LineResult, Report, Role, counts_sum, follows_fits, print, print_cpu, summary,
+};
 use nm_action::Tally;
 use nm_base::{Geometry, VPage};
+use nm_flat::{Access, AccessKind};
 use nm_script::{Line, Schedule, Script};
 use std::alloc::Global;
 use std::test::Fail;
@@ -252,5 +255,24 @@ fn summary_of_adds(rt: HostRuntime) -> Result<(), Fail> {
     let want =
         "drill 7 4\naccesses 4 loads 2 stores 2 sum 3\ntier 0 free 3 mapped 1 shadow 0 held 0 of 4\ntier 1 free 8 mapped 0 shadow 0 held 0 of 8\nfaults demand 0 alias 0 hint 0 shadow 0\nmarks set 0 spilled 0 cold 0 committed 0 moved 0 noframe 0 gone 0 worn 0\nmoves aborted 0 remapped 0 copied 0 words 0\nwork flushes 0 reclaimed 0\nsettled yes\n";
     assert_eq!(rt; text.as_slice(), want.as_bytes());
+    Ok(())
+}
+
+/// The facts of reports hold of an end and of a processor that has ended.
+#[test]
+fn facts(rt: HostRuntime) -> Result<(), Fail> {
+    let script = script_of(rt.alloc(), &[4, 8], &[LOAD])?;
+    let g = &script.geometry;
+    let end = end_of(rt.alloc(), g, Some(0), None)?;
+    if g.tiers.len() > 1 {
+        counts_sum(g, &end, 1);
+    }
+    let load = Access {
+        cpu: 0,
+        vpage: 0,
+        word: 0,
+        kind: AccessKind::Load(7),
+    };
+    follows_fits(0, true, &[LOAD], &[LineResult::Loaded(7)], &[load]);
     Ok(())
 }
