@@ -464,3 +464,142 @@ fn promotion_by_hand(rt: HostRuntime) -> Result<(), Fail> {
     assert_eq!(rt; end.settled, true);
     Ok(())
 }
+
+/// A word whose right to write is saved is granted; loads, stores and adds go through walks; a frame is put back.
+#[test]
+fn accesses_by_hand(rt: HostRuntime) -> Result<(), Fail> {
+    let g = Geometry::new(rt.alloc(), 4, &[4, 8], 1, &[WRITABLE])?;
+    let mut state = State::start(rt.alloc(), &g)?;
+    let seen = Action::Ack { to: AckTo::Seen };
+    make_all(
+        &rt,
+        &mut state,
+        0,
+        &[(Action::Poll, Reply::Word(0)), (seen, Reply::Done)],
+    );
+    // Present, and the right to write is saved.
+    demand(&rt, &mut state, 0, 0, 15, 33);
+    grant(&rt, &mut state);
+    walk_and_write(&rt, &mut state);
+    soften_and_arm(&rt, &mut state);
+    put_back(&rt, &mut state);
+    assert_eq!(rt; role(&state, 0), Some(Role::Mapped));
+    assert_eq!(rt; role(&state, 1), Some(Role::Free));
+    Ok(())
+}
+
+/// The steps of an actor that makes the saved right of virtual page 0 the right to write.
+fn grant(rt: &impl Abort, state: &mut State) {
+    let home = Action::Read {
+        page: 0,
+        cell: Cell::Home(0),
+    };
+    let shadow = Action::Read {
+        page: 0,
+        cell: Cell::Shadow(0),
+    };
+    make_all(
+        rt,
+        state,
+        0,
+        &[
+            (Action::Lock { page: 0 }, Reply::Done),
+            (Action::Look { vpage: 0 }, Reply::Word(33)),
+            (home, Reply::Word(1)),
+            (shadow, Reply::Word(0)),
+            (Action::Grant { vpage: 0 }, Reply::Word(33)),
+            (Action::Unlock { page: 0 }, Reply::Done),
+            (Action::Look { vpage: 0 }, Reply::Word(5)),
+        ],
+    );
+}
+
+/// A walk of virtual page 0 that finds this word.
+fn walk(expect: u64, write: bool) -> Action {
+    Action::Walk {
+        vpage: 0,
+        expect,
+        write,
+    }
+}
+
+/// The steps of a processor that stores and adds only after a walk for writing.
+fn walk_and_write(rt: &impl Abort, state: &mut State) {
+    let load = Action::Load { vpage: 0, word: 1 };
+    let store = Action::Store {
+        vpage: 0,
+        word: 1,
+        value: 7,
+    };
+    let add = Action::Add {
+        vpage: 0,
+        word: 1,
+        value: u64::MAX,
+    };
+    assert_eq!(rt; make(state, 0, load), None);
+    make_all(
+        rt,
+        state,
+        0,
+        &[
+            (Action::Peek { vpage: 0 }, Reply::Word(0)),
+            (walk(33, false), Reply::Lost(5)),
+            (walk(5, false), Reply::Done),
+            (load, Reply::Word(0)),
+        ],
+    );
+    assert_eq!(rt; make(state, 0, store), None);
+    make_all(
+        rt,
+        state,
+        0,
+        &[
+            (walk(21, true), Reply::Done),
+            (store, Reply::Word(0)),
+            (add, Reply::Word(7)),
+            (load, Reply::Word(6)),
+        ],
+    );
+}
+
+/// The steps of an actor that clears the accessed bit of virtual page 0, and sets and clears its hint.
+fn soften_and_arm(rt: &impl Abort, state: &mut State) {
+    let accessed = Action::Soften {
+        vpage: 0,
+        bit: Bit::Accessed,
+    };
+    let hint = Action::Soften {
+        vpage: 0,
+        bit: Bit::Hint,
+    };
+    make_all(
+        rt,
+        state,
+        0,
+        &[
+            (accessed, Reply::Word(29)),
+            (Action::Lock { page: 0 }, Reply::Done),
+            (Action::Look { vpage: 0 }, Reply::Word(13)),
+            (Action::Arm { vpage: 0 }, Reply::Word(13)),
+            (hint, Reply::Word(15)),
+            (Action::Unlock { page: 0 }, Reply::Done),
+            (Action::Look { vpage: 0 }, Reply::Word(13)),
+        ],
+    );
+}
+
+/// The steps of an actor that takes frame 1 and puts it back.
+fn put_back(rt: &impl Abort, state: &mut State) {
+    make_all(
+        rt,
+        state,
+        0,
+        &[
+            (Action::TakeTurn { tier: 0 }, Reply::Done),
+            (Action::Scan { tier: 0, index: 0 }, Reply::Word(14)),
+            (Action::GiveFrame { frame: 1 }, Reply::Word(14)),
+            (Action::PutFrame { frame: 1 }, Reply::Word(12)),
+            (Action::ReleaseTurn { tier: 0 }, Reply::Done),
+        ],
+    );
+}
