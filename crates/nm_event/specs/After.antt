@@ -25,7 +25,7 @@ use Rattle.nm_view.specs.Lists.{find, edit, erase, put, first, itself}
 use Rattle.nm_view.specs.Views.{Op, View, off_word, end_word}
 use Rattle.nm_view.specs.Opening.{opened, unscanned}
 use Rattle.nm_base.specs.ShadowWord.{shadow_word, shadow_frame}
-use Rattle.nm_view.specs.Operations.{page_of, cached_page, peeked_page, owned_frame, op_on, is_flush_ended}
+use Rattle.nm_view.specs.Operations.{page_of, cached_page, peeked_page, owned_frame, op_on, known_home, is_flush_ended}
 
 -- Translations.
 
