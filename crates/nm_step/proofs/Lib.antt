@@ -1,4 +1,1 @@
-pub mod InPlace
-pub mod InRange
-pub mod Keyed
-pub mod Naming
+pub mod Replies

@@ -1,5 +1,5 @@
 -- The words of a machine by name, and the places of the free frames and of the memory in their lists.
-use Rattle.std.specs.Prelude.{ℕ, ◌+◌, ◌*◌, ◌/◌, ◌<◌, take, sum_by}
+use Rattle.std.specs.Prelude.{ℕ, ◌+◌, ◌*◌, ◌<◌, take, sum_by}
 use Rattle.nm_base.specs.Geometry.{Geometry}
 use Rattle.nm_base.specs.Ranges.{IsVPage, IsPage, IsFrame, IsTier, IsIndex}
 use Rattle.nm_base.specs.FreeWords.{free_words, words_for}

@@ -3,7 +3,7 @@ use Rattle.std.proofs.Common.{subst}
 use Rattle.nm_action.specs.declared.action.Action.{Action}
 use Rattle.nm_words.specs.Names.{IsPlace}
 use Rattle.nm_step.specs.Table.{where_of}
-use Rattle.nm_step.proofs.table.where_of.Goals as goal
+use Rattle.nm_step.proofs.table.exchange_of.Goals as goal
 
 pub home_frame-requires : goal.home_frame-requires
 home_frame-requires c =
