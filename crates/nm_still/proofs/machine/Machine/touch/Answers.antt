@@ -1,9 +1,9 @@
 -- The place of a word in its frame.
 use Rattle.std.proofs.Common.{◌≡◌, ap, arith}
 use Rattle.nm_flat.specs.Memory.{page_of}
-use Rattle.nm_core.specs.Inside.{parts_of}
-use Rattle.nm_core.proofs.Sound.{IsPlaceOf-frame}
-use Rattle.nm_core.proofs.machine.Machine.touch.Goals as goal
+use Rattle.nm_still.specs.Inside.{parts_of}
+use Rattle.nm_still.proofs.Sound.{IsPlaceOf-frame}
+use Rattle.nm_still.proofs.machine.Machine.touch.Goals as goal
 
 pub returns-clause-place : goal.returns-clause-place
 returns-clause-place c =

@@ -5,8 +5,8 @@ use Rattle.nm_base.specs.Geometry.{Geometry, IsGeometry, page_count, frame_count
 use Rattle.nm_base.specs.PageWord.{word_of}
 use Rattle.nm_base.specs.declared.page_word.PageWord.TheVariants.{Present}
 use Rattle.nm_flat.specs.Memory.{page_of, word_count}
-use Rattle.nm_core.specs.declared.machine.Machine.{Machine}
-use Rattle.nm_core.specs.Still as plain
+use Rattle.nm_still.specs.declared.machine.Machine.{Machine}
+use Rattle.nm_still.specs.Still as plain
 
 -- the table word of each virtual page; for each backing page its frame plus 1, or 0 while it has none;
 -- how many frames have a page; the words of all frames
@@ -21,19 +21,19 @@ abbrev pub parts_of : Machine → Parts
 parts_of m = record { geometry = m.geometry.now; table = m.table.items; homes = m.homes.items; taken = m.taken; memory = m.memory.items }
 
 -- word i of a page with this home: 0 while the page has no frame
-abbrev pub word_at : ℕ → List ℕ → ℕ → ℕ → ℕ
-word_at size memory home i = if home == 0 then 0 else slice_index memory ((home - 1) * size + i)
+abbrev pub homed_word : ℕ → List ℕ → ℕ → ℕ → ℕ
+homed_word size memory home i = if home == 0 then 0 else slice_index memory ((home - 1) * size + i)
 
 -- word i of backing page b
 abbrev pub value_at : Parts → ℕ → ℕ → ℕ
-value_at p b i = word_at p.geometry.words p.memory (slice_index p.homes b) i
+value_at p b i = homed_word p.geometry.words p.memory (slice_index p.homes b) i
 
 -- the words of all backing pages, page by page
-unfoldable pub words_of : Parts → List ℕ
-words_of p = map (λ n. value_at p (n / p.geometry.words) (n % p.geometry.words)) (range_with_len 0 (word_count p.geometry))
+unfoldable pub page_words : Parts → List ℕ
+page_words p = map (λ n. value_at p (n / p.geometry.words) (n % p.geometry.words)) (range_with_len 0 (word_count p.geometry))
 
 abbrev pub still_of : Parts → plain.Still
-still_of p = record { geometry = p.geometry; words = words_of p }
+still_of p = record { geometry = p.geometry; words = page_words p }
 
 -- a table word maps the frame of a home
 pub record IsMapping (home word : ℕ) : Type 0 where
@@ -50,7 +50,7 @@ pub record IsPlaceOf (p : Parts) (b i at : ℕ) : Type 0 where
   pub within : at < length p.memory
 
 -- frames are taken in order, each by one page; the frames after them are 0; each table word is 0 or maps its page's frame
-pub record IsSound (p : Parts) : Type 0 where
+pub record IsStillSound (p : Parts) : Type 0 where
   pub geometry : IsGeometry p.geometry
   pub table_size : length p.table ≡ length p.geometry.vpages
   pub homes_size : length p.homes ≡ page_count p.geometry

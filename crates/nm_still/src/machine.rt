@@ -18,15 +18,15 @@ pub struct Still<'a> {
 }
 
 impl<'a> Model for Still<'a> {
-    ghost use Rattle.nm_core.specs.Still as plain;
+    ghost use Rattle.nm_still.specs.Still as plain;
 
     ghost Value = { plain.Still };
 
-    ghost use Rattle.nm_core.specs.Inside.{IsSound, parts_of, still_of};
+    ghost use Rattle.nm_still.specs.Inside.{IsStillSound, parts_of, still_of};
 
     ghost view = { λ s. still_of (parts_of s.machine) };
 
-    ghost invariant = { λ s. IsSound (parts_of s.machine) };
+    ghost invariant = { λ s. IsStillSound (parts_of s.machine) };
 }
 
 impl<'a> Still<'a> {
@@ -78,12 +78,12 @@ struct Machine<'a> {
 }
 
 impl<'a> Machine<'a> {
-    ghost use Rattle.nm_core.specs.Inside.{IsPlaceOf, IsSound, parts_of, words_of};
+    ghost use Rattle.nm_still.specs.Inside.{IsPlaceOf, IsStillSound, parts_of, page_words};
 
     fn new(alloc: Global, g: &'a Geometry) -> Result<Machine<'a>, AllocError>
-        ensures sound { IfOk result (λ m. IsSound (parts_of m)) }
+        ensures sound { IfOk result (λ m. IsStillSound (parts_of m)) }
         ensures geometry { IfOk result (λ m. m.geometry.now ≡ g.now) }
-        ensures words { IfOk result (λ m. words_of (parts_of m) ≡ replicate (word_count g.now) 0) }
+        ensures words { IfOk result (λ m. page_words (parts_of m) ≡ replicate (word_count g.now) 0) }
     {
         Ok(Machine {
             geometry: g,
@@ -95,26 +95,26 @@ impl<'a> Machine<'a> {
     }
 
     fn load(&mut self, v: u32, w: u32) -> u64
-        requires sound { IsSound (parts_of self.old) }
+        requires sound { IsStillSound (parts_of self.old) }
         requires mapped { IsSome (backing_page self.old.geometry.now v) }
         requires within { w < self.old.geometry.now.words }
-        ensures sound { IsSound (parts_of self.new) }
+        ensures sound { IsStillSound (parts_of self.new) }
         ensures geometry { self.new.geometry.now ≡ self.old.geometry.now }
-        ensures value { result ≡ slice_index (words_of (parts_of self.old))
+        ensures value { result ≡ slice_index (page_words (parts_of self.old))
             (place self.old.geometry.now (page_of self.old.geometry.now v) w) }
-        ensures same { words_of (parts_of self.new) ≡ words_of (parts_of self.old) }
+        ensures same { page_words (parts_of self.new) ≡ page_words (parts_of self.old) }
     {
         let at = self.touch(v, w);
         self.memory[at]
     }
 
     fn store(&mut self, v: u32, w: u32, x: u64)
-        requires sound { IsSound (parts_of self.old) }
+        requires sound { IsStillSound (parts_of self.old) }
         requires mapped { IsSome (backing_page self.old.geometry.now v) }
         requires within { w < self.old.geometry.now.words }
-        ensures sound { IsSound (parts_of self.new) }
+        ensures sound { IsStillSound (parts_of self.new) }
         ensures geometry { self.new.geometry.now ≡ self.old.geometry.now }
-        ensures words { words_of (parts_of self.new) ≡ slice_set (words_of (parts_of self.old))
+        ensures words { page_words (parts_of self.new) ≡ slice_set (page_words (parts_of self.old))
             (place self.old.geometry.now (page_of self.old.geometry.now v) w) x }
     {
         let at = self.touch(v, w);
@@ -123,12 +123,12 @@ impl<'a> Machine<'a> {
 
     /// Where the memory has a word of a virtual page, which is mapped to its frame first.
     fn touch(&mut self, v: u32, w: u32) -> usize
-        requires sound { IsSound (parts_of self.old) }
+        requires sound { IsStillSound (parts_of self.old) }
         requires mapped { IsSome (backing_page self.old.geometry.now v) }
         requires within { w < self.old.geometry.now.words }
-        ensures sound { IsSound (parts_of self.new) }
+        ensures sound { IsStillSound (parts_of self.new) }
         ensures geometry { self.new.geometry.now ≡ self.old.geometry.now }
-        ensures same { words_of (parts_of self.new) ≡ words_of (parts_of self.old) }
+        ensures same { page_words (parts_of self.new) ≡ page_words (parts_of self.old) }
         ensures place { IsPlaceOf (parts_of self.new) (page_of self.old.geometry.now v) w result }
     {
         let frame = self.mapped_frame(v);
@@ -138,11 +138,11 @@ impl<'a> Machine<'a> {
 
     /// The frame of a virtual page, which is mapped to it first.
     fn mapped_frame(&mut self, v: u32) -> u32
-        requires sound { IsSound (parts_of self.old) }
+        requires sound { IsStillSound (parts_of self.old) }
         requires mapped { IsSome (backing_page self.old.geometry.now v) }
-        ensures sound { IsSound (parts_of self.new) }
+        ensures sound { IsStillSound (parts_of self.new) }
         ensures geometry { self.new.geometry.now ≡ self.old.geometry.now }
-        ensures same { words_of (parts_of self.new) ≡ words_of (parts_of self.old) }
+        ensures same { page_words (parts_of self.new) ≡ page_words (parts_of self.old) }
         ensures home { slice_index self.new.homes.items (page_of self.old.geometry.now v) ≡ result + 1 }
     {
         if let Some(PageWord::Present { frame, .. }) = PageWord::of_word(self.table[v as usize]) {
@@ -164,11 +164,11 @@ impl<'a> Machine<'a> {
 
     /// The frame of a backing page, which gets the least free one where it has none.
     fn home_frame(&mut self, page: u32) -> u32
-        requires sound { IsSound (parts_of self.old) }
+        requires sound { IsStillSound (parts_of self.old) }
         requires within { page < page_count self.old.geometry.now }
-        ensures sound { IsSound (parts_of self.new) }
+        ensures sound { IsStillSound (parts_of self.new) }
         ensures geometry { self.new.geometry.now ≡ self.old.geometry.now }
-        ensures same { words_of (parts_of self.new) ≡ words_of (parts_of self.old) }
+        ensures same { page_words (parts_of self.new) ≡ page_words (parts_of self.old) }
         ensures home { slice_index self.new.homes.items page ≡ result + 1 }
     {
         let home = self.homes[page as usize];
