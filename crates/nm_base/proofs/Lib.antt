@@ -1,3 +1,4 @@
 pub mod Pages
 pub mod Tiers
 pub mod Words
+pub mod ShadowWords

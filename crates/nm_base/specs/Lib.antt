@@ -4,3 +4,4 @@ pub mod PageWord
 pub mod FreeWords
 pub mod Ranges
 pub mod ShadowWord
+pub mod HomeWord
