@@ -12,9 +12,9 @@ use Rattle.nm_view.specs.Views.{View}
 use Rattle.nm_view.specs.Operations.{cached_page, page_of, op_on, known_home}
 use Rattle.nm_permit.specs.Permitted.{Allowed, MayCopyLoad, IsCachedDirty}
 use Rattle.nm_words.specs.Names.{IsPlace}
-use Rattle.nm_step.specs.Named.{NamesFrames, OpNamesFrames}
+use Rattle.nm_core.specs.Named.{NamesFrames, OpNamesFrames}
 use Rattle.nm_step.specs.Table.{where_of, entry_frame, cached_frame, named_frame, home_frame, free_word_of}
-use Rattle.nm_step.proofs.Keyed.{some_and, some_is, All-found}
+use Rattle.nm_core.proofs.Keyed.{some_and, some_is, All-found}
 
 -- a cached translation leads to a frame
 cached : (g : Geometry) (view : View) (v : ℕ) → NamesFrames g view → IsSome (find cached_page v view.cache) → IsFrame g (cached_frame view v)

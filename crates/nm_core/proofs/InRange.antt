@@ -22,10 +22,10 @@ use Rattle.nm_view.specs.Operations.{op_of}
 use Rattle.nm_permit.specs.Permitted.{Allowed, MayMap, IsWordBack, IsWordNew}
 use Rattle.nm_words.specs.Exchanges.{changed}
 use Rattle.nm_words.specs.Ranged.{IsRanged}
-use Rattle.nm_step.specs.Drawn.{bumps_after, raises_after}
-use Rattle.nm_step.specs.Named.{NamesFrames, OpNamesFrames}
+use Rattle.nm_core.specs.Drawn.{bumps_after, raises_after}
+use Rattle.nm_core.specs.Named.{NamesFrames, OpNamesFrames}
 use Rattle.nm_step.specs.Table.{where_of, change_of, walked_word, walk_bits, all_but, bit_of}
-use Rattle.nm_step.proofs.Keyed.{some_and, All-found, All-op_of}
+use Rattle.nm_core.proofs.Keyed.{some_and, All-found, All-op_of}
 
 -- Table words: bits below the frame leave the frame.
 

@@ -19,9 +19,9 @@ use Rattle.nm_view.specs.Opening.{opened}
 use Rattle.nm_view.specs.Operations.{page_of, cached_page}
 use Rattle.nm_event.specs.After.{after_of, walked, kept_entries, is_confirmed, looked_at, read_cell, cleared_at, taken_at, raised_to, bumped_to, seen_at, loaded, copied_one, homed_at, shaded, mapped_at, granted_at}
 use Rattle.nm_permit.specs.Permitted.{Allowed}
-use Rattle.nm_step.specs.Named.{NamesFrames, OpNamesFrames}
-use Rattle.nm_step.specs.Replies.{IsNamed}
-use Rattle.nm_step.proofs.Keyed.{All-edit, All-edit_under, All-edit_of, All-put, All-erase}
+use Rattle.nm_core.specs.Named.{NamesFrames, OpNamesFrames}
+use Rattle.nm_core.specs.Replies.{IsNamed}
+use Rattle.nm_core.proofs.Keyed.{All-edit, All-edit_under, All-edit_of, All-put, All-erase}
 
 -- an operation in which nothing is known names no frame
 names-opened : (g : Geometry) (page room : ℕ) → OpNamesFrames g (opened page room)

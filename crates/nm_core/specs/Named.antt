@@ -1,16 +1,15 @@
--- The frames that a view names by its cache, its known homes and its taken words.
-use Rattle.std.specs.Prelude.{◌≤◌, All, IfSome}
-use Rattle.nm_base.specs.Geometry.{Geometry, frame_count}
-use Rattle.nm_base.specs.PageWord.{frame_of}
+-- The table words and frames that a view took out of the table.
+use Rattle.std.specs.Prelude.{All}
+use Rattle.nm_base.specs.Geometry.{Geometry}
 use Rattle.nm_base.specs.Ranges.{IsFrame}
+use Rattle.nm_base.specs.TableWord.{IsTableInRange}
 use Rattle.nm_view.specs.Views.{Op, View}
 
--- the frames that an operation names are in range
-pub record OpNamesFrames (g : Geometry) (o : Op) : Type 0 where
-  pub home : IfSome o.home (λ h. h ≤ frame_count g)
-  pub taken : All (λ p. IsFrame g (frame_of p.1)) o.taken
+-- each taken word of an operation is a table word in range
+abbrev pub AreTakenInRange : Geometry → Op → Type 0
+AreTakenInRange g o = All (λ p. IsTableInRange g p.1) o.taken
 
--- the frames that a view names are in range
+-- the cached frames are in range, and the taken words are table words in range
 pub record NamesFrames (g : Geometry) (view : View) : Type 0 where
   pub cache : All (λ e. IsFrame g e.frame) view.cache
-  pub ops : All (OpNamesFrames g) view.ops
+  pub taken : All (AreTakenInRange g) view.ops

@@ -1,7 +1,9 @@
 -- By cases on a group of words: only these kinds of action exchange a word of the group, each on this word and by this
 -- change. What is proved of each of them (a record for each group) holds of every action whose exchange is in the group.
-use Rattle.std.proofs.Common.{◌≡◌, ℕ, ◌+◌, ◌^◌, Bool, Option, sym, subst}
+use Rattle.std.proofs.Common.{ℕ, ◌+◌, ◌^◌, Bool, Option}
 use Rattle.nm_base.specs.Geometry.{Geometry, tier_of}
+use Rattle.nm_base.specs.PageWord.{hint_mask, dirty_mask, grant_mask, all_but, walked_word}
+use Rattle.nm_base.specs.HomeWord.{home_word}
 use Rattle.nm_base.specs.FreeWords.{free_index, free_bit}
 use Rattle.nm_base.specs.ShadowWord.{shadow_word}
 use Rattle.nm_action.specs.declared.action.AckTo.{AckTo}
@@ -14,7 +16,7 @@ use Rattle.nm_words.specs.declared.names.Where.{Where}
 use Rattle.nm_words.specs.declared.names.Where.TheVariants.{Req, Pte, Stamp, Home, Shadow, Lock, Mark, Ack, Turn, Free, Mem}
 use Rattle.nm_words.specs.declared.exchanges.Change.{Change}
 use Rattle.nm_words.specs.declared.exchanges.Change.TheVariants as changes
-use Rattle.nm_step.specs.Table.{exchange_of, where_of, change_of, cached_frame, home_frame, acked_word, all_but, bit_of, walked_word}
+use Rattle.nm_step.specs.Table.{where_of, change_of, cached_frame, home_frame, acked_word, bit_mask}
 
 -- what is claimed of an action, of its word and of its change
 abbrev pub Claim : Type 1
@@ -75,19 +77,19 @@ pub record OnReq (P : Claim) : Type 0 where
 pub record OnPte (P : Claim) : Type 0 where
   pub look : (v : ℕ) → P (kinds.Look v) (Pte v) changes.Keep
   pub walk : (v expect : ℕ) (write : Bool) → P (kinds.Walk v expect write) (Pte v) (changes.IfIs expect (walked_word expect write))
-  pub soften : (v : ℕ) (bit : Bit) → P (kinds.Soften v bit) (Pte v) (changes.And (all_but (bit_of bit)))
-  pub arm : (v : ℕ) → P (kinds.Arm v) (Pte v) (changes.Or 2)
-  pub clear_dirty : (v : ℕ) → P (kinds.ClearDirty v) (Pte v) (changes.And (all_but 3))
+  pub soften : (v : ℕ) (bit : Bit) → P (kinds.Soften v bit) (Pte v) (changes.And (all_but (bit_mask bit)))
+  pub arm : (v : ℕ) → P (kinds.Arm v) (Pte v) (changes.Or hint_mask)
+  pub clear_dirty : (v : ℕ) → P (kinds.ClearDirty v) (Pte v) (changes.And (all_but dirty_mask))
   pub unmap : (v : ℕ) → P (kinds.Unmap v) (Pte v) (changes.Swap 0)
   pub map : (v word : ℕ) → P (kinds.Map v word) (Pte v) (changes.Put word)
-  pub grant : (v : ℕ) → P (kinds.Grant v) (Pte v) (changes.Xor 36)
+  pub grant : (v : ℕ) → P (kinds.Grant v) (Pte v) (changes.Xor grant_mask)
 
 pub record OnStamp (P : Claim) : Type 0 where
   pub peek : (v : ℕ) → P (kinds.Peek v) (Stamp v) changes.Keep
   pub raise : (v : ℕ) → P (kinds.Raise v) (Stamp v) (changes.Add 1)
 
 pub record OnHome (P : Claim) : Type 0 where
-  pub set : (b f : ℕ) → P (kinds.SetHome b f) (Home b) (changes.Put (f + 1))
+  pub set : (b f : ℕ) → P (kinds.SetHome b f) (Home b) (changes.Put (home_word f))
   pub read : (b page : ℕ) → P (kinds.Read b (cells.Home page)) (Home page) changes.Keep
 
 pub record OnShadow (P : Claim) : Type 0 where
@@ -111,7 +113,7 @@ pub record OnTurn (view : View) (P : Claim) : Type 0 where
 
 pub record OnFree (g : Geometry) (P : Claim) : Type 0 where
   pub scan : (t k : ℕ) → P (kinds.Scan t k) (Free t k) changes.Keep
-  pub give : (f : ℕ) → P (kinds.GiveFrame f) (Free (tier_of g f) (free_index g f)) (changes.And (all_but (free_bit g f)))
+  pub give : (f : ℕ) → P (kinds.GiveFrame f) (Free (tier_of g f) (free_index g f)) (changes.And (all_but (2 ^ free_bit g f)))
   pub put : (f : ℕ) → P (kinds.PutFrame f) (Free (tier_of g f) (free_index g f)) (changes.Or (2 ^ free_bit g f))
 
 pub record OnMem (view : View) (P : Claim) : Type 0 where

@@ -1,7 +1,9 @@
 -- The step as a table: for each kind of action the word on which it is an exchange, and the exchange; and the reply, which
 -- follows from the exchange.
-use Rattle.std.specs.Prelude.{ℕ, ◌+◌, ◌-◌, ◌^◌, ◌==◌, if◌then◌else◌, Bool, true, false, Option, Some, None, bit_or}
+use Rattle.std.specs.Prelude.{ℕ, ◌+◌, ◌-◌, ◌^◌, ◌==◌, if◌then◌else◌, Option, Some, None}
 use Rattle.nm_base.specs.Geometry.{Geometry, tier_of}
+use Rattle.nm_base.specs.PageWord.{hint_mask, dirty_mask, accessed_mask, grant_mask, all_but, walked_word}
+use Rattle.nm_base.specs.HomeWord.{home_word}
 use Rattle.nm_action.specs.declared.action.AckTo.{AckTo}
 use Rattle.nm_action.specs.declared.action.AckTo.TheVariants as acks
 use Rattle.nm_action.specs.declared.action.Bit.{Bit}
@@ -60,23 +62,10 @@ acked_word view acks.Seen = view.req_seen
 acked_word view acks.Off = off_word
 acked_word view acks.End = end_word
 
--- every bit of a word but this one
-abbrev pub all_but : ℕ → ℕ
-all_but bit = 2 ^ 64 - 1 - 2 ^ bit
-
--- the bit of a table word that a Soften clears
-abbrev pub bit_of : Bit → ℕ
-bit_of Hint = 1
-bit_of Accessed = 4
-
--- the bits of a table word that a walk sets: accessed, and dirty for a write
-abbrev pub walk_bits : Bool → ℕ
-walk_bits true = 24
-walk_bits false = 16
-
--- a table word after a walk went through it
-abbrev pub walked_word : ℕ → Bool → ℕ
-walked_word word write = bit_or word (walk_bits write)
+-- the flag of a table word that a Soften clears
+abbrev pub bit_mask : Bit → ℕ
+bit_mask Hint = hint_mask
+bit_mask Accessed = accessed_mask
 
 -- The table.
 
@@ -95,19 +84,19 @@ exchange_of g view (Unlock b) = (words.Lock b, changes.Put 0)
 exchange_of g view Bump = (words.Req, changes.Add 1)
 exchange_of g view (SeeAck p) = (words.Ack p, changes.Keep)
 exchange_of g view (Raise v) = (words.Stamp v, changes.Add 1)
-exchange_of g view (Soften v bit) = (words.Pte v, changes.And (all_but (bit_of bit)))
-exchange_of g view (Arm v) = (words.Pte v, changes.Or 2)
-exchange_of g view (ClearDirty v) = (words.Pte v, changes.And (all_but 3))
+exchange_of g view (Soften v bit) = (words.Pte v, changes.And (all_but (bit_mask bit)))
+exchange_of g view (Arm v) = (words.Pte v, changes.Or hint_mask)
+exchange_of g view (ClearDirty v) = (words.Pte v, changes.And (all_but dirty_mask))
 exchange_of g view (Unmap v) = (words.Pte v, changes.Swap 0)
 exchange_of g view (Map v word) = (words.Pte v, changes.Put word)
-exchange_of g view (Grant v) = (words.Pte v, changes.Xor 36)
+exchange_of g view (Grant v) = (words.Pte v, changes.Xor grant_mask)
 exchange_of g view (CopyLoad b i) = (words.Mem (home_frame view b) i, changes.Keep)
 exchange_of g view (CopyStore b f i x) = (words.Mem f i, changes.Put x)
-exchange_of g view (SetHome b f) = (words.Home b, changes.Put (f + 1))
+exchange_of g view (SetHome b f) = (words.Home b, changes.Put (home_word f))
 exchange_of g view (SetShadow b m s) = (words.Shadow m, changes.Put (shadow_word b s))
 exchange_of g view (TakeTurn t) = (words.Turn t, changes.Take (view.number + 1))
 exchange_of g view (Scan t k) = (words.Free t k, changes.Keep)
-exchange_of g view (GiveFrame f) = (free_word_of g f, changes.And (all_but (free_bit g f)))
+exchange_of g view (GiveFrame f) = (free_word_of g f, changes.And (all_but (2 ^ free_bit g f)))
 exchange_of g view (PutFrame f) = (free_word_of g f, changes.Or (2 ^ free_bit g f))
 exchange_of g view (ReleaseTurn t) = (words.Turn t, changes.Put 0)
 exchange_of g view (Mark b old new) = (words.Mark b, changes.IfIs old new)

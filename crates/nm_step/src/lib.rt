@@ -4,4 +4,4 @@
 
 pub mod table;
 
-pub use table::{exchange_of, free_bit, free_word_of, reply_of};
+pub use table::{exchange_of, free_word_of, reply_of};

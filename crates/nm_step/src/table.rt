@@ -1,17 +1,18 @@
 //! The rows of the table of actions.
 
 ghost use Rattle.std.specs.Prelude.{◌≡◌, ◌+◌, ◌≤◌, ◌<◌, ◌^◌, ◌-◌};
-ghost use Rattle.nm_base.specs.Geometry.{first_frame, tier_of};
 ghost use Rattle.nm_base.specs.Ranges.{IsFrame, IsPage};
 ghost use Rattle.nm_base.specs.ShadowWord.{shadow_word};
 ghost use Rattle.nm_view.specs.Operations.{op_on, known_home};
 ghost use Rattle.nm_permit.specs.Permitted.{InRange};
 ghost use Rattle.nm_words.specs.Names.{IsPlace};
-ghost use Rattle.nm_base.specs.FreeWords.{free_bit};
-ghost use Rattle.nm_step.specs.Table.{exchange_of, where_of, reply_of, cached_frame, home_frame, named_frame, free_word_of, cell_word, acked_word, all_but, bit_of, walk_bits, walked_word};
+ghost use Rattle.nm_step.specs.Table.{exchange_of, where_of, reply_of, cached_frame, home_frame, named_frame, free_word_of, cell_word, acked_word, bit_mask};
 
 use nm_action::{AckTo, Action, Bit, Cell, Reply};
 use nm_base::Geometry;
+use nm_base::home_word::home_word;
+use nm_base::shadow_word::shadow_word;
+use nm_base::table_word::{ACCESSED, DIRTY, GRANT, HINT, all_but, walked_word};
 use nm_view::keyed::look_up;
 use nm_view::reading::op_on;
 use nm_view::{ActorView, END, OFF};
@@ -54,18 +55,7 @@ pub fn free_word_of(g: &Geometry, frame: u32) -> Where
     requires { IsFrame g.now frame }
     ensures { result ≡ free_word_of g.now frame }
 {
-    let tier = g.tier_of(frame);
-    Where::Free(tier, (frame - g.first_frame(tier)) / 64)
-}
-
-/// The bit of a frame in that word.
-pub fn free_bit(g: &Geometry, frame: u32) -> u32
-    requires { IsFrame g.now frame }
-    ensures value { result ≡ free_bit g.now frame }
-    ensures bound { result < 64 }
-{
-    let tier = g.tier_of(frame);
-    (frame - g.first_frame(tier)) % 64
+    Where::Free(g.tier_of(frame), g.free_index(frame))
 }
 
 /// The word that a Read reads.
@@ -78,30 +68,14 @@ fn cell_word(cell: Cell) -> Where
     }
 }
 
-/// Every bit of a word but this one.
-fn all_but(bit: u32) -> u64
-    requires { bit < 64 }
-    ensures { result ≡ all_but bit }
-{
-    u64::MAX - (1 << bit)
-}
-
-/// The bit of a table word that a Soften clears.
-fn bit_of(bit: Bit) -> u32
-    ensures value { result ≡ bit_of bit }
-    ensures bound { result < 64 }
+/// The flag of a table word that a Soften clears.
+fn bit_mask(bit: Bit) -> u64
+    ensures { result ≡ bit_mask bit }
 {
     match bit {
-        Bit::Hint => 1,
-        Bit::Accessed => 4,
+        Bit::Hint => HINT,
+        Bit::Accessed => ACCESSED,
     }
-}
-
-/// A table word after a walk went through it.
-fn walked_word(word: u64, write: bool) -> u64
-    ensures { result ≡ walked_word word write }
-{
-    if write { word | 24 } else { word | 16 }
 }
 
 /// What an acknowledgement says.
@@ -112,17 +86,6 @@ fn acked_word(view: &ActorView, to: AckTo) -> u64
         AckTo::Seen => view.req_seen,
         AckTo::Off => OFF,
         AckTo::End => END,
-    }
-}
-
-/// The shadow word of a page with this shadow, or with none.
-fn shadow_word(page: u32, shadow: Option<u32>) -> u64
-    requires { page < 2 ^ 31 }
-    ensures { result ≡ shadow_word page shadow }
-{
-    match shadow {
-        Some(frame) => (u64::from(page) + 1) * (1 << 32) + u64::from(frame) + 1,
-        None => 0,
     }
 }
 
@@ -159,12 +122,12 @@ pub fn exchange_of(g: &Geometry, view: &ActorView, action: Action) -> (Where, Ch
         Action::Bump => (Where::Req, Change::Add(1)),
         Action::SeeAck { cpu } => (Where::Ack(cpu), Change::Keep),
         Action::Raise { vpage } => (Where::Stamp(vpage), Change::Add(1)),
-        Action::Soften { vpage, bit } => (Where::Pte(vpage), Change::And(all_but(bit_of(bit)))),
-        Action::Arm { vpage } => (Where::Pte(vpage), Change::Or(2)),
-        Action::ClearDirty { vpage } => (Where::Pte(vpage), Change::And(all_but(3))),
+        Action::Soften { vpage, bit } => (Where::Pte(vpage), Change::And(all_but(bit_mask(bit)))),
+        Action::Arm { vpage } => (Where::Pte(vpage), Change::Or(HINT)),
+        Action::ClearDirty { vpage } => (Where::Pte(vpage), Change::And(all_but(DIRTY))),
         Action::Unmap { vpage } => (Where::Pte(vpage), Change::Swap(0)),
         Action::Map { vpage, word } => (Where::Pte(vpage), Change::Put(word)),
-        Action::Grant { vpage } => (Where::Pte(vpage), Change::Xor(36)),
+        Action::Grant { vpage } => (Where::Pte(vpage), Change::Xor(GRANT)),
         Action::CopyLoad { page, index } => (
             Where::Mem(home_frame(g, view, page), index),
             Change::Keep,
@@ -175,7 +138,7 @@ pub fn exchange_of(g: &Geometry, view: &ActorView, action: Action) -> (Where, Ch
             value,
             ..
         } => (Where::Mem(frame, index), Change::Put(value)),
-        Action::SetHome { page, frame } => (Where::Home(page), Change::Put(u64::from(frame) + 1)),
+        Action::SetHome { page, frame } => (Where::Home(page), Change::Put(home_word(frame))),
         Action::SetShadow {
             page,
             master,
@@ -185,9 +148,9 @@ pub fn exchange_of(g: &Geometry, view: &ActorView, action: Action) -> (Where, Ch
         Action::Scan { tier, index } => (Where::Free(tier, index), Change::Keep),
         Action::GiveFrame { frame } => (
             free_word_of(g, frame),
-            Change::And(all_but(free_bit(g, frame))),
+            Change::And(all_but(1 << g.free_bit(frame))),
         ),
-        Action::PutFrame { frame } => (free_word_of(g, frame), Change::Or(1 << free_bit(g, frame))),
+        Action::PutFrame { frame } => (free_word_of(g, frame), Change::Or(1 << g.free_bit(frame))),
         Action::ReleaseTurn { tier } => (Where::Turn(tier), Change::Put(0)),
         Action::Mark { page, from, to } => (Where::Mark(page), Change::IfIs(from, to)),
         Action::Read { cell, .. } => (cell_word(cell), Change::Keep),

@@ -11,8 +11,8 @@ abbrev pub first_free : Geometry → ℕ → ℕ
 first_free g t = sum_by words_for (take t g.tiers)
 
 -- the words of the free frames of all tiers
-abbrev pub free_count : Geometry → ℕ
-free_count g = sum_by words_for g.tiers
+abbrev pub free_word_count : Geometry → ℕ
+free_word_count g = sum_by words_for g.tiers
 
 -- the place of word k of the free frames of tier t: tier by tier
 abbrev pub free_place : Geometry → ℕ → ℕ → ℕ

@@ -8,7 +8,7 @@ use Rattle.nm_words.specs.declared.names.Where.TheVariants.{Req, Pte, Stamp, Hom
 use Rattle.nm_words.specs.declared.exchanges.Change.{Change}
 use Rattle.nm_words.specs.declared.exchanges.Change.TheVariants.{Keep}
 use Rattle.nm_base.specs.FreeWords.{words_for}
-use Rattle.nm_words.specs.Names.{free_count, free_place, mem_place}
+use Rattle.nm_words.specs.Names.{free_word_count, free_place, mem_place}
 use Rattle.nm_words.specs.Exchanges.{changed}
 
 -- the number of bumps; for each virtual page its table word and its number of raises; for each backing page its home,
@@ -70,7 +70,7 @@ pub record HasSizes (g : Geometry) (w : Words) : Type 0 where
   pub mark : length w.mark ≡ page_count g
   pub ack : length w.ack ≡ g.cpus
   pub turn : length w.turn ≡ length g.tiers
-  pub free : length w.free ≡ free_count g
+  pub free : length w.free ≡ free_word_count g
   pub mem : length w.mem ≡ frame_count g * g.words
 
 -- word k of the free frames of a tier with so many frames, all free
