@@ -22,10 +22,11 @@ use Rattle.nm_action.specs.declared.action.Reply.TheVariants.{Done, Word}
 use Rattle.nm_action.specs.declared.action.Action.{Action}
 use Rattle.nm_action.specs.declared.action.Action.TheVariants.{Look, Walk, Peek, Poll, Ack, Lock, Unlock, Bump, SeeAck, Raise, ClearDirty, Unmap, Map, Grant, CopyLoad, CopyStore, SetHome, SetShadow, TakeTurn, Scan, GiveFrame, PutFrame, ReleaseTurn, Read}
 use Rattle.nm_view.specs.Lists.{find, edit, erase, put, first, itself}
-use Rattle.nm_view.specs.Views.{Op, View, off_word, end_word}
+use Rattle.nm_view.specs.Views.{Op, View}
 use Rattle.nm_view.specs.Opening.{opened, unscanned}
 use Rattle.nm_base.specs.ShadowWord.{shadow_word, shadow_frame}
 use Rattle.nm_view.specs.Operations.{page_of, cached_page, peeked_page, owned_frame, op_on, known_home, is_flush_ended}
+use Rattle.nm_step.specs.Table.{acked_word}
 
 -- Translations.
 
@@ -55,12 +56,6 @@ is_confirmed peeked e = is_fresh_at e.stamp (find peeked_page e.vpage peeked)
 -- a peek after a Poll
 abbrev pub stale : Peeked → Peeked
 stale p = record p { fresh = false }
-
--- what an acknowledgement says
-abbrev pub acked_word : View → AckTo → ℕ
-acked_word view Seen = view.req_seen
-acked_word view Off = off_word
-acked_word view End = end_word
 
 -- what an acknowledgement keeps of the cache
 abbrev pub kept_entries : View → AckTo → List CacheEntry
