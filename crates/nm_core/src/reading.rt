@@ -14,7 +14,7 @@ use crate::ends::{EndWords, Role};
 use crate::state::State;
 use nm_step::{free_bit, free_word_of};
 use nm_view::keyed::is_among;
-use nm_view::reading::has_bit;
+use nm_base::table_word::has_bit;
 use nm_view::{ActorView, END};
 use nm_words::Where;
 

@@ -14,7 +14,6 @@ use nm_base::home_word::home_word;
 use nm_base::shadow_word::shadow_word;
 use nm_base::table_word::{ACCESSED, DIRTY, GRANT, HINT, all_but, walked_word};
 use nm_view::keyed::look_up;
-use nm_view::reading::op_on;
 use nm_view::{ActorView, END, OFF};
 use nm_words::{Change, Where};
 
@@ -28,23 +27,13 @@ fn cached_frame(view: &ActorView, vpage: u32) -> u32
     }
 }
 
-/// The home word that the operation on a page knows.
-fn known_home(view: &ActorView, page: u32) -> Option<u64>
-    ensures { result ≡ known_home (op_on view.now page) }
-{
-    match op_on(view, page) {
-        Some(op) => op.home,
-        None => None,
-    }
-}
-
 /// The frame that the operation on a page knows as its home.
 fn home_frame(g: &Geometry, view: &ActorView, page: u32) -> u32
     requires { IsFrame g.now (home_frame view.now page) }
     ensures { result ≡ home_frame view.now page }
 {
     prove!(g.cpus <= 16);
-    match known_home(view, page) {
+    match view.known_home(page) {
         Some(home) => home.saturating_sub(1) as u32,
         None => 0,
     }
