@@ -18,10 +18,10 @@ use Rattle.nm_view.specs.Opening.{opened}
 use Rattle.nm_view.specs.Operations.{page_of, cached_page}
 use Rattle.nm_view.proofs.Items.{none_left, all_join, all_put, all_erase, all_map, all_filter}
 use Rattle.nm_step.specs.Table.{change_of, IsReplyTo}
+use Rattle.nm_event.specs.Ranged.{IsInRangeReply}
 use Rattle.nm_event.specs.After.{after_of, walked, kept_entries, is_confirmed, looked_at, read_cell, cleared_at, taken_at, raised_to, bumped_to, seen_at, loaded, copied_one, homed_at, shaded, mapped_at, granted_at}
 use Rattle.nm_core.specs.Drawn.{bumps_after, raises_after, polled_after}
 use Rattle.nm_core.specs.Named.{NamesFrames, AreTakenInRange}
-use Rattle.nm_core.specs.Replies.{IsNamed}
 use Rattle.nm_core.proofs.Keyed.{all_edit_op, all_edit_under, all_edit_of}
 
 kept : (g : Geometry) (view : View) (to : AckTo) → NamesFrames g view → All (λ e. IsFrame g e.frame) (kept_entries view to)
@@ -30,7 +30,7 @@ kept g view Off h = none_left (λ (e : CacheEntry). IsFrame g e.frame)
 kept g view End h = none_left (λ (e : CacheEntry). IsFrame g e.frame)
 
 -- the frames that a view names are in range after a step
-pub NamesFrames-after : (g : Geometry) (view : View) (a : Action) (r : Reply) → IsNamed g a r → NamesFrames g view → NamesFrames g (after_of g view a r)
+pub NamesFrames-after : (g : Geometry) (view : View) (a : Action) (r : Reply) → IsInRangeReply g a r → NamesFrames g view → NamesFrames g (after_of g view a r)
 NamesFrames-after g view (Look v) (Word n) named h = record { cache = h.cache; taken = all_edit_of g (AreTakenInRange g) v (looked_at v n) view.ops (λ o k. k) h.taken }
 NamesFrames-after g view (Walk v e write) Done named h = record { cache = all_put cached_page (λ e. IsFrame g e.frame) (walked view v e write) view.cache named.frame h.cache; taken = h.taken }
 NamesFrames-after g view (Peek v) (Word n) named h = record { cache = h.cache; taken = h.taken }
@@ -42,7 +42,7 @@ NamesFrames-after g view Bump (Word n) named h = record { cache = h.cache; taken
 NamesFrames-after g view (SeeAck p) (Word n) named h = record { cache = h.cache; taken = all_map (AreTakenInRange g) (AreTakenInRange g) (seen_at p n) view.ops (λ o k. k) h.taken }
 NamesFrames-after g view (Raise v) (Word n) named h = record { cache = h.cache; taken = all_edit_of g (AreTakenInRange g) v (raised_to v (n + 1)) view.ops (λ o k. k) h.taken }
 NamesFrames-after g view (ClearDirty v) (Word n) named h = record { cache = h.cache; taken = all_edit_of g (AreTakenInRange g) v (cleared_at v) view.ops (λ o k. k) h.taken }
-NamesFrames-after g view (Unmap v) (Word n) named h = record { cache = h.cache; taken = all_edit_of g (AreTakenInRange g) v (taken_at v n) view.ops (λ o k. all_join (λ p. IsTableInRange g p.1) o.taken (v, n) k named) h.taken }
+NamesFrames-after g view (Unmap v) (Word n) named h = record { cache = h.cache; taken = all_edit_of g (AreTakenInRange g) v (taken_at v n) view.ops (λ o k. all_join (λ p. IsTableInRange g p.1) o.taken (v, n) k named.said) h.taken }
 NamesFrames-after g view (Map v word) Done named h = record { cache = h.cache; taken = all_edit_of g (AreTakenInRange g) v (mapped_at v word) view.ops (λ o k. all_erase first (λ p. IsTableInRange g p.1) v o.taken k) h.taken }
 NamesFrames-after g view (Grant v) (Word n) named h = record { cache = h.cache; taken = all_edit_of g (AreTakenInRange g) v (granted_at v n) view.ops (λ o k. k) h.taken }
 NamesFrames-after g view (CopyLoad b i) (Word n) named h = record { cache = h.cache; taken = all_edit_op (AreTakenInRange g) b (loaded n) view.ops (λ o k. k) h.taken }

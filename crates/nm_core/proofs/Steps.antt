@@ -7,7 +7,7 @@ use Rattle.nm_base.specs.Geometry.{Geometry, IsGeometry, frame_count}
 use Rattle.nm_base.specs.Ranges.{IsWord}
 use Rattle.nm_action.specs.declared.action.Action.{Action}
 use Rattle.nm_action.specs.declared.action.Action.TheVariants.{Poll}
-use Rattle.nm_view.specs.Views.{View}
+use Rattle.nm_view.specs.Views.{View, own_bumps, own_raises, most_bumps, most_raises}
 use Rattle.nm_view.specs.Opening.{opening}
 use Rattle.nm_permit.specs.Permitted.{Allowed}
 use Rattle.nm_words.specs.Names.{IsPlace}
@@ -19,11 +19,9 @@ use Rattle.nm_words.proofs.Standing.{AreRanged-with_word, AreWords-with_word}
 use Rattle.nm_step.specs.Table.{where_of, change_of, reply_of, IsReplyTo}
 use Rattle.nm_step.proofs.Replies.{IsReplyTo-reply_of}
 use Rattle.nm_event.specs.After.{after_of}
-use Rattle.nm_event.specs.Fitting.{most_bumps, most_raises}
-use Rattle.nm_shape.specs.Keyed.{IsKeyed, own_bumps, own_raises}
-use Rattle.nm_shape.specs.Ranged.{IsInRangeReply}
+use Rattle.nm_shape.specs.Keyed.{IsKeyed}
+use Rattle.nm_event.specs.Ranged.{IsInRangeReply}
 use Rattle.nm_core.specs.Drawn.{bumps_after, raises_after, polled_after}
-use Rattle.nm_core.specs.Replies.{IsNamed}
 use Rattle.nm_core.specs.State.{State, state_of, view_of, place_found, word_found, change_made, reply_by, reply_to, step}
 use Rattle.nm_core.specs.Kept.{IsViewKept, IsKept, bumps_of, raises_of}
 use Rattle.nm_core.proofs.InPlace.{IsPlace-where_of}
@@ -31,7 +29,7 @@ use Rattle.nm_core.proofs.InRange.{IsRanged-changed}
 use Rattle.nm_core.proofs.InWords.{IsWord-changed}
 use Rattle.nm_core.proofs.Naming.{NamesFrames-after, HasCounted-after}
 use Rattle.nm_core.proofs.Counts.{bumps-sum, raises-sum, raises-more, bumps-elsewhere}
-use Rattle.nm_core.proofs.Answers.{IsNamed-reply_of, IsInRangeReply-reply_of}
+use Rattle.nm_core.proofs.Answers.{IsInRangeReply-reply_of}
 
 -- the actors together have made few bumps and raises
 all_bumps : (s : State) → IsKept s → All (λ v. v.bumps ≤ own_bumps) s.views
@@ -66,8 +64,13 @@ polled_word : (g : Geometry) (view : View) (a : Action) (n seen : ℕ) → IsWor
 polled_word g view Poll n seen word h = word
 polled_word g view a n seen word h = h
 
+-- the reply is in range
+range_there : (s : State) (actor : ℕ) (a : Action) → IsKept s → actor < length s.views → Allowed s.geometry (view_of s actor) a → IsInRangeReply s.geometry a (reply_to s actor a)
+range_there s actor a k there may =
+    IsInRangeReply-reply_of s.geometry (view_of s actor) a (bumps_of s) (raises_of s) (word_found s actor a) (few_bumps s k) (few_raises s k) (found_word s actor a k there may) (found_ranged s actor a k there may)
+
 -- the view of the actor after the step
-view_kept : (g : Geometry) (actor : ℕ) (view : View) (a : Action) (n : ℕ) → IsNamed g a (reply_of (change_of g view a) n) → IsWord n → IsKeyed g (after_of g view a (reply_of (change_of g view a) n)) → IsViewKept g actor view → IsViewKept g actor (after_of g view a (reply_of (change_of g view a) n))
+view_kept : (g : Geometry) (actor : ℕ) (view : View) (a : Action) (n : ℕ) → IsInRangeReply g a (reply_of (change_of g view a) n) → IsWord n → IsKeyed g (after_of g view a (reply_of (change_of g view a) n)) → IsViewKept g actor view → IsViewKept g actor (after_of g view a (reply_of (change_of g view a) n))
 view_kept g actor view a n named word keyed k =
     let counted = HasCounted-after g view a (reply_of (change_of g view a) n) (IsReplyTo-reply_of (change_of g view a) n) in
     record {
@@ -115,7 +118,7 @@ IsKept-step s actor a k there may keyed =
     let g : Geometry = s.geometry in
     let new : View = after_of g (view_of s actor) a (reply_to s actor a) in
     let size : length (set s.views actor new) ≡ length s.views = length-set s.views actor new in
-    let named = IsNamed-reply_of g (view_of s actor) a (bumps_of s) (raises_of s) (word_found s actor a) (found_ranged s actor a k there may) in
+    let named = range_there s actor a k there may in
     let kept : IsViewKept g actor new = view_kept g actor (view_of s actor) a (word_found s actor a) named (found_word s actor a k there may) keyed (k.views actor there) in
     record {
       geometry = k.geometry;
@@ -140,7 +143,7 @@ step_place s actor a v e k there may = subst (λ v. IsPlace s.geometry (where_of
 pub step_range : (s : State) (actor : ℕ) (a : Action) (v : View) → v ≡ view_of s actor → IsKept s → actor < length s.views → Allowed s.geometry (view_of s actor) a → IsInRangeReply s.geometry a (reply_by s.geometry s.words v a)
 step_range s actor a v e k there may =
     let InRange : View → Type 0 = λ v. IsInRangeReply s.geometry a (reply_by s.geometry s.words v a) in
-    subst InRange (sym e) (IsInRangeReply-reply_of s.geometry (view_of s actor) a (bumps_of s) (raises_of s) (word_found s actor a) (few_bumps s k) (few_raises s k) (found_word s actor a k there may) (found_ranged s actor a k there may))
+    subst InRange (sym e) (range_there s actor a k there may)
 
 both : {A B C : Type 0} (f : A → B → C) {a b : A} {c d : B} → a ≡ b → c ≡ d → f a c ≡ f b d
 both f e h = cc

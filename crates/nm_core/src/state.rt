@@ -8,7 +8,7 @@ ghost use Rattle.nm_base.specs.Ranges.{IsWord};
 ghost use Rattle.nm_event.specs.After.{after_of};
 ghost use Rattle.nm_permit.specs.Permitted.{Allowed};
 ghost use Rattle.nm_shape.specs.Keyed.{IsKeyed};
-ghost use Rattle.nm_shape.specs.Ranged.{IsInRangeReply};
+ghost use Rattle.nm_event.specs.Ranged.{IsInRangeReply};
 ghost use Rattle.nm_words.specs.Names.{IsPlace};
 ghost use Rattle.nm_words.specs.Words.{exchanged, HasSizes};
 ghost use Rattle.nm_step.specs.Table.{where_of, change_of};
@@ -18,7 +18,7 @@ ghost use Rattle.nm_core.specs.Causes.{IsBusyWith, IsLostTo, Refuses};
 
 use nm_action::{Action, Reply};
 use nm_base::Geometry;
-use nm_shape::advance;
+use nm_shape::advance_keyed;
 use nm_step::{exchange_of, reply_of};
 use nm_view::ActorView;
 use nm_words::Words;
@@ -86,7 +86,7 @@ fn act(g: &Geometry, words: &mut Words, view: &mut ActorView, action: Action) ->
 {
     let (place, change) = exchange_of(g, view, action);
     let reply = reply_of(change, words.exchange(g, place, change));
-    advance(g, view, action, reply);
+    advance_keyed(g, view, action, reply);
     reply
 }
 

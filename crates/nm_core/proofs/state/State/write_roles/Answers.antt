@@ -19,6 +19,6 @@ returns c =
     let shadow_words = c.shadows.ensures ∙ ap (λ (s : State). s.words.shadow) c.self.view_is in
     let home_words = c.homes.ensures ∙ ap (λ (s : State). s.words.home) c.self.view_is in
     fill_by_all (role_of s) roles (frame_count s.geometry) Free size (λ k lt.
-      role-marked s k c.shadows.result.now c.homes.result.now (get_or c.write_free.new.roles k Free) (get_or c.mark_shadows.new.roles k Free) (get_or roles k Free) shadow_words home_words (free.roles k lt)
-        (shadows.roles k (omega (arith, lt, free.count, c.requires)))
-        (homes.roles k (omega (arith, lt, shadows.count, free.count, c.requires))))
+    role-marked s k c.shadows.result.now c.homes.result.now (get_or c.write_free.new.roles k Free) (get_or c.mark_shadows.new.roles k Free) (get_or roles k Free) shadow_words home_words (free.roles k lt)
+    (shadows.roles k (omega (arith, lt, free.count, c.requires)))
+    (homes.roles k (omega (arith, lt, shadows.count, free.count, c.requires))))
