@@ -67,14 +67,14 @@ can-either false held other y n = n
 
 -- a loop can end where each body can, and what comes after it
 pub each-can : {A S E O : Type 0} (body : A → S → (S → List E → O → Type 0) → List E → O → Type 0) (items : List A) (kept : S) (after : S → List E → O → Type 0)
-    → ((item : A) (now : S) (then : S → List E → O → Type 0) → ((next : S) → CanEnd (then next)) → CanEnd (body item now then))
+    → ((item : A) (now : S) (later : S → List E → O → Type 0) → ((next : S) → CanEnd (later next)) → CanEnd (body item now later))
     → ((end : S) → CanEnd (after end)) → CanEnd (Each body items kept after)
 each-can body [] kept after each ends = ends kept
 each-can body (item ∷ items) kept after each ends = each item kept (λ next. Each body items next after) (λ next. each-can body items next after each ends)
 
 -- early exit: where the body of every item is what comes after it, what comes after the loop comes now
 pub each-exit : {A S E O : Type 0} (body : A → S → (S → List E → O → Type 0) → List E → O → Type 0) (items : List A) (kept : S) (after : S → List E → O → Type 0) (own : List E) (outcome : O)
-    → ((item : A) (then : S → List E → O → Type 0) → then kept own outcome → body item kept then own outcome)
+    → ((item : A) (later : S → List E → O → Type 0) → later kept own outcome → body item kept later own outcome)
     → after kept own outcome → Each body items kept after own outcome
 each-exit body [] kept after own outcome skips h = h
 each-exit body (item ∷ items) kept after own outcome skips h = skips item (λ next. Each body items next after) (each-exit body items kept after own outcome skips h)
