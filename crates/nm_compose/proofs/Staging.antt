@@ -2,7 +2,7 @@
 use Rattle.std.proofs.Common.{◌≡◌, sym, subst}
 use Rattle.nm_base.specs.Geometry.{Geometry}
 use Rattle.nm_view.specs.Views.{View}
-use Rattle.nm_part.specs.Own.{Own}
+use Rattle.nm_action.specs.Own.{Own}
 use Rattle.nm_compose.specs.Plans.{IsRun, IsNewRun}
 use Rattle.nm_compose.specs.Stages.{Stages, IsAt, RunsAt}
 

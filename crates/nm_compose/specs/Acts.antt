@@ -4,9 +4,16 @@ use Rattle.nm_base.specs.Geometry.{Geometry}
 use Rattle.nm_action.specs.declared.action.Action.{Action}
 use Rattle.nm_action.specs.declared.action.Reply.{Reply}
 use Rattle.nm_view.specs.Views.{View}
+use Rattle.nm_permit.specs.Permitted.{Allowed}
 use Rattle.nm_event.specs.After.{after_of}
 use Rattle.nm_event.specs.Fitting.{IsReplyOf, Fits}
-use Rattle.nm_part.specs.Own.{Own}
+use Rattle.nm_action.specs.Own.{Own}
+use Rattle.nm_part.specs.Parts.{IsQuiet}
+
+-- the action is quiet, and the view permits it
+pub record MayAct (g : Geometry) (view : View) (action : Action) : Type 0 where
+  pub quiet : IsQuiet action
+  pub allowed : Allowed g view action
 
 -- the list is this one action, with a reply of its kind
 pub record IsAct (action : Action) (own : Own) (reply : Reply) : Type 0 where

@@ -4,7 +4,7 @@ use Rattle.nm_action.specs.declared.action.Action.{Action}
 use Rattle.nm_action.specs.declared.turn.Step.{Step}
 use Rattle.nm_action.specs.declared.turn.Step.TheVariants.{Do, Over}
 use Rattle.nm_view.specs.Views.{View}
-use Rattle.nm_part.specs.Own.{Own}
+use Rattle.nm_action.specs.Own.{Own}
 use Rattle.nm_compose.specs.declared.or.Or.{Or}
 use Rattle.nm_compose.specs.declared.or.Or.TheVariants.{This, Other}
 
@@ -47,3 +47,9 @@ LeavesOr this other (Other n) g view (Other y) left = other n g view y left
 abbrev pub AwaitsOr : {A B : Type 0} → (A → Geometry → View → Own → Action → Type 0) → (B → Geometry → View → Own → Action → Type 0) → Or A B → Geometry → View → Own → Action → Type 0
 AwaitsOr this other (This a) g view own action = this a g view own action
 AwaitsOr this other (Other b) g view own action = other b g view own action
+
+abbrev pub EndedOr : {A B X Y : Type 0} → (A → Geometry → Own → X → Type 0) → (B → Geometry → Own → Y → Type 0) → Or A B → Geometry → Own → Or X Y → Type 0
+EndedOr this other (This a) g own (This x) = this a g own x
+EndedOr this other (This a) g own (Other y) = ⊥
+EndedOr this other (Other b) g own (This x) = ⊥
+EndedOr this other (Other b) g own (Other y) = other b g own y

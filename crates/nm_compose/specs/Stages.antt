@@ -2,7 +2,7 @@
 use Rattle.std.specs.Prelude.{◌≡◌}
 use Rattle.nm_base.specs.Geometry.{Geometry}
 use Rattle.nm_view.specs.Views.{View}
-use Rattle.nm_part.specs.Own.{Own}
+use Rattle.nm_action.specs.Own.{Own}
 use Rattle.nm_compose.specs.Plans.{IsRun}
 
 -- by what the plan was made with, and the stage: what the piece that runs is made with; what is left after it, by how it

@@ -12,7 +12,7 @@ pub struct Act {
 }
 
 impl Act {
-    /// The part that makes this action. Where it begins the view permits the action.
+    /// The part that makes this action. Where it begins the action is quiet, and the view permits it.
     pub fn new(action: Action) -> Act
         ensures { result.action ≡ action }
     {
@@ -26,21 +26,23 @@ impl Part for Act {
     type Made = Action;
 
     ghost use Rattle.std.specs.Prelude.{◌≡◌, []};
-    ghost use Rattle.nm_permit.specs.Permitted.{Allowed};
-    ghost use Rattle.nm_compose.specs.Acts.{IsAct, IsActed};
+    ghost use Rattle.nm_part.specs.Parts.{NothingTold};
+    ghost use Rattle.nm_compose.specs.Acts.{MayAct, IsAct, IsActed};
 
     ghost made = { λ p. p.action };
 
     // it keeps nothing of whether it gave its action
     ghost is_new = { λ p. Unit {0} };
 
-    ghost may_begin = { λ action g view. Allowed g view action };
+    ghost may_begin = { λ action g view. MayAct g view action };
 
     ghost shape = { λ action g own reply. IsAct action own reply };
 
     ghost leaves = { λ action g view reply left. IsActed g view action reply left };
 
     ghost awaits = { λ p g view own action. (own ≡ []) × (action ≡ p.action) };
+
+    ghost ended = { λ p g own reply. NothingTold g own reply };
 
     fn first(&mut self) -> Step<Reply> {
         Step::Do(self.start())

@@ -3,8 +3,9 @@
 ghost use Rattle.std.specs.Prelude.{◌≡◌, ◌++◌};
 ghost use Rattle.nm_base.specs.Geometry.{Geometry};
 ghost use Rattle.nm_view.specs.Views.{View};
-ghost use Rattle.nm_part.specs.Own.{Own, view_after};
-ghost use Rattle.nm_part.specs.Parts.{IsStep};
+ghost use Rattle.nm_action.specs.Own.{Own};
+ghost use Rattle.nm_event.specs.After.{view_after};
+ghost use Rattle.nm_part.specs.Parts.{IsPartStep};
 ghost use Rattle.nm_part.specs.Patterns.{IsLeft};
 ghost use Rattle.nm_compose.specs.Plans.{HasEnded};
 ghost use Rattle.nm_compose.specs.Composites.{HasFirst, IsRunning};
@@ -33,17 +34,24 @@ impl<P: Piece + Drop, L: Plan<P> + Drop> Composite<L, P> {
         Composite { plan, piece }
     }
 
-    /// The step after a piece that has ended so.
-    fn go_on(&mut self, end: P::Outcome) -> Step<L::Outcome>
-        requires { HasEnded P.shape P.leaves (L.knows self.old.plan) end }
-        ensures made { L.made self.new.plan ≡ L.made self.old.plan }
-        ensures step { (g : Geometry) (view now : View) (own inner : Own) (piece : P.Made)
-            → L.knows self.old.plan g view now piece → P.shape piece g inner end → P.leaves piece g now end (view_after g view own)
-            → IsLeft (L.shape (L.made self.old.plan) g) own (L.left self.old.plan g end)
-            → IsStep (IsRunning P.shape (P.awaits self.new.piece) (L.knows self.new.plan) (L.left self.new.plan) (L.shape (L.made self.old.plan)) (P.made self.new.piece))
-            (L.shape (L.made self.old.plan)) (L.leaves (L.made self.old.plan)) g view own result }
+    /// Its plan, which can be asked once the part is over.
+    pub fn plan(&self) -> &L
+        ensures { result.now ≡ self.now.plan }
     {
-        match self.plan.go_on(end) {
+        &self.plan
+    }
+
+    /// The step after its piece, which has ended so.
+    fn go_on(&mut self, end: P::Outcome) -> Step<L::Outcome>
+        requires { HasEnded P.shape P.leaves (P.ended self.old.piece) (L.knows self.old.plan) (P.made self.old.piece) end }
+        ensures made { L.made self.new.plan ≡ L.made self.old.plan }
+        ensures step { (g : Geometry) (view now : View) (own inner : Own)
+            → L.knows self.old.plan g view now (P.made self.old.piece) → P.shape (P.made self.old.piece) g inner end → P.leaves (P.made self.old.piece) g now end (view_after g view own) → P.ended self.old.piece g inner end
+            → IsLeft (L.shape (L.made self.old.plan) g) own (L.left self.old.plan g end)
+            → IsPartStep (IsRunning P.shape (P.awaits self.new.piece) (L.knows self.new.plan) (L.left self.new.plan) (L.shape (L.made self.old.plan)) (P.made self.new.piece))
+            (L.shape (L.made self.old.plan)) (L.leaves (L.made self.old.plan)) (λ g own outcome. L.ended self.new.plan g outcome) g view own result }
+    {
+        match self.plan.go_on(&self.piece, end) {
             Next::Over(outcome) => Step::Over(outcome),
             Next::Run(piece) => {
                 self.piece = piece;
@@ -71,6 +79,8 @@ impl<P: Piece + Drop, L: Plan<P> + Drop> Part for Composite<L, P> {
     ghost leaves = { L.leaves };
 
     ghost awaits = { λ c. IsRunning P.shape (P.awaits c.piece) (L.knows c.plan) (L.left c.plan) (L.shape (L.made c.plan)) (P.made c.piece) };
+
+    ghost ended = { λ c g own outcome. L.ended c.plan g outcome };
 
     fn first(&mut self) -> Step<L::Outcome> {
         Step::Do(self.start())

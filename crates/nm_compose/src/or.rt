@@ -20,7 +20,7 @@ impl<A: Part, B: Part> Part for Or<A, B> {
 
     type Made = Or<A::Made, B::Made>;
 
-    ghost use Rattle.nm_compose.specs.Choices.{or_made, IsNewOr, MayBeginOr, IsOr, LeavesOr, AwaitsOr};
+    ghost use Rattle.nm_compose.specs.Choices.{or_made, IsNewOr, MayBeginOr, IsOr, LeavesOr, AwaitsOr, EndedOr};
 
     ghost made = { or_made A.made B.made };
 
@@ -33,6 +33,8 @@ impl<A: Part, B: Part> Part for Or<A, B> {
     ghost leaves = { LeavesOr A.leaves B.leaves };
 
     ghost awaits = { AwaitsOr A.awaits B.awaits };
+
+    ghost ended = { EndedOr A.ended B.ended };
 
     fn first(&mut self) -> Step<Or<A::Outcome, B::Outcome>> {
         match self {

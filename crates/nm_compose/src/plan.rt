@@ -17,7 +17,7 @@ pub trait Plan<P: Part> {
     ghost use Rattle.std.specs.Prelude.{◌≡◌};
     ghost use Rattle.nm_base.specs.Geometry.{Geometry};
     ghost use Rattle.nm_view.specs.Views.{View};
-    ghost use Rattle.nm_part.specs.Own.{Own};
+    ghost use Rattle.nm_action.specs.Own.{Own};
     ghost use Rattle.nm_compose.specs.Plans.{IsRun, IsNext, HasEnded};
 
     /// What the composite ends with.
@@ -47,6 +47,9 @@ pub trait Plan<P: Part> {
     // What is left of the composite's shape after the piece that runs, by how that ends.
     ghost left: { Self → Geometry → P.Outcome → Own → Self.Outcome → Type 0 };
 
+    // The composite is over, with this outcome: what the plan can be asked for then.
+    ghost ended: { Self → Geometry → Self.Outcome → Type 0 };
+
     /// The first piece. Condition: the plan has given no piece yet.
     fn begin(&mut self) -> P
         requires { is_new self.old }
@@ -55,11 +58,11 @@ pub trait Plan<P: Part> {
         ensures run { (g : Geometry) (view : View) → may_begin (made self.old) g view
             → IsRun P.may_begin P.shape (knows self.new) (left self.new) (shape (made self.old) g) (P.made result) g view view };
 
-    /// What is done after the piece that ran has ended so. Condition: some piece of this plan can have ended so.
-    fn go_on(&mut self, end: P::Outcome) -> Next<P, Self::Outcome>
-        requires { HasEnded P.shape P.leaves (knows self.old) end }
+    /// What is done after this piece, which has ended so. Condition: the piece can have ended so as the plan's piece.
+    fn go_on(&mut self, piece: &P, end: P::Outcome) -> Next<P, Self::Outcome>
+        requires { HasEnded P.shape P.leaves (P.ended piece.now) (knows self.old) (P.made piece.now) end }
         ensures made { made self.new ≡ made self.old }
-        ensures next { (g : Geometry) (first now later : View) (piece : P.Made) (own : Own)
-            → knows self.old g first now piece → P.shape piece g own end → P.leaves piece g now end later
-            → IsNext P.made P.is_new P.may_begin P.shape (knows self.new) (left self.new) (left self.old g end) (leaves (made self.old)) g first later result };
+        ensures next { (g : Geometry) (first now later : View) (own : Own)
+            → knows self.old g first now (P.made piece.now) → P.shape (P.made piece.now) g own end → P.leaves (P.made piece.now) g now end later → P.ended piece.now g own end
+            → IsNext P.made P.is_new P.may_begin P.shape (knows self.new) (left self.new) (left self.old g end) (leaves (made self.old)) (ended self.new) g first later result };
 }

@@ -1,4 +1,4 @@
-use Rattle.std.proofs.Common.{refl}
+use Rattle.std.proofs.Common.{[], refl}
 use Rattle.nm_compose.proofs.Acting.{some-act}
 use Rattle.nm_compose.proofs.act.ActPiece.start.Goals as goal
 
@@ -6,7 +6,8 @@ pub returns-clause-step : goal.returns-clause-step
 returns-clause-step c = λ g view may.
     let some = some-act c.args.self.now.action in
     record {
-      permitted = may;
+      quiet = may.quiet;
+      permitted = may.allowed;
       awaited = (refl, refl);
-      begun = record { rest = some.rest; outcome = some.outcome; whole = some.shown };
+      begun = record { reply = some.outcome; begun = record { rest = []; outcome = some.outcome; whole = record { is = refl; kind = some.shown.kind } } };
     }
