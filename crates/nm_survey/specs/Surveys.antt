@@ -6,12 +6,13 @@ use Rattle.nm_action.specs.declared.action.Action.TheVariants.{Lock, Unlock, Loo
 use Rattle.nm_action.specs.declared.action.Reply.{Reply}
 use Rattle.nm_action.specs.declared.action.Reply.TheVariants.{Done, Word}
 use Rattle.nm_view.specs.Views.{View}
-use Rattle.nm_view.specs.Ranges.{IsPage}
+use Rattle.nm_base.specs.Ranges.{IsPage}
 use Rattle.nm_view.specs.Operations.{op_on}
 use Rattle.nm_permit.specs.Permitted.{MayLock, MayUnlock}
-use Rattle.nm_part.specs.Own.{Own}
+use Rattle.nm_action.specs.Own.{Own}
 use Rattle.nm_part.specs.Patterns.{Ends, Follows, Each}
 use Rattle.nm_compose.specs.Acts.{IsAct}
+use Rattle.nm_compose.specs.Stages.{Stages}
 use Rattle.nm_survey.specs.declared.survey.Stage.{Stage}
 use Rattle.nm_survey.specs.declared.survey.Stage.TheVariants.{New, Locking, Looking, Unlocking}
 use Rattle.nm_survey.specs.declared.survey.SurveyMade.{SurveyMade}
@@ -55,7 +56,7 @@ IsSurvey made = Follows (IsAct (Lock made.page)) (AfterLock made)
 pub record MaySurvey (made : SurveyMade) (g : Geometry) (view : View) : Type 0 where
   pub page : IsPage g made.page
   pub vpages : made.vpages ≡ length g.vpages
-  pub bound : made.vpages < 2 ^ 32
+  pub few : made.vpages < 2 ^ 32
   pub lock : MayLock view made.page
 
 -- the turn is as before
@@ -76,17 +77,17 @@ abbrev pub looking_from : SurveyMade → ℕ → ℕ → Stage
 looking_from made vpage mapped = if nat_lt vpage made.vpages then Looking vpage mapped else Unlocking mapped
 
 -- what is left after the action of a stage, by its reply
-abbrev pub left_at : SurveyMade → Stage → Reply → Own → Option ℕ → Type 0
-left_at made New reply = Ends None
-left_at made Locking reply = AfterLock made reply
-left_at made (Looking vpage mapped) reply = Looks made (vpage + 1) (counted_of reply mapped)
-left_at made (Unlocking mapped) reply = Ends (Some mapped)
+abbrev pub left_at : SurveyMade → Stage → Geometry → Reply → Own → Option ℕ → Type 0
+left_at made New g reply = Ends None
+left_at made Locking g reply = AfterLock made reply
+left_at made (Looking vpage mapped) g reply = Looks made (vpage + 1) (counted_of reply mapped)
+left_at made (Unlocking mapped) g reply = Ends (Some mapped)
 
 -- the page is locked, and may be unlocked
 pub record HasLocked (made : SurveyMade) (g : Geometry) (first now : View) : Type 0 where
   pub page : IsPage g made.page
   pub vpages : made.vpages ≡ length g.vpages
-  pub bound : made.vpages < 2 ^ 32
+  pub few : made.vpages < 2 ^ 32
   pub op : IsSomeAnd (op_on now made.page) (MayUnlock g)
   pub turn : now.turn ≡ first.turn
 
@@ -108,7 +109,5 @@ KnownAt made Locking g first now = IsLocking made g first now
 KnownAt made (Looking vpage mapped) g first now = IsLooking made vpage mapped g first now
 KnownAt made (Unlocking mapped) g first now = HasLocked made g first now
 
--- what is known while an action of the survey waits for its answer
-pub record Knows (made : SurveyMade) (stage : Stage) (g : Geometry) (first now : View) (action : Action) : Type 0 where
-  pub is : action ≡ action_at made stage
-  pub at : KnownAt made stage g first now
+abbrev pub survey_stages : Stages SurveyMade Stage Action Reply (Option ℕ)
+survey_stages = record { piece = action_at; left = left_at; known = KnownAt }

@@ -98,7 +98,8 @@ impl Plan<Act> for Survey {
 
     ghost use Rattle.std.specs.Prelude.{◌≡◌};
     ghost use Rattle.nm_survey.specs.declared.survey.Stage.TheVariants.{New};
-    ghost use Rattle.nm_survey.specs.Surveys.{MaySurvey, IsSurvey, IsSurveyed, Knows, left_at};
+    ghost use Rattle.nm_compose.specs.Stages.{IsAt};
+    ghost use Rattle.nm_survey.specs.Surveys.{MaySurvey, IsSurvey, IsSurveyed, survey_stages, left_at};
 
     ghost made = { λ s. s.made };
 
@@ -110,20 +111,23 @@ impl Plan<Act> for Survey {
 
     ghost leaves = { λ made g view mapped left. IsSurveyed view left };
 
-    ghost knows = { λ s g first now action. Knows s.made s.stage g first now action };
+    ghost knows = { λ s. IsAt survey_stages s.made s.stage };
 
-    ghost left = { λ s g reply. left_at s.made s.stage reply };
+    ghost left = { λ s. left_at s.made s.stage };
+
+    ghost ended = { λ s g mapped. Unit {0} };
 
     fn begin(&mut self) -> Act {
         self.go(Stage::Locking)
     }
 
-    fn go_on(&mut self, end: Reply) -> Next<Act, Option<u32>> {
+    fn go_on(&mut self, _piece: &Act, end: Reply) -> Next<Act, Option<u32>> {
         match self.stage {
             Stage::New => unreachable!(),
             Stage::Locking => match end {
                 Reply::Done => Next::Run(self.look_from(0, 0)),
-                _ => Next::Over(None),
+                Reply::Busy(_) => Next::Over(None),
+                Reply::Word(_) | Reply::Lost(_) => unreachable!(),
             },
             Stage::Looking { vpage, mapped } => {
                 let Reply::Word(word) = end else {
