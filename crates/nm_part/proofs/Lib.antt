@@ -1,2 +1,3 @@
 pub mod OwnLemmas
 pub mod Inside
+pub mod Patterns

@@ -2,5 +2,7 @@
 #![tactic(auto)]
 
 pub mod part;
+pub mod piece;
 
 pub use part::Part;
+pub use piece::Piece;
