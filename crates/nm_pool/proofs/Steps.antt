@@ -216,26 +216,26 @@ IsAfter s new g v own result = IsPoolStep new.made s.made.job new.scan new.stage
 at_stage : (s : PoolTask) (stage : Stage) (g : Geometry) (v : View) (own : Own) (action : Action) → s.stage ≡ stage → AwaitsPool s g v own action → AwaitsPoolAt s.made s.scan stage g v own action
 at_stage s stage g v own action e a = let P : Stage → Type 0 = λ st. AwaitsPoolAt s.made s.scan st g v own action in subst P e a
 
-pub step-busy : (s new : PoolTask) (reply : Reply) (w : ℕ) (result : Step PoolEnd) → s.stage ≡ Turning → reply ≡ Busy w → new ≡ record s { stage = Turning } → result ≡ Do (action_at s.made s.scan Turning)
-    → (g : Geometry) (v : View) (own : Own) (action : Action) → AwaitsPool s g v own action → IsAfter s new g v (own ++ (action, reply) ∷ []) result
-step-busy s new reply w result e r n i g v own action a = rw (r, n, i) (after-busy g v s.made s.scan own action w (at_stage s Turning g v own action e a))
+pub step-busy : (s new : PoolTask) (reply : Reply) (w : ℕ) (given : Action) → s.stage ≡ Turning → reply ≡ Busy w → new ≡ record s { stage = Turning } → given ≡ action_at s.made s.scan Turning
+    → (g : Geometry) (v : View) (own : Own) (action : Action) → AwaitsPool s g v own action → IsAfter s new g v (own ++ (action, reply) ∷ []) (Do given)
+step-busy s new reply w given e r n i g v own action a = rw (r, n, i) (after-busy g v s.made s.scan own action w (at_stage s Turning g v own action e a))
 
-pub step-done : (s new : PoolTask) (reply : Reply) (stage : Stage) (result : Step PoolEnd) → s.stage ≡ Turning → reply ≡ Done → stage ≡ next_stage s.made s.scan → new ≡ record s { stage = stage } → result ≡ Do (action_at s.made s.scan stage)
-    → (g : Geometry) (v : View) (own : Own) (action : Action) → AwaitsPool s g v own action → IsAfter s new g v (own ++ (action, reply) ∷ []) result
-step-done s new reply stage result e r st n i g v own action a = rw (r, n, i, st) (after-done g v s.made s.scan own action (at_stage s Turning g v own action e a))
+pub step-done : (s new : PoolTask) (reply : Reply) (given : Action) → s.stage ≡ Turning → reply ≡ Done → new ≡ record s { stage = next_stage s.made s.scan } → given ≡ action_at s.made s.scan (next_stage s.made s.scan)
+    → (g : Geometry) (v : View) (own : Own) (action : Action) → AwaitsPool s g v own action → IsAfter s new g v (own ++ (action, reply) ∷ []) (Do given)
+step-done s new reply given e r n i g v own action a = rw (r, n, i) (after-done g v s.made s.scan own action (at_stage s Turning g v own action e a))
 
-pub step-word : (s new : PoolTask) (reply : Reply) (w : ℕ) (scan : Scanned) (stage : Stage) (result : Step PoolEnd) → s.stage ≡ Scanning → reply ≡ Word w → scan ≡ scanned_word (s.made.base + 64 * s.scan.words) w s.scan → stage ≡ next_stage s.made scan
-    → new ≡ record s { scan = scan; stage = stage } → result ≡ Do (action_at s.made scan stage)
-    → (g : Geometry) (v : View) (own : Own) (action : Action) → AwaitsPool s g v own action → Fits g (view_after g v own) action reply → IsAfter s new g v (own ++ (action, reply) ∷ []) result
-step-word s new reply w scan stage result e r sc st n i g v own action a f = rw (r, n, i, st) (after-word g v s.made s.scan own action w (rw r at f) (at_stage s Scanning g v own action e a) scan sc)
+pub step-word : (s new : PoolTask) (reply : Reply) (w : ℕ) (scan : Scanned) (given : Action) → s.stage ≡ Scanning → reply ≡ Word w → scan ≡ scanned_word (s.made.base + 64 * s.scan.words) w s.scan
+    → new ≡ record s { scan = scan; stage = next_stage s.made scan } → given ≡ action_at s.made scan (next_stage s.made scan)
+    → (g : Geometry) (v : View) (own : Own) (action : Action) → AwaitsPool s g v own action → Fits g (view_after g v own) action reply → IsAfter s new g v (own ++ (action, reply) ∷ []) (Do given)
+step-word s new reply w scan given e r sc n i g v own action a f = rw (r, n, i) (after-word g v s.made s.scan own action w (rw r at f) (at_stage s Scanning g v own action e a) scan sc)
 
-pub step-given : (s new : PoolTask) (reply : Reply) (f : ℕ) (result : Step PoolEnd) → s.stage ≡ Giving f → new ≡ record s { stage = Releasing (ends.Got f) } → result ≡ Do (action_at s.made s.scan (Releasing (ends.Got f)))
-    → (g : Geometry) (v : View) (own : Own) (action : Action) → AwaitsPool s g v own action → Fits g (view_after g v own) action reply → IsAfter s new g v (own ++ (action, reply) ∷ []) result
-step-given s new reply f result e n i g v own action a fits = rw (n, i) (after-given g v s.made s.scan own action f reply fits (at_stage s (Giving f) g v own action e a))
+pub step-given : (s new : PoolTask) (reply : Reply) (f : ℕ) (given : Action) → s.stage ≡ Giving f → new ≡ record s { stage = Releasing (ends.Got f) } → given ≡ action_at s.made s.scan (Releasing (ends.Got f))
+    → (g : Geometry) (v : View) (own : Own) (action : Action) → AwaitsPool s g v own action → Fits g (view_after g v own) action reply → IsAfter s new g v (own ++ (action, reply) ∷ []) (Do given)
+step-given s new reply f given e n i g v own action a fits = rw (n, i) (after-given g v s.made s.scan own action f reply fits (at_stage s (Giving f) g v own action e a))
 
-pub step-put : (s new : PoolTask) (reply : Reply) (f : ℕ) (result : Step PoolEnd) → s.stage ≡ Putting f → new ≡ record s { stage = Releasing ends.Back } → result ≡ Do (action_at s.made s.scan (Releasing ends.Back))
-    → (g : Geometry) (v : View) (own : Own) (action : Action) → AwaitsPool s g v own action → Fits g (view_after g v own) action reply → IsAfter s new g v (own ++ (action, reply) ∷ []) result
-step-put s new reply f result e n i g v own action a fits = rw (n, i) (after-put g v s.made s.scan own action f reply fits (at_stage s (Putting f) g v own action e a))
+pub step-put : (s new : PoolTask) (reply : Reply) (f : ℕ) (given : Action) → s.stage ≡ Putting f → new ≡ record s { stage = Releasing ends.Back } → given ≡ action_at s.made s.scan (Releasing ends.Back)
+    → (g : Geometry) (v : View) (own : Own) (action : Action) → AwaitsPool s g v own action → Fits g (view_after g v own) action reply → IsAfter s new g v (own ++ (action, reply) ∷ []) (Do given)
+step-put s new reply f given e n i g v own action a fits = rw (n, i) (after-put g v s.made s.scan own action f reply fits (at_stage s (Putting f) g v own action e a))
 
 pub step-over : (s : PoolTask) (reply : Reply) (end : PoolEnd) → s.stage ≡ Releasing end
     → (g : Geometry) (v : View) (own : Own) (action : Action) → AwaitsPool s g v own action → Fits g (view_after g v own) action reply → IsAfter s s g v (own ++ (action, reply) ∷ []) (Over end)

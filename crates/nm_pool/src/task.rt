@@ -13,7 +13,7 @@ ghost use Rattle.nm_pool.specs.Stages.{made_of, IsNewPool, action_at, next_stage
 use crate::job::{PoolEnd, PoolJob, PoolMade};
 use nm_base::Geometry;
 use nm_event::{Action, Reply, Scanned, Step};
-use nm_part::Part;
+use nm_part::{Part, Piece};
 
 /// How far a task has come.
 #[derive(Clone, Copy, Debug, PartialEq, Eq)]
@@ -126,15 +126,14 @@ impl PoolTask {
     }
 
     /// Comes to a stage, and gives its action.
-    fn go(&mut self, stage: Stage) -> Step<PoolEnd>
+    fn go(&mut self, stage: Stage) -> Action
         ensures stage { self.new ≡ record self.old { stage = stage } }
-        ensures step { result ≡ Do (action_at self.old.made self.old.scan stage) }
+        ensures action { result ≡ action_at self.old.made self.old.scan stage }
     {
         self.stage = stage;
         let tier = self.made.tier;
-        Step::Do(match stage {
-            Stage::New => Action::TakeTurn { tier },
-            Stage::Turning => Action::TakeTurn { tier },
+        match stage {
+            Stage::New | Stage::Turning => Action::TakeTurn { tier },
             Stage::Scanning => Action::Scan {
                 tier,
                 index: self.scan.words,
@@ -142,7 +141,7 @@ impl PoolTask {
             Stage::Giving(frame) => Action::GiveFrame { frame },
             Stage::Putting(frame) => Action::PutFrame { frame },
             Stage::Releasing(_) => Action::ReleaseTurn { tier },
-        })
+        }
     }
 
     /// The stage under the turn, after what was scanned so far.
@@ -164,6 +163,15 @@ impl PoolTask {
                 taking(floor, sum, self.scan.least)
             },
         }
+    }
+
+    /// Comes to the next stage under the turn, and gives its action.
+    fn go_on(&mut self) -> Action
+        ensures stage { self.new ≡ record self.old { stage = next_stage self.old.made self.old.scan } }
+        ensures action { result ≡ action_at self.old.made self.old.scan (next_stage self.old.made self.old.scan) }
+    {
+        let stage = self.next_stage();
+        self.go(stage)
     }
 
     /// What was scanned, after one word more.
@@ -221,32 +229,33 @@ impl Part for PoolTask {
     ghost ended = { λ task. NothingTold };
 
     fn first(&mut self) -> Step<PoolEnd> {
-        self.go(Stage::Turning)
+        Step::Do(self.start())
     }
 
     fn after(&mut self, reply: Reply) -> Step<PoolEnd> {
         match self.stage {
             Stage::New => unreachable!(),
             Stage::Turning => match reply {
-                Reply::Busy(_) => self.go(Stage::Turning),
-                Reply::Done => {
-                    let stage = self.next_stage();
-                    self.go(stage)
-                }
-                Reply::Word(_) => unreachable!(),
-                Reply::Lost(_) => unreachable!(),
+                Reply::Busy(_) => Step::Do(self.go(Stage::Turning)),
+                Reply::Done => Step::Do(self.go_on()),
+                Reply::Word(_) | Reply::Lost(_) => unreachable!(),
             },
             Stage::Scanning => {
                 let Reply::Word(word) = reply else {
                     unreachable!()
                 };
                 self.scan = self.scanned(word);
-                let stage = self.next_stage();
-                self.go(stage)
+                Step::Do(self.go_on())
             }
-            Stage::Giving(frame) => self.go(Stage::Releasing(PoolEnd::Got(frame))),
-            Stage::Putting(_) => self.go(Stage::Releasing(PoolEnd::Back)),
+            Stage::Giving(frame) => Step::Do(self.go(Stage::Releasing(PoolEnd::Got(frame)))),
+            Stage::Putting(_) => Step::Do(self.go(Stage::Releasing(PoolEnd::Back))),
             Stage::Releasing(end) => Step::Over(end),
         }
+    }
+}
+
+impl Piece for PoolTask {
+    fn start(&mut self) -> Action {
+        self.go(Stage::Turning)
     }
 }
