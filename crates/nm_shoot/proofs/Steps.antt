@@ -11,7 +11,7 @@ use Rattle.nm_action.specs.declared.turn.Step.{Step}
 use Rattle.nm_action.specs.declared.turn.Step.TheVariants.{Do, Over}
 use Rattle.nm_view.specs.Views.{View}
 use Rattle.nm_action.specs.Own.{Own}
-use Rattle.nm_part.specs.Parts.{IsBegunWith, IsPartStep, NothingTold}
+use Rattle.nm_part.specs.Parts.{IsBegun, IsBegunWith, IsPartStep, NothingTold}
 use Rattle.nm_shoot.specs.declared.shoot.Shoot.{Shoot}
 use Rattle.nm_shoot.specs.declared.shoot.Stage.{Stage}
 use Rattle.nm_shoot.specs.declared.shoot.Stage.TheVariants.{Bumping, Seeing}
@@ -108,9 +108,12 @@ begun cpus g v own cpu number lt h =
 abbrev pub some_shootdown : ℕ → Own
 some_shootdown cpus = (Bump, Word 0) ∷ asked_from 0 (replicate cpus (1 ∷ []))
 
+some_shown : (cpus : ℕ) → IsShootdown cpus (some_shootdown cpus) 1
+some_shown cpus = record { old = 0; words = replicate cpus (1 ∷ []); drawn = refl; each = length-replicate cpus (1 ∷ []); answered = answered-number 1 cpus; is = refl }
+
 -- there is a shootdown of each number of processors
-pub some-shootdown : (cpus : ℕ) → IsShootdown cpus (some_shootdown cpus) 1
-some-shootdown cpus = record { old = 0; words = replicate cpus (1 ∷ []); drawn = refl; each = length-replicate cpus (1 ∷ []); answered = answered-number 1 cpus; is = refl }
+pub some-shootdown : (cpus : ℕ) → IsBegun (IsShootdown cpus) []
+some-shootdown cpus = record { rest = some_shootdown cpus; outcome = 1; whole = some_shown cpus }
 
 -- a shootdown is not over at once
 pub shootdown-acts : (cpus number : ℕ) → ¬ IsShootdown cpus [] number
@@ -122,7 +125,7 @@ steps-first cpus g v may = record {
   quiet = tt;
   permitted = record { range = tt; permitted = may.bump };
   awaited = record { may = may; none = refl; bump = refl };
-  begun = record { reply = Word 0; begun = record { rest = asked_from 0 (replicate cpus (1 ∷ [])); outcome = 1; whole = some-shootdown cpus } };
+  begun = record { reply = Word 0; begun = record { rest = asked_from 0 (replicate cpus (1 ∷ [])); outcome = 1; whole = some_shown cpus } };
 }
 
 -- a processor is asked

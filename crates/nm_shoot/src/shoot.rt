@@ -4,7 +4,7 @@ ghost use Rattle.std.specs.Prelude.{◌≡◌, ◌≤◌};
 ghost use Rattle.nm_shoot.specs.Asking.{ask, cpus_of, IsNewShoot};
 
 use nm_event::{Action, Reply, Step};
-use nm_part::Part;
+use nm_part::{Part, Piece};
 
 /// How far a shootdown has come.
 #[derive(Clone, Copy, Debug, PartialEq, Eq)]
@@ -77,8 +77,7 @@ impl Part for Shoot {
     ghost ended = { λ s. NothingTold };
 
     fn first(&mut self) -> Step<u64> {
-        self.stage = Stage::Bumping;
-        Step::Do(Action::Bump)
+        Step::Do(self.start())
     }
 
     fn after(&mut self, reply: Reply) -> Step<u64> {
@@ -94,5 +93,12 @@ impl Part for Shoot {
                 self.see(cpu + 1, number)
             },
         }
+    }
+}
+
+impl Piece for Shoot {
+    fn start(&mut self) -> Action {
+        self.stage = Stage::Bumping;
+        Action::Bump
     }
 }
