@@ -7,11 +7,11 @@ use Rattle.nm_action.specs.declared.action.Action.TheVariants.{Lock, Look, Unloc
 use Rattle.nm_action.specs.declared.action.Reply.{Reply}
 use Rattle.nm_action.specs.declared.action.Reply.TheVariants.{Done, Word, Busy, Lost}
 use Rattle.nm_view.specs.Views.{Op, View}
-use Rattle.nm_view.specs.Lists.{find, edit}
+use Rattle.nm_view.specs.Lists.{find, edit, erase}
 use Rattle.nm_view.specs.Opening.{opened}
 use Rattle.nm_view.specs.Operations.{page_of, op_on}
 use Rattle.nm_permit.specs.Permitted.{MayUnlock}
-use Rattle.nm_event.specs.After.{looked_at, edit_under}
+use Rattle.nm_event.specs.After.{looked_at, edit_under, spoiled}
 use Rattle.nm_action.specs.Own.{Own}
 use Rattle.nm_part.specs.Patterns.{Ends, CanEnd}
 use Rattle.nm_part.proofs.Patterns.{ends-now, can-ends, can-follow, each-can}
@@ -71,7 +71,7 @@ locked-done made g first now later at acted =
       vpages = at.may.vpages;
       few = at.may.few;
       op = rw (find-last made.page (opened made.page now.room.aliases) now.ops refl (fresh-now made.page first now at.begun at.may.lock.fresh)) (record { back = refl; flushed = refl; phase = λ e. cc });
-      turn = ap (λ (v : View). v.turn) at.begun;
+      rest = ap (λ (v : View). record v { ops = now.ops ++ opened made.page now.room.aliases ∷ [] }) at.begun;
     })
 
 -- a virtual page was looked at
@@ -84,16 +84,23 @@ locked-looked made g first now later vpage (Word word) at acted =
       vpages = at.vpages;
       few = at.few;
       op = looked-under g made.page vpage word (backing_page g vpage) now.ops at.op;
-      turn = at.turn;
+      rest = ap (λ (v : View). record v { ops = edit_under (backing_page g vpage) (looked_at vpage word) now.ops }) at.rest;
     })
 locked-looked made g first now later vpage (Busy w) at acted = absurd acted.fits.kind
 locked-looked made g first now later vpage (Lost w) at acted = absurd acted.fits.kind
 
-unlocked-turn : (g : Geometry) (now : View) (page : ℕ) (reply : Reply) (later : View) → IsActed g now (Unlock page) reply later → later.turn ≡ now.turn
-unlocked-turn g now page Done later a = ap (λ (v : View). v.turn) a.is
-unlocked-turn g now page (Word w) later a = absurd a.fits.kind
-unlocked-turn g now page (Busy w) later a = absurd a.fits.kind
-unlocked-turn g now page (Lost w) later a = absurd a.fits.kind
+-- after the Unlock
+unlocked-rest : (g : Geometry) (first now : View) (page : ℕ) (reply : Reply) (later : View) → now ≡ record first { ops = now.ops } → IsActed g now (Unlock page) reply later → IsSurveyed first later
+unlocked-rest g first now page Done later rest a =
+    let S : View → Type 0 = λ v. IsSurveyed first v in
+    subst S (sym a.is) (record { is = ap (λ (v : View). record v { ops = erase page_of page now.ops; owned = spoiled page now.owned }) rest })
+unlocked-rest g first now page (Word w) later rest a = absurd a.fits.kind
+unlocked-rest g first now page (Busy w) later rest a = absurd a.fits.kind
+unlocked-rest g first now page (Lost w) later rest a = absurd a.fits.kind
+
+-- where the page was busy
+busy-rest : (g : Geometry) (first now : View) (page word : ℕ) (later : View) → now ≡ first → IsActed g now (Lock page) (Busy word) later → IsSurveyed first later
+busy-rest g first now page word later same a = let S : View → Type 0 = λ v. IsSurveyed first v in subst S (sym (a.is ∙ same)) (record { is = refl })
 
 counted-test : (word mapped : ℕ) (test : Bool) → (if test then mapped else mapped + 1) ≤ mapped + 1
 counted-test word mapped true = omega arith
@@ -193,7 +200,7 @@ pub after-busy : (old : Survey) (word : ℕ) (end : Reply) (g : Geometry) (first
     → IsOver (left_at old.made old.stage g end) (λ g view mapped left. IsSurveyed view left) (λ g mapped. Unit {0}) g first later None
 after-busy old word end g first now later action at ended known acted =
     by-stage survey_stages Acted (λ stage reply. IsOver (left_at old.made stage g reply) (λ g view mapped left. IsSurveyed view left) (λ g mapped. Unit {0}) g first later None) old.made old.stage Locking end (Busy word) g first now later action at ended known acted
-    (λ k a. record { shown = ends-now None; left = record { turn = ap (λ (v : View). v.turn) a.is ∙ ap (λ (v : View). v.turn) k.begun }; over = tt })
+    (λ k a. record { shown = ends-now None; left = busy-rest g first now old.made.page word later k.begun a; over = tt })
 
 -- a virtual page was looked at: the next Look, or the Unlock
 pub after-look : (old new : Survey) (act : Act) (vpage mapped word count : ℕ) (end : Reply) (g : Geometry) (first now later : View) (action : Action)
@@ -212,4 +219,4 @@ pub after-unlock : (old : Survey) (mapped : ℕ) (end : Reply) (g : Geometry) (f
     → IsOver (left_at old.made old.stage g end) (λ g view mapped left. IsSurveyed view left) (λ g mapped. Unit {0}) g first later (Some mapped)
 after-unlock old mapped end g first now later action at known acted =
     by-stage survey_stages Acted (λ stage reply. IsOver (left_at old.made stage g reply) (λ g view mapped left. IsSurveyed view left) (λ g mapped. Unit {0}) g first later (Some mapped)) old.made old.stage (Unlocking mapped) end end g first now later action at refl known acted
-    (λ k a. record { shown = ends-now (Some mapped); left = record { turn = unlocked-turn g now old.made.page end later a ∙ k.turn }; over = tt })
+    (λ k a. record { shown = ends-now (Some mapped); left = unlocked-rest g first now old.made.page end later k.rest a; over = tt })

@@ -59,9 +59,9 @@ pub record MaySurvey (made : SurveyMade) (g : Geometry) (view : View) : Type 0 w
   pub few : made.vpages < 2 ^ 32
   pub lock : MayLock view made.page
 
--- the turn is as before
+-- it leaves all of the view but its operations and its owned frames as it was
 pub record IsSurveyed (view left : View) : Type 0 where
-  pub turn : left.turn ≡ view.turn
+  pub is : left ≡ record view { ops = left.ops; owned = left.owned }
 
 -- The stages.
 
@@ -83,13 +83,13 @@ left_at made Locking g reply = AfterLock made reply
 left_at made (Looking vpage mapped) g reply = Looks made (vpage + 1) (counted_of reply mapped)
 left_at made (Unlocking mapped) g reply = Ends (Some mapped)
 
--- the page is locked, and may be unlocked
+-- the page is locked and may be unlocked, and all else of the view but its operations is as it was
 pub record HasLocked (made : SurveyMade) (g : Geometry) (first now : View) : Type 0 where
   pub page : IsPage g made.page
   pub vpages : made.vpages ≡ length g.vpages
   pub few : made.vpages < 2 ^ 32
   pub op : IsSomeAnd (op_on now made.page) (MayUnlock g)
-  pub turn : now.turn ≡ first.turn
+  pub rest : now ≡ record first { ops = now.ops }
 
 -- it has begun
 pub record IsLocking (made : SurveyMade) (g : Geometry) (first now : View) : Type 0 where
