@@ -1,16 +1,18 @@
 -- Replies that fit a survey of the one page of a machine, for rows that feed them.
-use Rattle.std.proofs.Common.{◌≡◌, ℕ, ◌^◌, ◌<◌, if◌then◌else◌, Bool, true, false, List, [], ◌∷◌, length, ◌==◌, Option, Some, None, IfSome, inl, refl, sym, subst, arith}
+use Rattle.std.proofs.Common.{◌≡◌, ℕ, ◌^◌, ◌<◌, ◌≤◌, if◌then◌else◌, Bool, true, false, List, [], ◌∷◌, length, ◌==◌, Option, Some, None, IfSome, inl, refl, sym, subst, arith}
+use Rattle.std.proofs.lemmas.List.Elements.{All-nil}
 use Rattle.nm_base.specs.Geometry.{Geometry, IsGeometry, backing_page}
 use Rattle.nm_action.specs.declared.action.Action.{Action}
-use Rattle.nm_action.specs.declared.action.Action.TheVariants.{Lock, Look, Unlock}
+use Rattle.nm_action.specs.declared.action.Action.TheVariants.{Lock, Look, Unlock, Bump}
 use Rattle.nm_action.specs.declared.action.Reply.TheVariants.{Done, Word, Busy}
 use Rattle.nm_action.specs.Own.{Own}
 use Rattle.nm_view.specs.Views.{Op, View}
 use Rattle.nm_view.specs.Opening.{opening, opened}
 use Rattle.nm_view.specs.Lists.{find}
 use Rattle.nm_view.specs.Operations.{page_of, op_under, IsTaken}
-use Rattle.nm_event.specs.Fitting.{Fits, IsAsKnown}
+use Rattle.nm_event.specs.Fitting.{Fits, IsAsKnown, most_bumps}
 use Rattle.nm_part.specs.Parts.{IsAsked}
+use Rattle.nm_compose.specs.Acts.{MayAct}
 use Rattle.nm_survey.specs.declared.survey.SurveyMade.{SurveyMade}
 use Rattle.nm_survey.specs.Surveys.{MaySurvey}
 
@@ -71,3 +73,15 @@ fits-looked g view b r v e = record {
     },
   );
 }
+
+-- a machine without pages, tiers and processors
+abbrev pub bare : Geometry
+bare = record { words = 1; tiers = []; cpus = 0; vpages = [] }
+
+pub may-bump : (action : Action) (g : Geometry) → action ≡ Bump → MayAct g (opening g 0) action
+may-bump action g e =
+    let P : Action → Type 0 = λ a. MayAct g (opening g 0) a in
+    subst P (sym e) (record { quiet = tt; allowed = record { range = tt; permitted = record { few = omega arith; dry = All-nil _ } } })
+
+pub fits-bumped : (g : Geometry) (v : View) (word : ℕ) → word ≤ most_bumps → word < 2 ^ 64 → Fits g v Bump (Word word)
+fits-bumped g v word most small = record { kind = tt; told = (small, most) }

@@ -7,7 +7,7 @@ use nm_base::{Geometry, VPage};
 use nm_compose::{Act, Composite, Or};
 use nm_event::{Action, Reply, Step};
 use nm_part::Part;
-use nm_survey::Survey;
+use nm_survey::{Survey, SurveyMade};
 use std::test::Fail;
 
 /// One virtual page, and tiers of 4 and of 8 frames.
@@ -46,5 +46,18 @@ fn a_survey_of_a_busy_page_ends(rt: HostRuntime) -> Result<(), Fail> {
         panic!(rt; "no lock")
     };
     assert_eq!(rt; part.after(Reply::Busy(2)), Step::Over(None));
+    assert_eq!(rt; part.plan().made(), SurveyMade { page: 0, vpages: 1 });
     Ok(())
+}
+
+#[test]
+fn an_action_ends_with_its_reply(rt: HostRuntime) {
+    let mut part: Or<Act, Composite<Survey, Act>> = Or::This(Act::new(Action::Bump));
+    let Step::Do(Action::Bump) = part.first() else {
+        panic!(rt; "no bump")
+    };
+    assert_eq!(rt;
+        part.after(Reply::Word(6)),
+        Step::Over(Or::This(Reply::Word(6)))
+    );
 }
