@@ -15,7 +15,7 @@ use Rattle.nm_part.specs.Patterns.{Follows, IsLeft, CanEnd}
 use Rattle.nm_part.proofs.OwnLemmas.{view-append}
 use Rattle.nm_part.proofs.Inside.{asked-inside, fits-inside}
 use Rattle.nm_part.proofs.Patterns.{left-start, left-after, left-as}
-use Rattle.nm_compose.specs.Plans.{IsRun, HasEnded}
+use Rattle.nm_compose.specs.Plans.{IsPieceRun, HasEnded}
 use Rattle.nm_compose.specs.Composites.{IsRunning}
 
 -- a finished list of the piece begins a list of the whole
@@ -43,7 +43,7 @@ running-asked shape awaits knows left whole piece g view front inner action know
 -- a new piece, and its first action
 pub running-starts : {M X O : Type 0} (may_begin : M → Geometry → View → Type 0) (shape : M → Geometry → Own → X → Type 0) (awaits : Geometry → View → Own → Action → Type 0) (knows : Geometry → View → View → M → Type 0) (left : Geometry → X → Own → O → Type 0) (whole : Geometry → Own → O → Type 0) (was : Own → O → Type 0) (piece : M) (g : Geometry) (view : View) (own : Own) (action : Action)
     → IsLeft (whole g) own was
-    → IsRun may_begin shape knows left was piece g view (view_after g view own)
+    → IsPieceRun may_begin shape knows left was piece g view (view_after g view own)
     → IsAsked awaits (shape piece) g (view_after g view own) [] action
     → IsAsked (IsRunning shape awaits knows left whole piece) whole g view own action
 running-starts may_begin shape awaits knows left whole was piece g view own action due run h =
@@ -139,7 +139,7 @@ running-ended shape leaves ended knows left whole piece g view own end h = recor
 -- a new piece of this data has given its first action
 pub running-new : {M X O : Type 0} (may_begin : M → Geometry → View → Type 0) (shape : M → Geometry → Own → X → Type 0) (awaits : Geometry → View → Own → Action → Type 0) (knows : Geometry → View → View → M → Type 0) (left : Geometry → X → Own → O → Type 0) (whole : Geometry → Own → O → Type 0) (was : Own → O → Type 0) (piece now : M) (g : Geometry) (view : View) (own : Own) (action : Action)
     → IsLeft (whole g) own was → now ≡ piece
-    → IsRun may_begin shape knows left was piece g view (view_after g view own)
+    → IsPieceRun may_begin shape knows left was piece g view (view_after g view own)
     → IsAsked awaits (shape piece) g (view_after g view own) [] action
     → IsAsked (IsRunning shape awaits knows left whole now) whole g view own action
 running-new {M} may_begin shape awaits knows left whole was piece now g view own action due same run h =
@@ -148,7 +148,7 @@ running-new {M} may_begin shape awaits knows left whole was piece now g view own
 
 -- the first piece has given its first action
 pub running-first : {M X O : Type 0} (may_begin : M → Geometry → View → Type 0) (shape : M → Geometry → Own → X → Type 0) (awaits : Geometry → View → Own → Action → Type 0) (knows : Geometry → View → View → M → Type 0) (left : Geometry → X → Own → O → Type 0) (whole : Geometry → Own → O → Type 0) (piece now : M) (g : Geometry) (view : View) (action : Action)
-    → now ≡ piece → IsRun may_begin shape knows left (whole g) piece g view view → IsAsked awaits (shape piece) g view [] action
+    → now ≡ piece → IsPieceRun may_begin shape knows left (whole g) piece g view view → IsAsked awaits (shape piece) g view [] action
     → IsAsked (IsRunning shape awaits knows left whole now) whole g view [] action
 running-first may_begin shape awaits knows left whole piece now g view action same run h = running-new may_begin shape awaits knows left whole (whole g) piece now g view [] action (left-start (whole g)) same run h
 

@@ -6,14 +6,14 @@ use Rattle.nm_view.specs.Views.{View}
 use Rattle.nm_action.specs.Own.{Own}
 use Rattle.nm_event.specs.After.{view_after}
 use Rattle.nm_part.specs.Patterns.{Follows, IsLeft, CanEnd}
-use Rattle.nm_compose.specs.Plans.{IsRun}
+use Rattle.nm_compose.specs.Plans.{IsPieceRun}
 
 -- In all of these `view` is the one that the composite began in.
 
 -- a composite is new: its piece is the first, and has given no action
 pub record HasFirst {P M X Q O : Type 0} (made : P → M) (is_new : P → Type 0) (may_begin : M → Geometry → View → Type 0) (shape : M → Geometry → Own → X → Type 0) (knows : Geometry → View → View → M → Type 0) (left : Geometry → X → Own → O → Type 0) (may : Q → Geometry → View → Type 0) (whole : Q → Geometry → Own → O → Type 0) (given : Q) (piece : P) : Type 0 where
   pub new : is_new piece
-  pub run : (g : Geometry) (view : View) → may given g view → IsRun may_begin shape knows left (whole given g) (made piece) g view view
+  pub run : (g : Geometry) (view : View) → may given g view → IsPieceRun may_begin shape knows left (whole given g) (made piece) g view view
 
 -- the piece that runs awaits the answer to this action, and what is left of the composite is a list of that piece and what
 -- comes after it

@@ -12,7 +12,7 @@ use Rattle.nm_compose.specs.declared.plan.Next.TheVariants.{Run, Over}
 
 -- a piece of this data runs: it may begin, what is known holds, the composite can be finished after each of its ends, and
 -- a list of the piece with what is left after it is a list of what was left before
-pub record IsRun {M X O : Type 0} (may_begin : M → Geometry → View → Type 0) (shape : M → Geometry → Own → X → Type 0) (knows : Geometry → View → View → M → Type 0) (left : Geometry → X → Own → O → Type 0) (was : Own → O → Type 0) (piece : M) (g : Geometry) (first now : View) : Type 0 where
+pub record IsPieceRun {M X O : Type 0} (may_begin : M → Geometry → View → Type 0) (shape : M → Geometry → Own → X → Type 0) (knows : Geometry → View → View → M → Type 0) (left : Geometry → X → Own → O → Type 0) (was : Own → O → Type 0) (piece : M) (g : Geometry) (first now : View) : Type 0 where
   pub begin : may_begin piece g now
   pub known : knows g first now piece
   pub can : (own : Own) (end : X) → shape piece g own end → CanEnd (left g end)
@@ -21,7 +21,7 @@ pub record IsRun {M X O : Type 0} (may_begin : M → Geometry → View → Type 
 -- a new piece runs
 pub record IsNewRun {P M X O : Type 0} (made : P → M) (is_new : P → Type 0) (may_begin : M → Geometry → View → Type 0) (shape : M → Geometry → Own → X → Type 0) (knows : Geometry → View → View → M → Type 0) (left : Geometry → X → Own → O → Type 0) (was : Own → O → Type 0) (piece : P) (g : Geometry) (first now : View) : Type 0 where
   pub new : is_new piece
-  pub run : IsRun may_begin shape knows left was (made piece) g first now
+  pub run : IsPieceRun may_begin shape knows left was (made piece) g first now
 
 -- the composite is over: nothing more was left, the view is as the composite leaves it, and the plan is in the state in
 -- which it ends

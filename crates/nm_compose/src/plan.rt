@@ -18,7 +18,7 @@ pub trait Plan<P: Part> {
     ghost use Rattle.nm_base.specs.Geometry.{Geometry};
     ghost use Rattle.nm_view.specs.Views.{View};
     ghost use Rattle.nm_action.specs.Own.{Own};
-    ghost use Rattle.nm_compose.specs.Plans.{IsRun, IsNext, HasEnded};
+    ghost use Rattle.nm_compose.specs.Plans.{IsPieceRun, IsNext, HasEnded};
 
     /// What the composite ends with.
     type Outcome;
@@ -56,7 +56,7 @@ pub trait Plan<P: Part> {
         ensures made { made self.new ≡ made self.old }
         ensures new { P.is_new result }
         ensures run { (g : Geometry) (view : View) → may_begin (made self.old) g view
-            → IsRun P.may_begin P.shape (knows self.new) (left self.new) (shape (made self.old) g) (P.made result) g view view };
+            → IsPieceRun P.may_begin P.shape (knows self.new) (left self.new) (shape (made self.old) g) (P.made result) g view view };
 
     /// What is done after this piece, which has ended so. Condition: the piece can have ended so as the plan's piece.
     fn go_on(&mut self, piece: &P, end: P::Outcome) -> Next<P, Self::Outcome>

@@ -7,17 +7,17 @@ use Rattle.nm_action.specs.declared.action.Action.TheVariants.{Lock, Look, Unloc
 use Rattle.nm_action.specs.declared.action.Reply.{Reply}
 use Rattle.nm_action.specs.declared.action.Reply.TheVariants.{Done, Word, Busy, Lost}
 use Rattle.nm_view.specs.Views.{Op, View}
-use Rattle.nm_view.specs.Lists.{find, edit}
+use Rattle.nm_view.specs.Lists.{find, edit, erase}
 use Rattle.nm_view.specs.Opening.{opened}
 use Rattle.nm_view.specs.Operations.{page_of, op_on}
 use Rattle.nm_permit.specs.Permitted.{MayUnlock}
-use Rattle.nm_event.specs.After.{looked_at, edit_under}
+use Rattle.nm_event.specs.After.{looked_at, edit_under, spoiled}
 use Rattle.nm_action.specs.Own.{Own}
 use Rattle.nm_part.specs.Patterns.{Ends, CanEnd}
 use Rattle.nm_part.proofs.Patterns.{ends-now, can-ends, can-follow, each-can}
 use Rattle.nm_compose.specs.Acts.{MayAct, IsAct, IsActed}
 use Rattle.nm_compose.specs.Plans.{IsNewRun, IsOver}
-use Rattle.nm_compose.specs.Stages.{IsAt, RunsAt}
+use Rattle.nm_compose.specs.Stages.{IsAtStage, RunsAt}
 use Rattle.nm_compose.specs.declared.act.Act.{Act}
 use Rattle.nm_compose.proofs.Acting.{some-act}
 use Rattle.nm_compose.proofs.Staging.{by-stage, runs-new}
@@ -25,7 +25,7 @@ use Rattle.nm_survey.specs.declared.survey.Survey.{Survey}
 use Rattle.nm_survey.specs.declared.survey.Stage.{Stage}
 use Rattle.nm_survey.specs.declared.survey.Stage.TheVariants.{Locking, Looking, Unlocking}
 use Rattle.nm_survey.specs.declared.survey.SurveyMade.{SurveyMade}
-use Rattle.nm_survey.specs.Surveys.{numbers_from, counted, counted_of, IsSurveyed, Unlocks, LookAt, Looks, AfterLock, IsSurvey, MaySurvey, HasLocked, IsLocking, survey_stages, action_at, left_at, looking_from}
+use Rattle.nm_survey.specs.Surveys.{numbers_from, count_with, count_after, IsSurveyed, Unlocks, LookAt, Looks, AfterLock, IsSurvey, MaySurvey, HasLocked, IsLocking, survey_stages, survey_action, left_at, looking_from}
 
 -- The operation on the page.
 
@@ -71,7 +71,7 @@ locked-done made g first now later at acted =
       vpages = at.may.vpages;
       few = at.may.few;
       op = rw (find-last made.page (opened made.page now.room.aliases) now.ops refl (fresh-now made.page first now at.begun at.may.lock.fresh)) (record { back = refl; flushed = refl; phase = λ e. cc });
-      turn = ap (λ (v : View). v.turn) at.begun;
+      rest = ap (λ (v : View). record v { ops = now.ops ++ opened made.page now.room.aliases ∷ [] }) at.begun;
     })
 
 -- a virtual page was looked at
@@ -84,23 +84,30 @@ locked-looked made g first now later vpage (Word word) at acted =
       vpages = at.vpages;
       few = at.few;
       op = looked-under g made.page vpage word (backing_page g vpage) now.ops at.op;
-      turn = at.turn;
+      rest = ap (λ (v : View). record v { ops = edit_under (backing_page g vpage) (looked_at vpage word) now.ops }) at.rest;
     })
 locked-looked made g first now later vpage (Busy w) at acted = absurd acted.fits.kind
 locked-looked made g first now later vpage (Lost w) at acted = absurd acted.fits.kind
 
-unlocked-turn : (g : Geometry) (now : View) (page : ℕ) (reply : Reply) (later : View) → IsActed g now (Unlock page) reply later → later.turn ≡ now.turn
-unlocked-turn g now page Done later a = ap (λ (v : View). v.turn) a.is
-unlocked-turn g now page (Word w) later a = absurd a.fits.kind
-unlocked-turn g now page (Busy w) later a = absurd a.fits.kind
-unlocked-turn g now page (Lost w) later a = absurd a.fits.kind
+-- after the Unlock
+unlocked-rest : (g : Geometry) (first now : View) (page : ℕ) (reply : Reply) (later : View) → now ≡ record first { ops = now.ops } → IsActed g now (Unlock page) reply later → IsSurveyed first later
+unlocked-rest g first now page Done later rest a =
+    let S : View → Type 0 = λ v. IsSurveyed first v in
+    subst S (sym a.is) (record { is = ap (λ (v : View). record v { ops = erase page_of page now.ops; owned = spoiled page now.owned }) rest })
+unlocked-rest g first now page (Word w) later rest a = absurd a.fits.kind
+unlocked-rest g first now page (Busy w) later rest a = absurd a.fits.kind
+unlocked-rest g first now page (Lost w) later rest a = absurd a.fits.kind
 
-counted-test : (word mapped : ℕ) (test : Bool) → (if test then mapped else mapped + 1) ≤ mapped + 1
-counted-test word mapped true = omega arith
-counted-test word mapped false = omega arith
+-- where the page was busy
+busy-rest : (g : Geometry) (first now : View) (page word : ℕ) (later : View) → now ≡ first → IsActed g now (Lock page) (Busy word) later → IsSurveyed first later
+busy-rest g first now page word later same a = let S : View → Type 0 = λ v. IsSurveyed first v in subst S (sym (a.is ∙ same)) (record { is = refl })
 
-counted-most : (vpage mapped word count : ℕ) → count ≡ counted word mapped → mapped ≤ vpage → count ≤ vpage + 1
-counted-most vpage mapped word count is few = let m = counted-test word mapped (word == 0) in omega arith
+count-test : (word mapped : ℕ) (test : Bool) → (if test then mapped else mapped + 1) ≤ mapped + 1
+count-test word mapped true = omega arith
+count-test word mapped false = omega arith
+
+count-most : (vpage mapped word count : ℕ) → count ≡ count_with word mapped → mapped ≤ vpage → count ≤ vpage + 1
+count-most vpage mapped word count is few = let m = count-test word mapped (word == 0) in omega arith
 
 -- What is left.
 
@@ -115,7 +122,7 @@ can-unlocks page mapped = can-follow (IsAct (Unlock page)) (λ reply. Ends (Some
 
 can-looks : (made : SurveyMade) (vpage mapped : ℕ) → CanEnd (Looks made vpage mapped)
 can-looks made vpage mapped = each-can LookAt (numbers_from vpage (made.vpages - vpage)) mapped (Unlocks made.page)
-    (λ item now later can. can-follow (IsAct (Look item)) (λ reply. later (counted_of reply now)) (some-act (Look item)) (can (counted_of (some-act (Look item)).outcome now)))
+    (λ item now later can. can-follow (IsAct (Look item)) (λ reply. later (count_after reply now)) (some-act (Look item)) (can (count_after (some-act (Look item)).outcome now)))
     (λ end. can-unlocks made.page end)
 
 can-after-lock : (made : SurveyMade) (reply : Reply) → CanEnd (AfterLock made reply)
@@ -138,7 +145,7 @@ runs-test made g first now vpage mapped true is h m =
     record {
       begin = record { quiet = tt; allowed = record { range = subst (λ (n : ℕ). vpage < n) h.vpages within; permitted = tt } };
       known = record { is = refl; known = record { locked = h; within = within; count = m } };
-      can = λ own end shown. can-looks made (vpage + 1) (counted_of end mapped);
+      can = λ own end shown. can-looks made (vpage + 1) (count_after end mapped);
       fits = λ own outcome f. rw (numbers-next vpage made.vpages within) f;
     }
 runs-test made g first now vpage mapped false is h m = record {
@@ -164,11 +171,11 @@ runs-first made g view may = record {
 
 -- the survey gives this action, where this was left
 abbrev pub Gives : Survey → Act → (Own → Option ℕ → Type 0) → Geometry → View → View → Type 0
-Gives new act was g first now = IsNewRun (λ (a : Act). a.action) (λ a. Unit {0}) (λ action g view. MayAct g view action) (λ action g own reply. IsAct action own reply) (IsAt survey_stages new.made new.stage) (left_at new.made new.stage) was act g first now
+Gives new act was g first now = IsNewRun (λ (a : Act). a.action) (λ a. Unit {0}) (λ action g view. MayAct g view action) (λ action g own reply. IsAct action own reply) (IsAtStage survey_stages new.made new.stage) (left_at new.made new.stage) was act g first now
 
 -- as it comes to a stage
 pub gives-now : (old new : Survey) (stage : Stage) (act : Act) (was : Own → Option ℕ → Type 0) (g : Geometry) (first now : View)
-    → new ≡ record old { stage = stage } → act.action ≡ action_at old.made stage → RunsSurvey old.made stage was g first now → Gives new act was g first now
+    → new ≡ record old { stage = stage } → act.action ≡ survey_action old.made stage → RunsSurvey old.made stage was g first now → Gives new act was g first now
 gives-now old new stage act was g first now is acts run =
     runs-new (λ (a : Act). a.action) (λ a. Unit {0}) (λ action g view. MayAct g view action) (λ action g own reply. IsAct action own reply) survey_stages was old.made new.made stage new.stage act g first now
     (ap (λ (s : Survey). s.made) is) (ap (λ (s : Survey). s.stage) is) acts tt run
@@ -180,8 +187,8 @@ Acted action g view reply left = IsActed g view action reply left
 
 -- the page was locked: the first Look, or the Unlock
 pub after-lock : (old new : Survey) (act : Act) (end : Reply) (g : Geometry) (first now later : View) (action : Action)
-    → old.stage ≡ Locking → end ≡ Done → IsAt survey_stages old.made old.stage g first now action → IsActed g now action end later
-    → new ≡ record old { stage = looking_from old.made 0 0 } → act.action ≡ action_at old.made (looking_from old.made 0 0)
+    → old.stage ≡ Locking → end ≡ Done → IsAtStage survey_stages old.made old.stage g first now action → IsActed g now action end later
+    → new ≡ record old { stage = looking_from old.made 0 0 } → act.action ≡ survey_action old.made (looking_from old.made 0 0)
     → Gives new act (left_at old.made old.stage g end) g first later
 after-lock old new act end g first now later action at ended known acted is acts =
     by-stage survey_stages Acted (λ stage reply. Gives new act (left_at old.made stage g reply) g first later) old.made old.stage Locking end Done g first now later action at ended known acted
@@ -189,27 +196,27 @@ after-lock old new act end g first now later action at ended known acted is acts
 
 -- the page was busy: the end
 pub after-busy : (old : Survey) (word : ℕ) (end : Reply) (g : Geometry) (first now later : View) (action : Action)
-    → old.stage ≡ Locking → end ≡ Busy word → IsAt survey_stages old.made old.stage g first now action → IsActed g now action end later
+    → old.stage ≡ Locking → end ≡ Busy word → IsAtStage survey_stages old.made old.stage g first now action → IsActed g now action end later
     → IsOver (left_at old.made old.stage g end) (λ g view mapped left. IsSurveyed view left) (λ g mapped. Unit {0}) g first later None
 after-busy old word end g first now later action at ended known acted =
     by-stage survey_stages Acted (λ stage reply. IsOver (left_at old.made stage g reply) (λ g view mapped left. IsSurveyed view left) (λ g mapped. Unit {0}) g first later None) old.made old.stage Locking end (Busy word) g first now later action at ended known acted
-    (λ k a. record { shown = ends-now None; left = record { turn = ap (λ (v : View). v.turn) a.is ∙ ap (λ (v : View). v.turn) k.begun }; over = tt })
+    (λ k a. record { shown = ends-now None; left = busy-rest g first now old.made.page word later k.begun a; over = tt })
 
 -- a virtual page was looked at: the next Look, or the Unlock
 pub after-look : (old new : Survey) (act : Act) (vpage mapped word count : ℕ) (end : Reply) (g : Geometry) (first now later : View) (action : Action)
-    → old.stage ≡ Looking vpage mapped → end ≡ Word word → count ≡ counted word mapped → IsAt survey_stages old.made old.stage g first now action → IsActed g now action end later
-    → new ≡ record old { stage = looking_from old.made (vpage + 1) count } → act.action ≡ action_at old.made (looking_from old.made (vpage + 1) count)
+    → old.stage ≡ Looking vpage mapped → end ≡ Word word → count ≡ count_with word mapped → IsAtStage survey_stages old.made old.stage g first now action → IsActed g now action end later
+    → new ≡ record old { stage = looking_from old.made (vpage + 1) count } → act.action ≡ survey_action old.made (looking_from old.made (vpage + 1) count)
     → Gives new act (left_at old.made old.stage g end) g first later
 after-look old new act vpage mapped word count end g first now later action at ended counts known acted is acts =
     by-stage survey_stages Acted (λ stage reply. Gives new act (left_at old.made stage g reply) g first later) old.made old.stage (Looking vpage mapped) end (Word word) g first now later action at ended known acted
     (λ k a. let W : ℕ → Type 0 = λ n. Gives new act (Looks old.made (vpage + 1) n) g first later in
     subst W counts (gives-now old new (looking_from old.made (vpage + 1) count) act (Looks old.made (vpage + 1) count) g first later is acts
-    (runs-from old.made g first later (vpage + 1) count (locked-looked old.made g first now later vpage (Word word) k.locked a) (counted-most vpage mapped word count counts k.count))))
+    (runs-from old.made g first later (vpage + 1) count (locked-looked old.made g first now later vpage (Word word) k.locked a) (count-most vpage mapped word count counts k.count))))
 
 -- the page was unlocked: the end
 pub after-unlock : (old : Survey) (mapped : ℕ) (end : Reply) (g : Geometry) (first now later : View) (action : Action)
-    → old.stage ≡ Unlocking mapped → IsAt survey_stages old.made old.stage g first now action → IsActed g now action end later
+    → old.stage ≡ Unlocking mapped → IsAtStage survey_stages old.made old.stage g first now action → IsActed g now action end later
     → IsOver (left_at old.made old.stage g end) (λ g view mapped left. IsSurveyed view left) (λ g mapped. Unit {0}) g first later (Some mapped)
 after-unlock old mapped end g first now later action at known acted =
     by-stage survey_stages Acted (λ stage reply. IsOver (left_at old.made stage g reply) (λ g view mapped left. IsSurveyed view left) (λ g mapped. Unit {0}) g first later (Some mapped)) old.made old.stage (Unlocking mapped) end end g first now later action at refl known acted
-    (λ k a. record { shown = ends-now (Some mapped); left = record { turn = unlocked-turn g now old.made.page end later a ∙ k.turn }; over = tt })
+    (λ k a. record { shown = ends-now (Some mapped); left = unlocked-rest g first now old.made.page end later k.rest a; over = tt })

@@ -20,13 +20,13 @@ use Rattle.nm_survey.specs.declared.survey.SurveyMade.{SurveyMade}
 -- The pattern, last step first. No stage occurs in it.
 
 -- the count after one word more
-abbrev pub counted : ℕ → ℕ → ℕ
-counted word mapped = if word == 0 then mapped else mapped + 1
+abbrev pub count_with : ℕ → ℕ → ℕ
+count_with word mapped = if word == 0 then mapped else mapped + 1
 
 -- the count after this reply to a Look
-abbrev pub counted_of : Reply → ℕ → ℕ
-counted_of (Word word) mapped = counted word mapped
-counted_of _ mapped = mapped
+abbrev pub count_after : Reply → ℕ → ℕ
+count_after (Word word) mapped = count_with word mapped
+count_after _ mapped = mapped
 
 -- so many numbers from this one on
 abbrev pub numbers_from : ℕ → ℕ → List ℕ
@@ -39,7 +39,7 @@ Unlocks page mapped = Follows (IsAct (Unlock page)) (λ reply. Ends (Some mapped
 
 -- a Look at one virtual page, and what comes after it by the count
 abbrev pub LookAt : ℕ → ℕ → (ℕ → Own → Option ℕ → Type 0) → Own → Option ℕ → Type 0
-LookAt vpage mapped after = Follows (IsAct (Look vpage)) (λ reply. after (counted_of reply mapped))
+LookAt vpage mapped after = Follows (IsAct (Look vpage)) (λ reply. after (count_after reply mapped))
 
 -- the Looks from this virtual page on, and the Unlock
 abbrev pub Looks : SurveyMade → ℕ → ℕ → Own → Option ℕ → Type 0
@@ -59,18 +59,18 @@ pub record MaySurvey (made : SurveyMade) (g : Geometry) (view : View) : Type 0 w
   pub few : made.vpages < 2 ^ 32
   pub lock : MayLock view made.page
 
--- the turn is as before
+-- it leaves all of the view but its operations and its owned frames as it was
 pub record IsSurveyed (view left : View) : Type 0 where
-  pub turn : left.turn ≡ view.turn
+  pub is : left ≡ record view { ops = left.ops; owned = left.owned }
 
 -- The stages.
 
 -- the action of a stage
-abbrev pub action_at : SurveyMade → Stage → Action
-action_at made New = Lock made.page
-action_at made Locking = Lock made.page
-action_at made (Looking vpage _) = Look vpage
-action_at made (Unlocking _) = Unlock made.page
+abbrev pub survey_action : SurveyMade → Stage → Action
+survey_action made New = Lock made.page
+survey_action made Locking = Lock made.page
+survey_action made (Looking vpage _) = Look vpage
+survey_action made (Unlocking _) = Unlock made.page
 
 -- the stage that comes to this virtual page
 abbrev pub looking_from : SurveyMade → ℕ → ℕ → Stage
@@ -80,16 +80,16 @@ looking_from made vpage mapped = if nat_lt vpage made.vpages then Looking vpage 
 abbrev pub left_at : SurveyMade → Stage → Geometry → Reply → Own → Option ℕ → Type 0
 left_at made New g reply = Ends None
 left_at made Locking g reply = AfterLock made reply
-left_at made (Looking vpage mapped) g reply = Looks made (vpage + 1) (counted_of reply mapped)
+left_at made (Looking vpage mapped) g reply = Looks made (vpage + 1) (count_after reply mapped)
 left_at made (Unlocking mapped) g reply = Ends (Some mapped)
 
--- the page is locked, and may be unlocked
+-- the page is locked and may be unlocked, and all else of the view but its operations is as it was
 pub record HasLocked (made : SurveyMade) (g : Geometry) (first now : View) : Type 0 where
   pub page : IsPage g made.page
   pub vpages : made.vpages ≡ length g.vpages
   pub few : made.vpages < 2 ^ 32
   pub op : IsSomeAnd (op_on now made.page) (MayUnlock g)
-  pub turn : now.turn ≡ first.turn
+  pub rest : now ≡ record first { ops = now.ops }
 
 -- it has begun
 pub record IsLocking (made : SurveyMade) (g : Geometry) (first now : View) : Type 0 where
@@ -110,4 +110,4 @@ KnownAt made (Looking vpage mapped) g first now = IsLooking made vpage mapped g 
 KnownAt made (Unlocking mapped) g first now = HasLocked made g first now
 
 abbrev pub survey_stages : Stages SurveyMade Stage Action Reply (Option ℕ)
-survey_stages = record { piece = action_at; left = left_at; known = KnownAt }
+survey_stages = record { piece = survey_action; left = left_at; known = KnownAt }

@@ -2,7 +2,7 @@
 
 ghost use Rattle.std.specs.Prelude.{◌≡◌, ◌+◌, ◌<◌, ◌^◌, length};
 ghost use Rattle.nm_survey.specs.declared.survey.Stage.TheVariants.{New};
-ghost use Rattle.nm_survey.specs.Surveys.{action_at, counted, looking_from};
+ghost use Rattle.nm_survey.specs.Surveys.{survey_action, count_with, looking_from};
 
 use nm_base::Geometry;
 use nm_compose::{Act, Next, Plan};
@@ -39,9 +39,9 @@ pub struct Survey {
 }
 
 /// The count after one word more.
-fn counted(word: u64, mapped: u32) -> u32
+fn count_with(word: u64, mapped: u32) -> u32
     requires { mapped + 1 < 2 ^ 32 }
-    ensures { result ≡ counted word mapped }
+    ensures { result ≡ count_with word mapped }
 {
     if word == 0 { mapped } else { mapped + 1 }
 }
@@ -61,10 +61,17 @@ impl Survey {
         }
     }
 
+    /// What it was made with.
+    pub fn made(&self) -> SurveyMade
+        ensures { result ≡ self.now.made }
+    {
+        self.made
+    }
+
     /// Comes to a stage, and gives its action.
     fn go(&mut self, stage: Stage) -> Act
         ensures stage { self.new ≡ record self.old { stage = stage } }
-        ensures act { result.action ≡ action_at self.old.made stage }
+        ensures act { result.action ≡ survey_action self.old.made stage }
     {
         self.stage = stage;
         Act::new(match stage {
@@ -81,7 +88,7 @@ impl Survey {
     /// Looks at this virtual page, if there is one, and else unlocks.
     fn look_from(&mut self, vpage: u32, mapped: u32) -> Act
         ensures stage { self.new ≡ record self.old { stage = looking_from self.old.made vpage mapped } }
-        ensures act { result.action ≡ action_at self.old.made (looking_from self.old.made vpage mapped) }
+        ensures act { result.action ≡ survey_action self.old.made (looking_from self.old.made vpage mapped) }
     {
         if vpage < self.made.vpages {
             self.go(Stage::Looking { vpage, mapped })
@@ -98,7 +105,7 @@ impl Plan<Act> for Survey {
 
     ghost use Rattle.std.specs.Prelude.{◌≡◌};
     ghost use Rattle.nm_survey.specs.declared.survey.Stage.TheVariants.{New};
-    ghost use Rattle.nm_compose.specs.Stages.{IsAt};
+    ghost use Rattle.nm_compose.specs.Stages.{IsAtStage};
     ghost use Rattle.nm_survey.specs.Surveys.{MaySurvey, IsSurvey, IsSurveyed, survey_stages, left_at};
 
     ghost made = { λ s. s.made };
@@ -111,7 +118,7 @@ impl Plan<Act> for Survey {
 
     ghost leaves = { λ made g view mapped left. IsSurveyed view left };
 
-    ghost knows = { λ s. IsAt survey_stages s.made s.stage };
+    ghost knows = { λ s. IsAtStage survey_stages s.made s.stage };
 
     ghost left = { λ s. left_at s.made s.stage };
 
@@ -133,7 +140,7 @@ impl Plan<Act> for Survey {
                 let Reply::Word(word) = end else {
                     unreachable!()
                 };
-                Next::Run(self.look_from(vpage + 1, counted(word, mapped)))
+                Next::Run(self.look_from(vpage + 1, count_with(word, mapped)))
             }
             Stage::Unlocking(mapped) => Next::Over(Some(mapped)),
         }

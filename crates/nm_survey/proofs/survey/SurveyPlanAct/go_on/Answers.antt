@@ -11,7 +11,7 @@ returns-in-Busy-clause-next c = λ g first now later own known shown left over.
 
 pub returns-in-Word-end-clause-next : goal.returns-in-Word-end-clause-next
 returns-in-Word-end-clause-next c = λ g first now later own known shown left over.
-    after-look c.args.self.now c.look_from-in-Looking.new.self c.look_from-in-Looking.result c.in-Looking.vpage c.in-Looking.mapped c.in-Word-end.word c.counted.result c.args.end g first now later _ c.in-Looking.is c.in-Word-end.is c.counted.ensures known left c.look_from-in-Looking.ensures.stage c.look_from-in-Looking.ensures.act
+    after-look c.args.self.now c.look_from-in-Looking.new.self c.look_from-in-Looking.result c.in-Looking.vpage c.in-Looking.mapped c.in-Word-end.word c.count_with.result c.args.end g first now later _ c.in-Looking.is c.in-Word-end.is c.count_with.ensures known left c.look_from-in-Looking.ensures.stage c.look_from-in-Looking.ensures.act
 
 pub returns-in-Unlocking-clause-next : goal.returns-in-Unlocking-clause-next
 returns-in-Unlocking-clause-next c = λ g first now later own known shown left over.
