@@ -17,7 +17,7 @@ use Rattle.nm_part.specs.Patterns.{Ends, CanEnd}
 use Rattle.nm_part.proofs.Patterns.{ends-now, can-ends, can-follow, each-can}
 use Rattle.nm_compose.specs.Acts.{MayAct, IsAct, IsActed}
 use Rattle.nm_compose.specs.Plans.{IsNewRun, IsOver}
-use Rattle.nm_compose.specs.Stages.{IsAtStage, RunsAt}
+use Rattle.nm_compose.specs.Stages.{IsPieceAt, RunsAt}
 use Rattle.nm_compose.specs.declared.act.Act.{Act}
 use Rattle.nm_compose.proofs.Acting.{some-act}
 use Rattle.nm_compose.proofs.Staging.{by-stage, runs-new}
@@ -171,7 +171,7 @@ runs-first made g view may = record {
 
 -- the survey gives this action, where this was left
 abbrev pub Gives : Survey → Act → (Own → Option ℕ → Type 0) → Geometry → View → View → Type 0
-Gives new act was g first now = IsNewRun (λ (a : Act). a.action) (λ a. Unit {0}) (λ action g view. MayAct g view action) (λ action g own reply. IsAct action own reply) (IsAtStage survey_stages new.made new.stage) (left_at new.made new.stage) was act g first now
+Gives new act was g first now = IsNewRun (λ (a : Act). a.action) (λ a. Unit {0}) (λ action g view. MayAct g view action) (λ action g own reply. IsAct action own reply) (IsPieceAt survey_stages new.made new.stage) (left_at new.made new.stage) was act g first now
 
 -- as it comes to a stage
 pub gives-now : (old new : Survey) (stage : Stage) (act : Act) (was : Own → Option ℕ → Type 0) (g : Geometry) (first now : View)
@@ -187,7 +187,7 @@ Acted action g view reply left = IsActed g view action reply left
 
 -- the page was locked: the first Look, or the Unlock
 pub after-lock : (old new : Survey) (act : Act) (end : Reply) (g : Geometry) (first now later : View) (action : Action)
-    → old.stage ≡ Locking → end ≡ Done → IsAtStage survey_stages old.made old.stage g first now action → IsActed g now action end later
+    → old.stage ≡ Locking → end ≡ Done → IsPieceAt survey_stages old.made old.stage g first now action → IsActed g now action end later
     → new ≡ record old { stage = looking_from old.made 0 0 } → act.action ≡ survey_action old.made (looking_from old.made 0 0)
     → Gives new act (left_at old.made old.stage g end) g first later
 after-lock old new act end g first now later action at ended known acted is acts =
@@ -196,7 +196,7 @@ after-lock old new act end g first now later action at ended known acted is acts
 
 -- the page was busy: the end
 pub after-busy : (old : Survey) (word : ℕ) (end : Reply) (g : Geometry) (first now later : View) (action : Action)
-    → old.stage ≡ Locking → end ≡ Busy word → IsAtStage survey_stages old.made old.stage g first now action → IsActed g now action end later
+    → old.stage ≡ Locking → end ≡ Busy word → IsPieceAt survey_stages old.made old.stage g first now action → IsActed g now action end later
     → IsOver (left_at old.made old.stage g end) (λ g view mapped left. IsSurveyed view left) (λ g mapped. Unit {0}) g first later None
 after-busy old word end g first now later action at ended known acted =
     by-stage survey_stages Acted (λ stage reply. IsOver (left_at old.made stage g reply) (λ g view mapped left. IsSurveyed view left) (λ g mapped. Unit {0}) g first later None) old.made old.stage Locking end (Busy word) g first now later action at ended known acted
@@ -204,7 +204,7 @@ after-busy old word end g first now later action at ended known acted =
 
 -- a virtual page was looked at: the next Look, or the Unlock
 pub after-look : (old new : Survey) (act : Act) (vpage mapped word count : ℕ) (end : Reply) (g : Geometry) (first now later : View) (action : Action)
-    → old.stage ≡ Looking vpage mapped → end ≡ Word word → count ≡ count_with word mapped → IsAtStage survey_stages old.made old.stage g first now action → IsActed g now action end later
+    → old.stage ≡ Looking vpage mapped → end ≡ Word word → count ≡ count_with word mapped → IsPieceAt survey_stages old.made old.stage g first now action → IsActed g now action end later
     → new ≡ record old { stage = looking_from old.made (vpage + 1) count } → act.action ≡ survey_action old.made (looking_from old.made (vpage + 1) count)
     → Gives new act (left_at old.made old.stage g end) g first later
 after-look old new act vpage mapped word count end g first now later action at ended counts known acted is acts =
@@ -215,7 +215,7 @@ after-look old new act vpage mapped word count end g first now later action at e
 
 -- the page was unlocked: the end
 pub after-unlock : (old : Survey) (mapped : ℕ) (end : Reply) (g : Geometry) (first now later : View) (action : Action)
-    → old.stage ≡ Unlocking mapped → IsAtStage survey_stages old.made old.stage g first now action → IsActed g now action end later
+    → old.stage ≡ Unlocking mapped → IsPieceAt survey_stages old.made old.stage g first now action → IsActed g now action end later
     → IsOver (left_at old.made old.stage g end) (λ g view mapped left. IsSurveyed view left) (λ g mapped. Unit {0}) g first later (Some mapped)
 after-unlock old mapped end g first now later action at known acted =
     by-stage survey_stages Acted (λ stage reply. IsOver (left_at old.made stage g reply) (λ g view mapped left. IsSurveyed view left) (λ g mapped. Unit {0}) g first later (Some mapped)) old.made old.stage (Unlocking mapped) end end g first now later action at refl known acted
