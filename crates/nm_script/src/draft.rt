@@ -7,10 +7,9 @@ ghost use Rattle.nm_script.specs.Told.{with_page, with_line, schedule_of};
 ghost use Rattle.nm_script.specs.Reading.{place_in, reached, AreMany};
 
 use crate::fault::{ReadError, ScriptFault};
-use crate::fields::{
-    below_in, map_fields, number_in, one_field, place_fields, ranged_in, three_fields, two_fields,
-};
+use crate::fields::{below_in, map_fields, number_in, place_fields, ranged_in};
 use crate::item::{Item, Order, Place};
+use crate::limits::{MOST_FRAMES, MOST_TURNS};
 use crate::reading::{
     Read, cpus_line, go_line, header_in, node_line, page_line, retry_line, schedule_line,
     tiers_line,
@@ -18,6 +17,7 @@ use crate::reading::{
 use crate::schedule::{PlanItem, PlanItems, Schedule};
 use crate::script::{Line, Script};
 use nm_base::{Geometry, VPage};
+use nm_text::{one_field, three_fields, two_fields};
 use nm_tiers::{Node, TierRefusal, tiers_from_nodes};
 use std::alloc::{AllocError, Global};
 use std::marker::Model;
@@ -55,8 +55,8 @@ const MOST_NODES: usize = 16;
 
 impl Draft {
     ghost use Rattle.nm_script.specs.Told.{nothing, with_item, is_whole, script_of};
-    ghost use Rattle.nm_script.specs.Reading.{map_in, map_line, cpu_in, cpu_line, load_in, store_in, add_in, await_in, access_line, tier_line, more_line, form_at, item_at, step, ruled, either_of, schedule_line, Tells};
-    ghost use Rattle.nm_script.specs.Holds.{IsTold, Fits};
+    ghost use Rattle.nm_script.specs.Reading.{map_in, map_line, cpu_in, cpu_line, load_in, store_in, add_in, await_in, access_line, tier_line, more_line, form_at, item_at, told_with, ruled, either_of, schedule_line, GivesTold};
+    ghost use Rattle.nm_script.specs.Holds.{IsToldSoFar, ItemFits};
 
     /// Before the first line.
     pub fn new(alloc: Global) -> Draft
@@ -71,7 +71,7 @@ impl Draft {
             nodes: Vec::new(alloc),
             cpus: 0,
             retry: None,
-            order: Order::Serial(8_000_000),
+            order: Order::Serial(MOST_TURNS),
             plan: Vec::new(alloc),
             vpages: Vec::new(alloc),
             programs: Vec::new(alloc),
@@ -192,7 +192,7 @@ impl Draft {
     /// The tiers of version 1, or the first node of version 2.
     #[tactic(auto, unfolding(crate::specs::Reading::tier_line))]
     fn tier_line(&self, line: &[u8]) -> Read
-        requires { self.now.frames ≤ 4096 }
+        requires { self.now.frames ≤ MOST_FRAMES }
         ensures { result ≡ tier_line self.now line.now }
     {
         if self.version == 1 {
@@ -205,7 +205,7 @@ impl Draft {
     /// A further node.
     #[tactic(auto, unfolding(crate::specs::Reading::more_line))]
     fn more_line(&self, line: &[u8]) -> Read
-        requires { self.now.frames ≤ 4096 }
+        requires { self.now.frames ≤ MOST_FRAMES }
         ensures { result ≡ more_line self.now line.now }
     {
         if self.version == 2 && self.nodes.len() < MOST_NODES {
@@ -218,7 +218,7 @@ impl Draft {
     /// A line of a form that may stand after what stood last.
     #[tactic(auto, unfolding(crate::specs::Reading::form_at))]
     fn form_at(&self, line: &[u8]) -> Read
-        requires frames { self.now.frames ≤ 4096 }
+        requires frames { self.now.frames ≤ MOST_FRAMES }
         requires cpus { self.now.cpus ≤ 16 }
         ensures { result ≡ form_at self.now self.now.place line.now }
     {
@@ -268,7 +268,7 @@ impl Draft {
     /// What a line says, or its first fault.
     #[tactic(auto, unfolding(crate::specs::Reading::item_at))]
     fn item_at(&self, line: &[u8]) -> Result<Item, ScriptFault>
-        requires frames { self.now.frames ≤ 4096 }
+        requires frames { self.now.frames ≤ MOST_FRAMES }
         requires cpus { self.now.cpus ≤ 16 }
         ensures { result ≡ item_at self.now line.now }
     {
@@ -309,9 +309,9 @@ impl Draft {
 
     /// Adds a node, where it brings no fifth tier.
     fn add_node(&mut self, alloc: Global, node: Node) -> Result<(), ReadError>
-        requires frames { self.old.frames + node.frames ≤ 4096 }
+        requires frames { self.old.frames + node.frames ≤ MOST_FRAMES }
         requires nodes { self.old.frames ≡ frames_of self.old.nodes }
-        ensures { Tells self.new result (ruled self.old (Item.Node node)) }
+        ensures { GivesTold self.new result (ruled self.old (Item.Node node)) }
     {
         self.place = Place::Tier;
         self.frames += node.frames;
@@ -363,8 +363,8 @@ impl Draft {
 
     /// Adds what a line says.
     fn add(&mut self, alloc: Global, item: Item) -> Result<(), ReadError>
-        requires { Fits self.old item }
-        ensures { Tells self.new result (ruled self.old item) }
+        requires { ItemFits self.old item }
+        ensures { GivesTold self.new result (ruled self.old item) }
     {
         match item {
             Item::Version(version) => self.set_version(version),
@@ -385,10 +385,10 @@ impl Draft {
     }
 
     /// Takes a line.
-    #[tactic(auto, unfolding(crate::specs::Reading::step))]
+    #[tactic(auto, unfolding(crate::specs::Reading::told_with))]
     pub fn take(&mut self, alloc: Global, line: &[u8]) -> Result<(), ReadError>
-        requires { IsTold self.old }
-        ensures { Tells self.new result (step self.old line.now) }
+        requires { IsToldSoFar self.old }
+        ensures { GivesTold self.new result (told_with self.old line.now) }
     {
         let item = self.item_at(line)?;
         self.add(alloc, item)
@@ -406,7 +406,7 @@ impl Draft {
 
     /// The script that was told.
     pub fn finish(self, alloc: Global) -> Result<Script, AllocError>
-        requires told { IsTold self }
+        requires told { IsToldSoFar self }
         requires whole { IsTrue (is_whole self) }
         ensures { IfOk result (λ s. s ≡ script_of self) }
     {
@@ -491,7 +491,7 @@ fn reached(vpage: Option<VPage>, writes: bool, line: Line) -> Result<Item, Scrip
 /// The tiers that nodes form, or the fault that there are more than four.
 fn form_tiers(alloc: Global, nodes: &[Node]) -> Result<Vec<u32>, ReadError>
     requires some { nodes.now ≢ [] }
-    requires frames { frames_of nodes.now ≤ 4096 }
+    requires frames { frames_of nodes.now ≤ MOST_FRAMES }
     ensures ok { IfOk result (λ v. (v.items ≡ tiers_of nodes.now) × (tier_count nodes.now ≤ 4)) }
     ensures fault { IfErr result (AreMany nodes.now) }
 {

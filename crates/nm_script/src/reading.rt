@@ -6,19 +6,13 @@ ghost use Rattle.nm_script.specs.Reading.{header_in, is_page_size, page_in, page
 ghost use Rattle.std.specs.Option.{option_map};
 
 use crate::fault::ScriptFault;
-use crate::fields::{
-    below_in, go_fields, is_text, number_in, one_field, ranged_in, shuffle_fields, two_fields,
-};
+use crate::fields::{below_in, go_fields, number_in, ranged_in, shuffle_fields};
 use crate::item::Item;
+use crate::limits::{MOST_FRAMES, MOST_TURNS};
 use crate::schedule::PlanItem;
 use nm_action::ActionKind;
-use nm_text::strip;
+use nm_text::{is_text, one_field, strip, two_fields};
 use nm_tiers::Node;
-
-/// The most frames of all tiers.
-const MOST_FRAMES: u32 = 4096;
-/// The most turns.
-const MOST_TURNS: u32 = 8_000_000;
 
 /// What a line says, or its first fault. None where the line is of another form.
 pub type Read = Option<Result<Item, ScriptFault>>;
@@ -41,16 +35,7 @@ pub fn header_in(line: &[u8]) -> Result<Item, ScriptFault>
 fn is_page_size(words: u32) -> bool
     ensures { result ≡ is_page_size words }
 {
-    words == 1
-        || words == 2
-        || words == 4
-        || words == 8
-        || words == 16
-        || words == 32
-        || words == 64
-        || words == 128
-        || words == 256
-        || words == 512
+    matches!(words, 1 | 2 | 4 | 8 | 16 | 32 | 64 | 128 | 256 | 512)
 }
 
 /// The words of a page.
@@ -101,7 +86,7 @@ pub fn tiers_line(line: &[u8]) -> Read
 /// A node after nodes with this many frames.
 #[tactic(auto, unfolding(crate::specs::Reading::node_in))]
 fn node_in(before: u32, distance: &[u8], frames: &[u8]) -> Result<Item, ScriptFault>
-    requires { before ≤ 4096 }
+    requires { before ≤ MOST_FRAMES }
     ensures { result ≡ node_in before (distance.now, frames.now) }
 {
     let distance = ranged_in(0, 65535, distance)?;
@@ -116,7 +101,7 @@ fn node_in(before: u32, distance: &[u8], frames: &[u8]) -> Result<Item, ScriptFa
 /// The line of a node after nodes with this many frames.
 #[tactic(auto, unfolding(crate::specs::Reading::node_line))]
 pub fn node_line(before: u32, line: &[u8]) -> Read
-    requires { before ≤ 4096 }
+    requires { before ≤ MOST_FRAMES }
     ensures { result ≡ node_line before line.now }
 {
     let (distance, frames) = two_fields(line, b"node ")?;

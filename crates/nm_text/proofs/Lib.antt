@@ -1,2 +1,4 @@
 pub mod NumberLemmas
 pub mod CutLemmas
+pub mod FieldLemmas
+pub mod LineLemmas

@@ -2,7 +2,7 @@
 use Rattle.std.proofs.Common.{◌≡◌, ◌≢◌, ℕ, ◌+◌, ◌<◌, ◌==◌, false, List, [], ◌∷◌, ◌++◌, length, Some, None, refl, ap, ◌∙◌, arith, length-append}
 use Rattle.nm_text.specs.Cuts.{Lacks, cut_of}
 use Rattle.nm_text.proofs.CutLemmas.{Lacks-first, cut_of-some, cut_of-none}
-use Rattle.nm_script.specs.Fields.{lines_of}
+use Rattle.nm_text.specs.Fields.{lines_of}
 
 -- a line and its newline before a text
 pub lines-joined : (a b : List ℕ) → Lacks 10 a → lines_of (a ++ 10 ∷ b) ≡ a ∷ lines_of b

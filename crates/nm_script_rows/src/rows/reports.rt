@@ -1,4 +1,4 @@
-//! Tests of the texts of reports and summaries.
+//! Reports and summaries, and their texts.
 
 ghost use Rattle.nm_core.specs.EndWords.{HasRoom};
 ghost use Rattle.nm_report.specs.Ends.{NamesInRange};
@@ -7,12 +7,12 @@ ghost use Rattle.nm_report.specs.Summary.{IsNoAwait};
 ghost use Rattle.std.specs.Prelude.{◌≡◌, [], ◌∷◌, IfOk};
 ghost use Rattle.std.specs.List.{AllByRecursion};
 
-use crate::{
-    EndWords, LineResult, Report, Role, counts_sum, follows_fits, print, print_cpu, summary,
-};
 use nm_action::Tally;
 use nm_base::{Geometry, VPage};
 use nm_flat::{Access, AccessKind};
+use nm_report::{
+    EndWords, LineResult, Report, Role, counts_sum, follows_fits, print, print_cpu, summary,
+};
 use nm_script::{Line, Schedule, Script};
 use std::alloc::Global;
 use std::test::Fail;

@@ -1,27 +1,9 @@
-//! Numbers and cuts at tables of texts, and callers that match a word that is written out.
+//! Numbers, cuts, fields and lines.
 
-ghost use Rattle.std.specs.Prelude.{◌≡◌, IfSome, IfNone, Some, None, codes, option_and_then};
-ghost use Rattle.nm_text.specs.Cuts.{strip_of};
-ghost use Rattle.nm_text.specs.Numbers.{number_of};
-
-use super::*;
+use nm_text::{
+    cut, first_line, is_text, one_field, push_number, read_number, strip, three_fields, two_fields,
+};
 use std::test::Fail;
-
-// What stands after the word.
-fn after_page(text: &[u8]) -> Option<&[u8]>
-    ensures some { IfSome result (λ rest. strip_of (codes "page ") text.now ≡ Some rest.now) }
-    ensures none { IfNone result (strip_of (codes "page ") text.now ≡ None) }
-{
-    strip(text, b"page ")
-}
-
-// The number after the word, as a function on lists says it.
-fn page_number(text: &[u8]) -> Option<u64>
-    ensures { result ≡ option_and_then number_of (strip_of (codes "page ") text.now) }
-{
-    let number = strip(text, b"page ")?;
-    read_number(number)
-}
 
 #[test]
 fn numbers(rt: HostRuntime) -> Result<(), Fail> {
@@ -83,12 +65,39 @@ fn cuts(rt: HostRuntime) -> Result<(), Fail> {
 
 #[test]
 fn strips(rt: HostRuntime) -> Result<(), Fail> {
-    assert_eq!(rt; after_page(b"page 7"), Some(b"7".as_slice()));
-    assert_eq!(rt; after_page(b"page "), Some(b"".as_slice()));
-    assert_eq!(rt; after_page(b"page"), None);
-    assert_eq!(rt; after_page(b"pages 7"), None);
+    assert_eq!(rt; strip(b"page 7", b"page "), Some(b"7".as_slice()));
+    assert_eq!(rt; strip(b"page ", b"page "), Some(b"".as_slice()));
+    assert_eq!(rt; strip(b"page", b"page "), None);
+    assert_eq!(rt; strip(b"pages 7", b"page "), None);
     assert_eq!(rt; strip(b"page", b""), Some(b"page".as_slice()));
-    assert_eq!(rt; page_number(b"page 512"), Some(512));
-    assert_eq!(rt; page_number(b"page 0512"), None);
+    Ok(())
+}
+
+#[test]
+fn fields(rt: HostRuntime) -> Result<(), Fail> {
+    assert_eq!(rt; is_text(b"rw", b"rw"), true);
+    assert_eq!(rt; is_text(b"rw", b"rw "), false);
+    assert_eq!(rt; one_field(b"cpu 3", b"cpu "), Some(b"3".as_slice()));
+    assert_eq!(rt; one_field(b"cpu 3 ", b"cpu "), None);
+    assert_eq!(rt; one_field(b"cpus 3", b"cpu "), None);
+    assert_eq!(rt;
+        two_fields(b"node 5 ", b"node "),
+        Some((b"5".as_slice(), b"".as_slice()))
+    );
+    assert_eq!(rt; two_fields(b"node 5", b"node "), None);
+    assert_eq!(rt; two_fields(b"node 5 6 7", b"node "), None);
+    assert_eq!(rt;
+        three_fields(b"map 1 2 rw", b"map "),
+        Some((b"1".as_slice(), b"2".as_slice(), b"rw".as_slice()))
+    );
+    assert_eq!(rt; three_fields(b"map 1 2", b"map "), None);
+    Ok(())
+}
+
+#[test]
+fn lines(rt: HostRuntime) -> Result<(), Fail> {
+    assert_eq!(rt; first_line(b"a\nb\n"), (b"a".as_slice(), b"b\n".as_slice()));
+    assert_eq!(rt; first_line(b"\n"), (b"".as_slice(), b"".as_slice()));
+    assert_eq!(rt; first_line(b"a"), (b"a".as_slice(), b"".as_slice()));
     Ok(())
 }

@@ -1,6 +1,6 @@
 use Rattle.std.proofs.Common.{rules}
-use Rattle.nm_script.proofs.Lines.{lines-front, lines-last, cut-shorter}
-use Rattle.nm_script.proofs.fields.first_line.Goals as goal
+use Rattle.nm_text.proofs.LineLemmas.{lines-front, lines-last, cut-shorter}
+use Rattle.nm_text.proofs.fields.first_line.Goals as goal
 
 pub returns-in-None-clause-lines : goal.returns-in-None-clause-lines
 returns-in-None-clause-lines c = lines-last c.args.text.now (search rules) c.requires

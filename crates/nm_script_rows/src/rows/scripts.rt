@@ -1,6 +1,6 @@
 //! Texts and their scripts, and the first faults of texts.
 
-use super::*;
+use nm_script::{ScriptFault, ScriptRefusal, one_reading, parse, print};
 use std::alloc::Global;
 use std::test::Fail;
 
@@ -19,6 +19,11 @@ fn reprinted(alloc: Global, text: &[u8]) -> Result<Vec<u8>, ScriptRefusal> {
 // A small script: a processor that loads a word.
 const SMALLEST: &[u8] =
     b"nomad 1\npage 4\ntiers 4 8\ncpus 1\nserial turns 1000\nmap 0 0 rw\ncpu 0\nload 0.0\n";
+
+#[test]
+fn law(_rt: HostRuntime) {
+    one_reading();
+}
 
 #[test]
 fn canonical_texts(rt: HostRuntime) -> Result<(), Fail> {
