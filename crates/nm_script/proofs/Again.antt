@@ -6,6 +6,7 @@ use Rattle.std.specs.Option.{is_some}
 use Rattle.std.proofs.lemmas.Bool.{cases_lt, cases_eq, le-leb, lt-ltb, le-ltb, eq-eqb}
 use Rattle.nm_text.specs.Cuts.{Lacks, strip_of}
 use Rattle.nm_text.proofs.NumberLemmas.{number_of-decimal, decimal-lacks}
+use Rattle.nm_text.proofs.KindLemmas.{kind-again}
 use Rattle.nm_text.proofs.FieldLemmas.{one_of-again, two_of-again, three_of-again}
 use Rattle.nm_text.proofs.CutLemmas.{cut_of-again, cut_of-lacks, strip_of-again, Lacks-append}
 use Rattle.nm_base.specs.declared.geometry.VPage.{VPage}
@@ -18,13 +19,17 @@ use Rattle.nm_script.specs.declared.script.Line.{Line}
 use Rattle.nm_script.specs.declared.script.Line.TheVariants.{Load, Store, Add, Await}
 use Rattle.nm_script.specs.declared.schedule.PlanItem.{PlanItem}
 use Rattle.nm_script.specs.declared.item.Item.TheVariants as items
-use Rattle.nm_script.specs.Items.{actor_text, kind_text, right_text, place_text, access_text}
+use Rattle.nm_text.specs.Kinds.{kind_text}
+use Rattle.nm_script.specs.Items.{actor_text, right_text, place_text, access_text}
 use Rattle.nm_script.specs.Script.{IsPlanItem}
 use Rattle.nm_text.specs.Fields.{unspaced_of, one_of, two_of, three_of}
-use Rattle.nm_script.specs.Fields.{shuffle_of, right_of, map_of, is_actor, all_kinds, kind_among, go_of, page_word_of}
+use Rattle.nm_text.specs.Kinds.{all_kinds, kind_among}
+use Rattle.nm_script.specs.LineFaults.{page_word_of}
+use Rattle.nm_script.specs.Fields.{shuffle_of, right_of, map_of, is_actor, go_of}
 use Rattle.nm_script.specs.Told.{Told}
 use Rattle.nm_script.specs.Following.{IsReach}
-use Rattle.nm_script.specs.Reading.{number_in, ranged_in, below_in, is_page_size, page_in, page_line, tiers_in, tiers_line, node_in, node_line, cpus_in, cpus_line, retry_in, retry_line, serial_in, shuffle_in, plan_in, schedule_line, actor_in, cpu_after, go_in, go_line, map_in, map_line, cpu_in, cpu_line, place_in, reached, load_in, store_in, add_in, await_in, access_line}
+use Rattle.nm_script.specs.LineFaults.{is_page_size}
+use Rattle.nm_script.specs.Reading.{number_in, ranged_in, below_in, page_in, page_line, tiers_in, tiers_line, node_in, node_line, cpus_in, cpus_line, retry_in, retry_line, serial_in, shuffle_in, plan_in, schedule_line, actor_in, cpu_after, go_in, go_line, map_in, map_line, cpu_in, cpu_line, place_in, reached, load_in, store_in, add_in, await_in, access_line}
 use Rattle.nm_script.proofs.FieldLemmas.{cpu_actor, migrator, reclaimer}
 use Rattle.nm_script.proofs.Says.{Ranged}
 
@@ -117,38 +122,6 @@ pub plan-again : (t : ℕ) → t ≤ 8000000 → schedule_line (codes "plan turn
 unfolding schedule_line plan_in
 plan-again t h =
     rw (serial_plan (decimal t)) (rw (shuffle_plan (decimal t)) (rw (one_of-again (codes "plan turns ") (decimal t) (lacks t (omega arith))) (rw (ranged_in-again 0 8000000 t (omega arith) (omega arith) h) refl)))
-
-pub kind-again : (k : ActionKind) → (kind_among all_kinds (kind_text k) ≡ Some k) × Lacks 32 (kind_text k)
-kind-again kinds.Load = (refl, refl)
-kind-again kinds.Store = (refl, refl)
-kind-again kinds.Add = (refl, refl)
-kind-again kinds.Look = (refl, refl)
-kind-again kinds.Walk = (refl, refl)
-kind-again kinds.Peek = (refl, refl)
-kind-again kinds.Poll = (refl, refl)
-kind-again kinds.Ack = (refl, refl)
-kind-again kinds.Lock = (refl, refl)
-kind-again kinds.Unlock = (refl, refl)
-kind-again kinds.Bump = (refl, refl)
-kind-again kinds.SeeAck = (refl, refl)
-kind-again kinds.Raise = (refl, refl)
-kind-again kinds.Soften = (refl, refl)
-kind-again kinds.Arm = (refl, refl)
-kind-again kinds.ClearDirty = (refl, refl)
-kind-again kinds.Unmap = (refl, refl)
-kind-again kinds.Map = (refl, refl)
-kind-again kinds.Grant = (refl, refl)
-kind-again kinds.CopyLoad = (refl, refl)
-kind-again kinds.CopyStore = (refl, refl)
-kind-again kinds.SetHome = (refl, refl)
-kind-again kinds.SetShadow = (refl, refl)
-kind-again kinds.TakeTurn = (refl, refl)
-kind-again kinds.Scan = (refl, refl)
-kind-again kinds.GiveFrame = (refl, refl)
-kind-again kinds.PutFrame = (refl, refl)
-kind-again kinds.ReleaseTurn = (refl, refl)
-kind-again kinds.Mark = (refl, refl)
-kind-again kinds.Read = (refl, refl)
 
 actor_form : (b c : Bool) (a : ℕ) → a < 2 ^ 64 → (is_actor (if b then codes "c" ++ decimal a else if c then codes "m" else codes "r") ≡ true) × Lacks 32 (if b then codes "c" ++ decimal a else if c then codes "m" else codes "r")
 unfolding is_actor strip_of

@@ -10,12 +10,16 @@ use Rattle.std.proofs.lemmas.Fmt.{decimal_nonempty}
 use Rattle.nm_text.specs.Numbers.{number_of}
 use Rattle.nm_text.specs.Cuts.{cut_of, strip_of}
 use Rattle.nm_text.proofs.NumberLemmas.{number_of-some}
+use Rattle.nm_text.proofs.KindLemmas.{kind_among-some}
 use Rattle.nm_text.proofs.FieldLemmas.{chained_option, three_of-some}
 use Rattle.nm_text.proofs.CutLemmas.{cut_of-some, strip_of-some}
 use Rattle.nm_action.specs.declared.kind.ActionKind.{ActionKind}
-use Rattle.nm_script.specs.Items.{actor_text, kind_text, right_text, place_text}
+use Rattle.nm_text.specs.Kinds.{kind_text}
+use Rattle.nm_script.specs.Items.{actor_text, right_text, place_text}
 use Rattle.nm_text.specs.Fields.{uncut, unspaced_of, one_of, two_of, three_of}
-use Rattle.nm_script.specs.Fields.{shuffle_of, right_of, map_of, is_actor, all_kinds, kind_among, go_of, dotted, page_word_of}
+use Rattle.nm_text.specs.Kinds.{all_kinds, kind_among}
+use Rattle.nm_script.specs.LineFaults.{dotted, page_word_of}
+use Rattle.nm_script.specs.Fields.{shuffle_of, right_of, map_of, is_actor, go_of}
 use Rattle.nm_script.specs.Reading.{◌>>=◌, either_of, or_bad, number_in, ranged_in, below_in, cpu_after, actor_in, place_in}
 
 -- ---- chains of readings
@@ -92,14 +96,6 @@ map_of-some line p e =
     let right = chained_option _ _ _ parts.1.1 in
     let is : line ≡ codes "map " ++ (parts.0.0 ++ 32 ∷ (parts.0.1 ++ 32 ∷ right_text right.0)) = three_of-some (codes "map ") line parts.0 parts.1.0 ∙ ap (λ w. codes "map " ++ (parts.0.0 ++ 32 ∷ (parts.0.1 ++ 32 ∷ w))) (right_of-some parts.0.2 right.0 right.1.0) in
     subst (λ (q : List ℕ × List ℕ × Bool). line ≡ codes "map " ++ (q.0 ++ 32 ∷ (q.1 ++ 32 ∷ right_text q.2))) (same_Some _ _ right.1.1) is
-
-kind_case : (b : Bool) (ks : List ActionKind) (k : ActionKind) (word : List ℕ) (kind : ActionKind) → bytes_eq (kind_text k) word ≡ b → (if b then Some k else kind_among ks word) ≡ Some kind → (kind_among ks word ≡ Some kind → word ≡ kind_text kind) → word ≡ kind_text kind
-kind_case true ks k word kind a e later = sym ((bytes_eq-Decides (kind_text k) word).0 a) ∙ ap kind_text (same_Some _ _ e)
-kind_case false ks k word kind a e later = later e
-
-pub kind_among-some : (ks : List ActionKind) (word : List ℕ) (kind : ActionKind) → kind_among ks word ≡ Some kind → word ≡ kind_text kind
-kind_among-some [] word kind e = absurd (none-some kind e)
-kind_among-some (k ∷ ks) word kind e = kind_case (bytes_eq (kind_text k) word) ks k word kind refl e (kind_among-some ks word kind)
 
 pub go_of-some : (line : List ℕ) (p : List ℕ × ActionKind × List ℕ) → go_of line ≡ Some p → line ≡ codes "go " ++ (p.0 ++ 32 ∷ (kind_text p.1 ++ 32 ∷ p.2))
 unfolding go_of

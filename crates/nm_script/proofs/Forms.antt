@@ -7,7 +7,8 @@ use Rattle.nm_text.specs.Cuts.{Lacks, strip_of}
 use Rattle.nm_action.specs.declared.kind.ActionKind.{ActionKind}
 use Rattle.nm_script.specs.declared.item.Place.{Place}
 use Rattle.nm_script.specs.declared.item.Place.TheVariants as places
-use Rattle.nm_script.specs.Items.{kind_text, right_text}
+use Rattle.nm_text.specs.Kinds.{kind_text}
+use Rattle.nm_script.specs.Items.{right_text}
 use Rattle.nm_text.specs.Fields.{one_of}
 use Rattle.nm_script.specs.Fields.{shuffle_of, map_of, is_actor, go_of}
 use Rattle.nm_script.specs.Told.{Told}
@@ -16,7 +17,8 @@ use Rattle.nm_script.specs.LineFaults as forms
 use Rattle.nm_script.specs.LineFaults.{Actor, Form, actor_word, form_words, spaced, IsFormOf, item_of, IsOfVersion, MayStand}
 use Rattle.nm_script.specs.Reading.{page_in, page_line, tiers_in, tiers_line, node_in, node_line, cpus_in, cpus_line, retry_in, retry_line, serial_in, shuffle_in, plan_in, schedule_line, go_in, go_line, map_in, map_line, cpu_in, cpu_line, load_in, store_in, add_in, await_in, access_line, tier_line, more_line, form_at}
 use Rattle.nm_text.proofs.FieldLemmas.{one_of-again, two_of-again, three_of-again}
-use Rattle.nm_script.proofs.Again.{serial_shuffle, serial_plan, shuffle_plan, kind-again, right-again, load_store, load_add, load_await, store_add, store_await, add_await}
+use Rattle.nm_text.proofs.KindLemmas.{kind-again}
+use Rattle.nm_script.proofs.Again.{serial_shuffle, serial_plan, shuffle_plan, right-again, load_store, load_add, load_await, store_add, store_await, add_await}
 use Rattle.nm_script.proofs.Steps.{page_tiers, page_node, more_cpus, retry_serial, retry_shuffle, retry_plan, retry_map, schedule_map, go_map, map_cpu, second, first}
 use Rattle.nm_script.proofs.Questions.{read_as}
 

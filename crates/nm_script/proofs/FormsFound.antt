@@ -13,16 +13,19 @@ use Rattle.nm_script.specs.declared.fault.ScriptFault.{ScriptFault}
 use Rattle.nm_script.specs.declared.item.Item.{Item}
 use Rattle.nm_script.specs.declared.item.Place.{Place}
 use Rattle.nm_script.specs.declared.item.Place.TheVariants as places
-use Rattle.nm_script.specs.Items.{kind_text, right_text}
+use Rattle.nm_text.specs.Kinds.{kind_text}
+use Rattle.nm_script.specs.Items.{right_text}
 use Rattle.nm_text.specs.Fields.{uncut, unspaced_of, one_of, two_of, three_of}
-use Rattle.nm_script.specs.Fields.{shuffle_of, map_of, is_actor, all_kinds, go_of}
+use Rattle.nm_text.specs.Kinds.{all_kinds}
+use Rattle.nm_script.specs.Fields.{shuffle_of, map_of, is_actor, go_of}
 use Rattle.nm_script.specs.Told.{Told}
 use Rattle.nm_script.specs.Following.{IsOneOf, before_of}
 use Rattle.nm_script.specs.LineFaults as forms
 use Rattle.nm_script.specs.LineFaults.{Actor, Form, actor_word, form_words, spaced, IsFormOf, item_of, IsOfVersion, MayStand}
 use Rattle.nm_script.specs.Reading.{page_line, tiers_line, node_line, cpus_line, retry_line, serial_in, shuffle_in, plan_in, schedule_line, go_in, go_line, map_line, cpu_line, load_in, store_in, add_in, await_in, access_line, tier_line, more_line, form_at}
 use Rattle.nm_text.proofs.FieldLemmas.{chained_option, one_of-parts, two_of-parts, three_of-parts}
-use Rattle.nm_script.proofs.FieldLemmas.{mapped, either_some, right_of-some, kind_among-some}
+use Rattle.nm_text.proofs.KindLemmas.{kind_among-some}
+use Rattle.nm_script.proofs.FieldLemmas.{mapped, either_some, right_of-some}
 use Rattle.nm_script.proofs.Questions.{read_as}
 
 -- ---- the fields of a line

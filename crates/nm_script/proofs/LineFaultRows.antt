@@ -6,7 +6,7 @@ use Rattle.nm_text.specs.Numbers.{number_of}
 use Rattle.nm_text.proofs.NumberLemmas.{number_of-decimal, number_of-apart, decimal-lacks}
 use Rattle.nm_script.specs.declared.fault.ScriptFault.TheVariants as faults
 use Rattle.nm_script.specs.declared.item.Place.TheVariants as places
-use Rattle.nm_script.specs.Fields.{page_word_of}
+use Rattle.nm_script.specs.LineFaults.{page_word_of}
 use Rattle.nm_script.specs.Told.{Told, nothing}
 use Rattle.nm_script.specs.LineFaults as forms
 use Rattle.nm_script.specs.LineFaults.{Form, form_words, spaced, MayStand, IsFormOf, questions, IsFirstNo, IsLineFault}

@@ -17,11 +17,12 @@ use Rattle.nm_script.specs.declared.script.Line.{Line}
 use Rattle.nm_script.specs.declared.script.Line.TheVariants.{Load, Store, Add, Await}
 use Rattle.nm_script.specs.declared.item.Item.{Item}
 use Rattle.nm_script.specs.declared.item.Item.TheVariants as items
-use Rattle.nm_script.specs.Fields.{page_word_of}
+use Rattle.nm_script.specs.LineFaults.{page_word_of}
 use Rattle.nm_script.specs.Told.{Told, with_item}
 use Rattle.nm_script.specs.LineFaults as forms
 use Rattle.nm_script.specs.LineFaults.{Actor, Form, actor_word, Question, is_number, value_of, actor_of, page_at, word_at, item_of, number, ranged, below, located, known, vpage_of, may_write, mapped, writable, tiers_with, questions, IsFirstNo}
-use Rattle.nm_script.specs.Reading.{◌>>=◌, or_bad, number_in, ranged_in, below_in, is_page_size, page_in, tiers_in, node_in, cpus_in, retry_in, serial_in, shuffle_in, plan_in, cpu_after, actor_in, go_in, map_in, cpu_in, place_in, reached, load_in, store_in, add_in, await_in, ruled}
+use Rattle.nm_script.specs.LineFaults.{is_page_size}
+use Rattle.nm_script.specs.Reading.{◌>>=◌, or_bad, number_in, ranged_in, below_in, page_in, tiers_in, node_in, cpus_in, retry_in, serial_in, shuffle_in, plan_in, cpu_after, actor_in, go_in, map_in, cpu_in, place_in, reached, load_in, store_in, add_in, await_in, ruled}
 use Rattle.nm_script.proofs.Says.{page_size}
 
 -- ---- questions and answers

@@ -18,12 +18,14 @@ use Rattle.nm_script.specs.declared.item.Item.{Item}
 use Rattle.nm_script.specs.declared.item.Item.TheVariants as items
 use Rattle.nm_script.specs.declared.item.Place.{Place}
 use Rattle.nm_script.specs.declared.item.Place.TheVariants as places
-use Rattle.nm_script.specs.Items.{item_text, actor_text, right_text, kind_text, place_text}
+use Rattle.nm_text.specs.Kinds.{kind_text}
+use Rattle.nm_script.specs.Items.{item_text, actor_text, right_text, place_text}
 use Rattle.nm_text.specs.Fields.{one_of, two_of, three_of}
 use Rattle.nm_script.specs.Fields.{shuffle_of}
 use Rattle.nm_script.specs.Told.{Told}
 use Rattle.nm_script.specs.Following.{IsOneOf, before_of, IsItemInRange}
-use Rattle.nm_script.specs.Reading.{ranged_in, header_in, is_page_size, page_in, page_line, tiers_in, tiers_line, node_in, node_line, cpus_in, cpus_line, retry_in, retry_line, serial_in, shuffle_in, plan_in, schedule_line, go_in, go_line, map_in, map_line, cpu_in, cpu_line, reached, load_in, store_in, add_in, await_in, access_line, tier_line, more_line, form_at, or_bad_line, item_at}
+use Rattle.nm_script.specs.LineFaults.{is_page_size}
+use Rattle.nm_script.specs.Reading.{ranged_in, header_in, page_in, page_line, tiers_in, tiers_line, node_in, node_line, cpus_in, cpus_line, retry_in, retry_line, serial_in, shuffle_in, plan_in, schedule_line, go_in, go_line, map_in, map_line, cpu_in, cpu_line, reached, load_in, store_in, add_in, await_in, access_line, tier_line, more_line, form_at, or_bad_line, item_at}
 use Rattle.nm_text.proofs.FieldLemmas.{one_of-some, two_of-some, three_of-some}
 use Rattle.nm_script.proofs.FieldLemmas.{chained, mapped, tested, refused, either_some, number_in-some, ranged_in-some, shuffle_of-some, map_of-some, go_of-some, actor_in-some, place_in-some}
 

@@ -13,12 +13,14 @@ use Rattle.nm_script.specs.declared.script.Line.TheVariants.{Load, Store, Add, A
 use Rattle.nm_script.specs.declared.schedule.PlanItem.{PlanItem}
 use Rattle.nm_script.specs.declared.item.Item.{Item}
 use Rattle.nm_script.specs.declared.item.Item.TheVariants as items
-use Rattle.nm_script.specs.Items.{actor_text, kind_text, right_text, place_text, access_text, item_text, lines_text}
+use Rattle.nm_text.specs.Kinds.{kind_text}
+use Rattle.nm_script.specs.Items.{actor_text, right_text, place_text, access_text, item_text, lines_text}
 use Rattle.nm_script.specs.Script.{IsPlanItem}
 use Rattle.nm_text.specs.Fields.{lines_of}
 use Rattle.nm_script.specs.Told.{Told, with_item}
 use Rattle.nm_script.specs.Following.{IsReach, IsItemInRange, MayFollow, AreLines}
 use Rattle.nm_script.specs.Holds.{IsToldSoFar}
+use Rattle.nm_text.proofs.KindLemmas.{kind_lacks}
 use Rattle.nm_text.proofs.LineLemmas.{lines-joined}
 use Rattle.nm_script.proofs.Tellings.{told-step}
 use Rattle.nm_script.proofs.Steps.{step-again, words_few, cpus_few}
@@ -30,38 +32,6 @@ lacks n h = decimal-lacks n 10 h refl
 
 two_lack : (a b : ℕ) → a < 2 ^ 64 → b < 2 ^ 64 → Lacks 10 (decimal a ++ 32 ∷ decimal b)
 two_lack a b h k = Lacks-append 10 (decimal a) (32 ∷ decimal b) (lacks a h) (lacks b k)
-
-kind_lacks : (k : ActionKind) → Lacks 10 (kind_text k)
-kind_lacks kinds.Load = refl
-kind_lacks kinds.Store = refl
-kind_lacks kinds.Add = refl
-kind_lacks kinds.Look = refl
-kind_lacks kinds.Walk = refl
-kind_lacks kinds.Peek = refl
-kind_lacks kinds.Poll = refl
-kind_lacks kinds.Ack = refl
-kind_lacks kinds.Lock = refl
-kind_lacks kinds.Unlock = refl
-kind_lacks kinds.Bump = refl
-kind_lacks kinds.SeeAck = refl
-kind_lacks kinds.Raise = refl
-kind_lacks kinds.Soften = refl
-kind_lacks kinds.Arm = refl
-kind_lacks kinds.ClearDirty = refl
-kind_lacks kinds.Unmap = refl
-kind_lacks kinds.Map = refl
-kind_lacks kinds.Grant = refl
-kind_lacks kinds.CopyLoad = refl
-kind_lacks kinds.CopyStore = refl
-kind_lacks kinds.SetHome = refl
-kind_lacks kinds.SetShadow = refl
-kind_lacks kinds.TakeTurn = refl
-kind_lacks kinds.Scan = refl
-kind_lacks kinds.GiveFrame = refl
-kind_lacks kinds.PutFrame = refl
-kind_lacks kinds.ReleaseTurn = refl
-kind_lacks kinds.Mark = refl
-kind_lacks kinds.Read = refl
 
 actor_case : (b c : Bool) (a : ℕ) → a < 2 ^ 64 → Lacks 10 (if b then codes "c" ++ decimal a else if c then codes "m" else codes "r")
 actor_case true c a h = lacks a h

@@ -1,4 +1,4 @@
--- What holds of what the lines of a text have told.
+-- Mirrors the reader: what holds of what it keeps between two lines.
 use Rattle.std.specs.Prelude.{◌≡◌, ℕ, ◌+◌, ◌<◌, ◌≤◌, ◌^◌, ◌⊎◌, List, [], ◌∷◌, length, sum, Option, None, IfSome}
 use Rattle.std.specs.List.{AllByRecursion}
 use Rattle.nm_base.specs.declared.geometry.VPage.{VPage}

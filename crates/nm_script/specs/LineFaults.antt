@@ -1,9 +1,9 @@
 -- The fault of a line: the forms of lines, what each may stand after, and its questions in their order.
-use Rattle.std.specs.Prelude.{◌≡◌, ◌≢◌, ℕ, ◌<◌, ◌+◌, ◌==◌, nat_lt, nat_le, ◌&&◌, ◌⊎◌, Bool, false, IsTrue, List, [], ◌∷◌, ◌++◌, length, Option, Some, None, is_some, is_none, slice_index_or, codes}
+use Rattle.std.specs.Prelude.{◌≡◌, ◌≢◌, ℕ, ◌<◌, ◌+◌, ◌==◌, nat_lt, nat_le, ◌&&◌, ◌||◌, ◌⊎◌, Bool, false, IsTrue, List, [], ◌∷◌, ◌++◌, length, Option, Some, None, is_some, is_none, slice_index_or, codes}
 use Rattle.std.specs.Option.{unwrap_or}
 use Rattle.std.specs.List.{AllByRecursion}
 use Rattle.nm_text.specs.Numbers.{number_of}
-use Rattle.nm_text.specs.Cuts.{Lacks}
+use Rattle.nm_text.specs.Cuts.{Lacks, cut_of}
 use Rattle.nm_base.specs.declared.geometry.VPage.{VPage}
 use Rattle.nm_tiers.specs.Tiers.{tier_count}
 use Rattle.nm_action.specs.declared.kind.ActionKind.{ActionKind}
@@ -14,11 +14,10 @@ use Rattle.nm_script.specs.declared.item.Place.TheVariants as places
 use Rattle.nm_script.specs.declared.script.Line.TheVariants.{Load, Store, Add, Await}
 use Rattle.nm_script.specs.declared.item.Item.{Item}
 use Rattle.nm_script.specs.declared.item.Item.TheVariants as items
-use Rattle.nm_script.specs.Items.{kind_text, right_text}
-use Rattle.nm_script.specs.Fields.{page_word_of}
+use Rattle.nm_text.specs.Kinds.{kind_text}
+use Rattle.nm_script.specs.Items.{right_text}
 use Rattle.nm_script.specs.Told.{Told}
 use Rattle.nm_script.specs.Following.{IsOneOf, before_of}
-use Rattle.nm_script.specs.Reading.{is_page_size}
 
 -- ---- forms
 
@@ -92,6 +91,15 @@ is_number field = is_some (number_of field)
 abbrev pub value_of : List ℕ → ℕ
 value_of field = unwrap_or (number_of field) 0
 
+-- a field split at its first dot; without a dot the second part has nothing
+abbrev pub dotted : Option (List ℕ × List ℕ) → List ℕ → List ℕ × List ℕ
+dotted None field = (field, [])
+dotted (Some parts) field = parts
+
+-- V and w of a field V.w
+unfoldable pub page_word_of : List ℕ → List ℕ × List ℕ
+page_word_of field = dotted (cut_of 46 field) field
+
 -- the number of an actor among this many processors
 abbrev pub actor_of : ℕ → Actor → ℕ
 actor_of n migrator = n
@@ -141,6 +149,10 @@ MayStand s form = IsOneOf (before_of (item_of s.cpus form)) s.place × IsOfVersi
 -- a question: the fault of a line for which the answer is no, and the answer
 abbrev pub Question : Type 0
 Question = ScriptFault × Bool
+
+-- a power of two, 1 to 512
+abbrev pub is_page_size : ℕ → Bool
+is_page_size w = w == 1 || w == 2 || w == 4 || w == 8 || w == 16 || w == 32 || w == 64 || w == 128 || w == 256 || w == 512
 
 -- is the field a number?
 abbrev pub number : List ℕ → List Question

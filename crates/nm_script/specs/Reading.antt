@@ -1,4 +1,4 @@
--- What a line says after the lines before it, or its first fault.
+-- Mirrors the reader: what a line says after the lines before it, or its first fault, as a function.
 use Rattle.std.specs.Prelude.{◌≡◌, ℕ, ◌<◌, ◌+◌, ◌==◌, nat_lt, nat_le, ◌&&◌, ◌||◌, if◌then◌else◌, Bool, true, false, List, [], ◌∷◌, ◌++◌, length, Option, Some, None, option_map, is_some, slice_index_or, Result, Ok, Err, codes}
 use Rattle.std.specs.Str.{bytes_eq}
 use Rattle.nm_text.specs.Numbers.{number_of}
@@ -21,7 +21,9 @@ use Rattle.nm_script.specs.declared.item.Item.TheVariants.{Version, Page, Tiers,
 use Rattle.nm_script.specs.declared.item.Place.{Place}
 use Rattle.nm_script.specs.declared.item.Place.TheVariants as places
 use Rattle.nm_text.specs.Fields.{one_of, two_of, three_of, lines_of}
-use Rattle.nm_script.specs.Fields.{shuffle_of, map_of, go_of, page_word_of}
+use Rattle.nm_script.specs.LineFaults.{page_word_of}
+use Rattle.nm_script.specs.Fields.{shuffle_of, map_of, go_of}
+use Rattle.nm_script.specs.LineFaults.{is_page_size}
 use Rattle.nm_script.specs.Told.{Told, nothing, with_item, is_whole, script_of}
 use Rattle.nm_script.specs.Plain.{Script}
 
@@ -62,10 +64,6 @@ below_in end field = do
 -- the first line
 unfoldable pub header_in : List ℕ → Result Item ScriptFault
 header_in line = if bytes_eq line (codes "nomad 1") then Ok (Version 1) else if bytes_eq line (codes "nomad 2") then Ok (Version 2) else Err faults.BadHeader
-
--- a power of two, 1 to 512
-abbrev pub is_page_size : ℕ → Bool
-is_page_size w = w == 1 || w == 2 || w == 4 || w == 8 || w == 16 || w == 32 || w == 64 || w == 128 || w == 256 || w == 512
 
 unfoldable pub page_in : List ℕ → Result Item ScriptFault
 page_in width = do

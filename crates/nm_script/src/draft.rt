@@ -1,6 +1,6 @@
 //! What the lines so far have told.
 
-ghost use Rattle.std.specs.Prelude.{◌≡◌, ◌≢◌, ◌≤◌, ◌+◌, ◌^◌, ◌<◌, [], length, slice_index_or, Some, None, Ok, IfOk, IfErr, IsTrue, OnOk, map};
+ghost use Rattle.std.specs.Prelude.{◌≡◌, ◌≢◌, ◌≤◌, ◌+◌, ◌^◌, ◌<◌, [], length, slice_index_or, Some, None, Ok, Err, IfOk, IfErr, IsTrue, OnOk, map};
 ghost use Rattle.nm_tiers.specs.Tiers.{frames_of, tiers_of, tier_count};
 ghost use Rattle.nm_base.specs.Geometry.{IsGeometry, made};
 ghost use Rattle.nm_script.specs.Told.{with_page, with_line, schedule_of};
@@ -224,33 +224,17 @@ impl Draft {
     {
         match self.place {
             Place::Begin => Some(header_in(line)),
-            Place::Version => match page_line(line) {
-                None => self.tier_line(line),
-                read => read,
-            },
+            Place::Version => page_line(line).or_else(|| self.tier_line(line)),
             Place::Page => self.tier_line(line),
-            Place::Tier => match self.more_line(line) {
-                None => cpus_line(self.tiers.len(), line),
-                read => read,
-            },
-            Place::Cpus => match retry_line(self.version, line) {
-                None => self.schedule_or_map(line),
-                read => read,
-            },
+            Place::Tier => self
+                .more_line(line)
+                .or_else(|| cpus_line(self.tiers.len(), line)),
+            Place::Cpus => retry_line(self.version, line).or_else(|| self.schedule_or_map(line)),
             Place::Retry => self.schedule_or_map(line),
             Place::Order => self.map_line(line),
-            Place::Plan => match go_line(self.cpus, line) {
-                None => self.map_line(line),
-                read => read,
-            },
-            Place::Map => match self.map_line(line) {
-                None => self.cpu_line(line),
-                read => read,
-            },
-            Place::Program => match self.cpu_line(line) {
-                None => self.access_line(line),
-                read => read,
-            },
+            Place::Plan => go_line(self.cpus, line).or_else(|| self.map_line(line)),
+            Place::Map => self.map_line(line).or_else(|| self.cpu_line(line)),
+            Place::Program => self.cpu_line(line).or_else(|| self.access_line(line)),
         }
     }
 
@@ -259,10 +243,7 @@ impl Draft {
         requires { self.now.cpus ≤ 16 }
         ensures { result ≡ either_of (schedule_line line.now) (map_line self.now line.now) }
     {
-        match schedule_line(line) {
-            None => self.map_line(line),
-            read => read,
-        }
+        schedule_line(line).or_else(|| self.map_line(line))
     }
 
     /// What a line says, or its first fault.
@@ -272,26 +253,7 @@ impl Draft {
         requires cpus { self.now.cpus ≤ 16 }
         ensures { result ≡ item_at self.now line.now }
     {
-        match self.form_at(line) {
-            None => Err(ScriptFault::BadLine),
-            Some(read) => read,
-        }
-    }
-
-    /// Begins with the version.
-    fn set_version(&mut self, version: u32)
-        ensures { self.new ≡ with_item self.old (Item.Version version) }
-    {
-        self.place = Place::Version;
-        self.version = version;
-    }
-
-    /// Sets the words of a page.
-    fn set_words(&mut self, words: u32)
-        ensures { self.new ≡ with_item self.old (Item.Page words) }
-    {
-        self.place = Place::Page;
-        self.words = words;
+        self.form_at(line).unwrap_or(Err(ScriptFault::BadLine))
     }
 
     /// Sets the frames of both tiers.
@@ -318,22 +280,6 @@ impl Draft {
         self.nodes.push(node)?;
         self.tiers = form_tiers(alloc, &self.nodes)?;
         Ok(())
-    }
-
-    /// Sets the number of processors.
-    fn set_cpus(&mut self, cpus: u32)
-        ensures { self.new ≡ with_item self.old (Item.Cpus cpus) }
-    {
-        self.place = Place::Cpus;
-        self.cpus = cpus;
-    }
-
-    /// Sets the aborts after which a page goes to the locked move.
-    fn set_retry(&mut self, retry: u32)
-        ensures { self.new ≡ with_item self.old (Item.Retry retry) }
-    {
-        self.place = Place::Retry;
-        self.retry = Some(retry);
     }
 
     /// Sets how turns are picked.
@@ -367,12 +313,24 @@ impl Draft {
         ensures { GivesTold self.new result (ruled self.old item) }
     {
         match item {
-            Item::Version(version) => self.set_version(version),
-            Item::Page(words) => self.set_words(words),
+            Item::Version(version) => {
+                self.place = Place::Version;
+                self.version = version;
+            }
+            Item::Page(words) => {
+                self.place = Place::Page;
+                self.words = words;
+            }
             Item::Tiers(fast, slow) => self.set_tiers(fast, slow)?,
             Item::Node(node) => self.add_node(alloc, node)?,
-            Item::Cpus(cpus) => self.set_cpus(cpus),
-            Item::Retry(retry) => self.set_retry(retry),
+            Item::Cpus(cpus) => {
+                self.place = Place::Cpus;
+                self.cpus = cpus;
+            }
+            Item::Retry(retry) => {
+                self.place = Place::Retry;
+                self.retry = Some(retry);
+            }
             Item::Serial(turns) => self.set_order(Place::Order, Order::Serial(turns)),
             Item::Shuffle(n, turns) => self.set_order(Place::Order, Order::Shuffle(n, turns)),
             Item::Plan(turns) => self.set_order(Place::Plan, Order::Plan(turns)),
@@ -398,10 +356,7 @@ impl Draft {
     pub fn is_whole(&self) -> bool
         ensures { result ≡ is_whole self.now }
     {
-        match self.place {
-            Place::Program => self.programs.len() == self.cpus as usize,
-            _ => false,
-        }
+        self.place == Place::Program && self.programs.len() == self.cpus as usize
     }
 
     /// The script that was told.
@@ -433,10 +388,7 @@ fn make_geometry(
     requires { IsGeometry (made words tiers.now cpus vpages.now) }
     ensures { IfOk result (λ g. g ≡ made words tiers.now cpus vpages.now) }
 {
-    match Geometry::new(alloc, words, tiers, cpus, vpages) {
-        Ok(geometry) => Ok(geometry),
-        Err(_) => Err(AllocError),
-    }
+    Geometry::new(alloc, words, tiers, cpus, vpages).map_err(|_| AllocError)
 }
 
 /// The schedule of this order and these items of a plan.
@@ -457,8 +409,7 @@ fn make_schedule(order: Order, plan: Vec<PlanItem>) -> Schedule
 fn vpage_at(vpages: &[Option<VPage>], v: u32) -> Option<VPage>
     ensures { result ≡ slice_index_or vpages.now v None }
 {
-    let v = v as usize;
-    if v < vpages.len() { vpages[v] } else { None }
+    vpages.get(v as usize).copied().flatten()
 }
 
 /// A virtual page and a word of it.
@@ -494,6 +445,8 @@ fn form_tiers(alloc: Global, nodes: &[Node]) -> Result<Vec<u32>, ReadError>
     requires frames { frames_of nodes.now ≤ MOST_FRAMES }
     ensures ok { IfOk result (λ v. (v.items ≡ tiers_of nodes.now) × (tier_count nodes.now ≤ 4)) }
     ensures fault { IfErr result (AreMany nodes.now) }
+    // Want of memory is no excuse where they form more.
+    ensures many { 4 < tier_count nodes.now → result ≡ Err (ReadError.Fault ScriptFault.TooManyTiers) }
 {
     match tiers_from_nodes(alloc, nodes) {
         Ok(tiers) => Ok(tiers),

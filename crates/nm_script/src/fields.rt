@@ -2,47 +2,13 @@
 
 ghost use Rattle.std.specs.Prelude.{◌≡◌, ◌≤◌, ◌<◌, is_some, codes, IfSome, IfNone, IfOk, Some, None};
 ghost use Rattle.nm_text.specs.Cuts.{strip_of};
-ghost use Rattle.nm_script.specs.Fields.{shuffle_of, right_of, map_of, is_actor, all_kinds, kind_among, go_of, page_word_of};
+ghost use Rattle.nm_script.specs.LineFaults.{page_word_of};
+ghost use Rattle.nm_script.specs.Fields.{shuffle_of, right_of, map_of, is_actor, go_of};
 ghost use Rattle.nm_script.specs.Reading.{number_in, ranged_in, below_in};
 
 use crate::fault::ScriptFault;
-use crate::printing::kind_word;
 use nm_action::ActionKind;
-use nm_text::{cut, is_text, read_number, strip, three_fields};
-
-/// Every kind of action.
-const KINDS: [ActionKind; 30] = [
-    ActionKind::Load,
-    ActionKind::Store,
-    ActionKind::Add,
-    ActionKind::Look,
-    ActionKind::Walk,
-    ActionKind::Peek,
-    ActionKind::Poll,
-    ActionKind::Ack,
-    ActionKind::Lock,
-    ActionKind::Unlock,
-    ActionKind::Bump,
-    ActionKind::SeeAck,
-    ActionKind::Raise,
-    ActionKind::Soften,
-    ActionKind::Arm,
-    ActionKind::ClearDirty,
-    ActionKind::Unmap,
-    ActionKind::Map,
-    ActionKind::Grant,
-    ActionKind::CopyLoad,
-    ActionKind::CopyStore,
-    ActionKind::SetHome,
-    ActionKind::SetShadow,
-    ActionKind::TakeTurn,
-    ActionKind::Scan,
-    ActionKind::GiveFrame,
-    ActionKind::PutFrame,
-    ActionKind::ReleaseTurn,
-    ActionKind::Mark,
-    ActionKind::Read,
-];
+use nm_text::{cut, is_text, read_kind, read_number, strip, three_fields};
 
 /// The number and the turns of a shuffle.
 #[tactic(auto, unfolding(crate::specs::Fields::shuffle_of))]
@@ -88,36 +54,7 @@ pub fn map_fields(line: &[u8]) -> Option<(&[u8], &[u8], bool)>
 fn is_actor(field: &[u8]) -> bool
     ensures { result ≡ is_actor field.now }
 {
-    is_text(field, b"m") || is_text(field, b"r") || begins_with_c(field)
-}
-
-/// Whether the field begins with a `c`.
-fn begins_with_c(field: &[u8]) -> bool
-    ensures { result ≡ is_some (strip_of (codes "c") field.now) }
-{
-    match strip(field, b"c") {
-        None => false,
-        Some(_) => true,
-    }
-}
-
-/// The first of the kinds that a word spells.
-fn kind_among(kinds: &[ActionKind], word: &[u8]) -> Option<ActionKind>
-    ensures { result ≡ kind_among kinds.now word.now }
-{
-    for kind in kinds {
-        if is_text(kind_word(*kind), word) {
-            return Some(*kind);
-        }
-    }
-    None
-}
-
-/// The kind that a word spells.
-fn read_kind(word: &[u8]) -> Option<ActionKind>
-    ensures { result ≡ kind_among all_kinds word.now }
-{
-    kind_among(&KINDS, word)
+    is_text(field, b"m") || is_text(field, b"r") || strip(field, b"c").is_some()
 }
 
 /// The actor, the kind of action and the count of an item of a plan.
@@ -136,7 +73,7 @@ pub fn go_fields(line: &[u8]) -> Option<(&[u8], ActionKind, &[u8])>
 }
 
 /// A field split at its first dot.
-#[tactic(auto, unfolding(crate::specs::Fields::page_word_of))]
+#[tactic(auto, unfolding(crate::specs::LineFaults::page_word_of))]
 pub fn place_fields(field: &[u8]) -> (&[u8], &[u8])
     ensures { page_word_of field.now ≡ (result.0.now, result.1.now) }
 {
@@ -151,10 +88,7 @@ pub fn place_fields(field: &[u8]) -> (&[u8], &[u8])
 pub fn number_in(field: &[u8]) -> Result<u64, ScriptFault>
     ensures { result ≡ number_in field.now }
 {
-    match read_number(field) {
-        None => Err(ScriptFault::BadNumber),
-        Some(number) => Ok(number),
-    }
+    read_number(field).ok_or(ScriptFault::BadNumber)
 }
 
 /// The number from `low` to `high` that the field spells.

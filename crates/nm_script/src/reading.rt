@@ -2,7 +2,8 @@
 
 ghost use Rattle.std.specs.Prelude.{◌≡◌, ◌≤◌, Some, None, IfOk, is_some, codes};
 ghost use Rattle.nm_text.specs.Cuts.{strip_of};
-ghost use Rattle.nm_script.specs.Reading.{header_in, is_page_size, page_in, page_line, tiers_in, tiers_line, node_in, node_line, cpus_in, cpus_line, retry_in, retry_line, serial_in, shuffle_in, plan_in, schedule_line, cpu_after, actor_in, go_in, go_line};
+ghost use Rattle.nm_script.specs.LineFaults.{is_page_size};
+ghost use Rattle.nm_script.specs.Reading.{header_in, page_in, page_line, tiers_in, tiers_line, node_in, node_line, cpus_in, cpus_line, ranged_in, retry_line, serial_in, shuffle_in, plan_in, schedule_line, cpu_after, actor_in, go_in, go_line};
 ghost use Rattle.std.specs.Option.{option_map};
 
 use crate::fault::ScriptFault;
@@ -130,17 +131,8 @@ pub fn cpus_line(tiers: usize, line: &[u8]) -> Read
     Some(cpus_in(tiers, field))
 }
 
-/// The aborts after which a page goes to the locked move.
-#[tactic(auto, unfolding(crate::specs::Reading::retry_in))]
-fn retry_in(field: &[u8]) -> Result<Item, ScriptFault>
-    ensures { result ≡ retry_in field.now }
-{
-    let retry = ranged_in(0, 1000, field)?;
-    Ok(Item::Retry(retry))
-}
-
 /// The line of the retry, which version 2 may have.
-#[tactic(auto, unfolding(crate::specs::Reading::retry_line))]
+#[tactic(auto, unfolding(crate::specs::Reading::retry_line, crate::specs::Reading::retry_in))]
 pub fn retry_line(version: u32, line: &[u8]) -> Read
     ensures { result ≡ retry_line version line.now }
 {
@@ -148,7 +140,7 @@ pub fn retry_line(version: u32, line: &[u8]) -> Read
         return None;
     }
     let field = one_field(line, b"retry ")?;
-    Some(retry_in(field))
+    Some(ranged_in(0, 1000, field).map(Item::Retry))
 }
 
 /// The turns of a serial schedule.
@@ -156,8 +148,7 @@ pub fn retry_line(version: u32, line: &[u8]) -> Read
 fn serial_in(field: &[u8]) -> Result<Item, ScriptFault>
     ensures { result ≡ serial_in field.now }
 {
-    let turns = ranged_in(0, MOST_TURNS, field)?;
-    Ok(Item::Serial(turns))
+    ranged_in(0, MOST_TURNS, field).map(Item::Serial)
 }
 
 /// The number and the turns of a shuffle.
@@ -175,8 +166,7 @@ fn shuffle_in(number: &[u8], turns: &[u8]) -> Result<Item, ScriptFault>
 fn plan_in(field: &[u8]) -> Result<Item, ScriptFault>
     ensures { result ≡ plan_in field.now }
 {
-    let turns = ranged_in(0, MOST_TURNS, field)?;
-    Ok(Item::Plan(turns))
+    ranged_in(0, MOST_TURNS, field).map(Item::Plan)
 }
 
 /// The line of the schedule.

@@ -2,3 +2,4 @@ pub mod NumberLemmas
 pub mod CutLemmas
 pub mod FieldLemmas
 pub mod LineLemmas
+pub mod KindLemmas
