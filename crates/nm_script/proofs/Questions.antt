@@ -20,7 +20,7 @@ use Rattle.nm_script.specs.declared.item.Item.TheVariants as items
 use Rattle.nm_script.specs.LineFaults.{page_word_of}
 use Rattle.nm_script.specs.Told.{Told, with_item}
 use Rattle.nm_script.specs.LineFaults as forms
-use Rattle.nm_script.specs.LineFaults.{Actor, Form, actor_word, Question, is_number, value_of, actor_of, page_at, word_at, item_of, number, ranged, below, located, known, vpage_of, may_write, mapped, writable, tiers_with, questions, IsFirstNo}
+use Rattle.nm_script.specs.LineFaults.{Actor, Form, actor_word, Question, is_number, value_of, actor_of, page_of_place, word_of_place, item_of, number, ranged, below, located, known, vpage_of, may_write, mapped, writable, tiers_with, questions, IsFirstNo}
 use Rattle.nm_script.specs.LineFaults.{is_page_size}
 use Rattle.nm_script.specs.Reading.{◌>>=◌, or_bad, number_in, ranged_in, below_in, page_in, tiers_in, node_in, cpus_in, retry_in, serial_in, shuffle_in, plan_in, cpu_after, actor_in, go_in, map_in, cpu_in, place_in, reached, load_in, store_in, add_in, await_in, ruled}
 use Rattle.nm_script.proofs.Says.{page_size}
@@ -172,7 +172,7 @@ cpu-asks s p = chain (number_in p) _ (number p) ((faults.OutOfRange, value_of p 
 
 -- ---- accesses
 
-place-asks : (s : Told) (place : List ℕ) → place_in s.words place ≡ answered (located s place) (page_at place, word_at place)
+place-asks : (s : Told) (place : List ℕ) → place_in s.words place ≡ answered (located s place) (page_of_place place, word_of_place place)
 unfolding place_in
 place-asks s place =
     let v = (page_word_of place).0 in
@@ -191,19 +191,19 @@ writes-asks (Some p) l = go p.writable
     go true = refl
     go false = refl
 
-load-asks : (s : Told) (place : List ℕ) → load_in s place ≡ answered (questions s (forms.load place)) (items.Access (Load (page_at place) (word_at place)))
+load-asks : (s : Told) (place : List ℕ) → load_in s place ≡ answered (questions s (forms.load place)) (items.Access (Load (page_of_place place) (word_of_place place)))
 unfolding load_in
 load-asks s place = chain (place_in s.words place) _ (located s place) (mapped s place) _ _ (place-asks s place) (reads-asks (vpage_of s (page_word_of place).0) _)
 
-store-asks : (s : Told) (place x : List ℕ) → store_in s (place, x) ≡ answered (questions s (forms.store place x)) (items.Access (Store (page_at place) (word_at place) (value_of x)))
+store-asks : (s : Told) (place x : List ℕ) → store_in s (place, x) ≡ answered (questions s (forms.store place x)) (items.Access (Store (page_of_place place) (word_of_place place) (value_of x)))
 unfolding store_in
 store-asks s place x = chain (place_in s.words place) _ (located s place) (number x ++ writable s place) _ _ (place-asks s place) (chain (number_in x) _ (number x) (writable s place) (value_of x) _ (number-asks x) (writes-asks (vpage_of s (page_word_of place).0) _))
 
-add-asks : (s : Told) (place x : List ℕ) → add_in s (place, x) ≡ answered (questions s (forms.add place x)) (items.Access (Add (page_at place) (word_at place) (value_of x)))
+add-asks : (s : Told) (place x : List ℕ) → add_in s (place, x) ≡ answered (questions s (forms.add place x)) (items.Access (Add (page_of_place place) (word_of_place place) (value_of x)))
 unfolding add_in
 add-asks s place x = chain (place_in s.words place) _ (located s place) (number x ++ writable s place) _ _ (place-asks s place) (chain (number_in x) _ (number x) (writable s place) (value_of x) _ (number-asks x) (writes-asks (vpage_of s (page_word_of place).0) _))
 
-await-asks : (s : Told) (place x n : List ℕ) → await_in s (place, x, n) ≡ answered (questions s (forms.await place x n)) (items.Access (Await (page_at place) (word_at place) (value_of x) (value_of n)))
+await-asks : (s : Told) (place x n : List ℕ) → await_in s (place, x, n) ≡ answered (questions s (forms.await place x n)) (items.Access (Await (page_of_place place) (word_of_place place) (value_of x) (value_of n)))
 unfolding await_in
 await-asks s place x n =
     chain (place_in s.words place) _ (located s place) (number x ++ ranged 1 1000000000 n ++ mapped s place) _ _ (place-asks s place)

@@ -107,11 +107,11 @@ actor_of n reclaimer = n + 1
 actor_of n (processor p) = value_of p
 
 -- the virtual page and the word that V.w spells
-abbrev pub page_at : List ℕ → ℕ
-page_at place = value_of (page_word_of place).0
+abbrev pub page_of_place : List ℕ → ℕ
+page_of_place place = value_of (page_word_of place).0
 
-abbrev pub word_at : List ℕ → ℕ
-word_at place = value_of (page_word_of place).1
+abbrev pub word_of_place : List ℕ → ℕ
+word_of_place place = value_of (page_word_of place).1
 
 -- what a line of the form says among this many processors, by the values of its fields
 abbrev pub item_of : ℕ → Form → Item
@@ -126,10 +126,10 @@ item_of p (plan t) = items.Plan (value_of t)
 item_of p (go a kind n) = items.Go (record { actor = actor_of p a; kind = kind; count = value_of n })
 item_of p (map v b right) = items.Map (value_of v) (record { page = value_of b; writable = right })
 item_of p (cpu n) = items.Cpu (value_of n)
-item_of p (load place) = items.Access (Load (page_at place) (word_at place))
-item_of p (store place x) = items.Access (Store (page_at place) (word_at place) (value_of x))
-item_of p (add place x) = items.Access (Add (page_at place) (word_at place) (value_of x))
-item_of p (await place x n) = items.Access (Await (page_at place) (word_at place) (value_of x) (value_of n))
+item_of p (load place) = items.Access (Load (page_of_place place) (word_of_place place))
+item_of p (store place x) = items.Access (Store (page_of_place place) (word_of_place place) (value_of x))
+item_of p (add place x) = items.Access (Add (page_of_place place) (word_of_place place) (value_of x))
+item_of p (await place x n) = items.Access (Await (page_of_place place) (word_of_place place) (value_of x) (value_of n))
 
 -- ---- where a line may stand
 
