@@ -6,7 +6,7 @@ use Rattle.nm_script.specs.declared.fault.ScriptFault.{ScriptFault}
 use Rattle.nm_script.specs.declared.fault.ScriptRefusal.{ScriptRefusal}
 use Rattle.nm_script.specs.declared.fault.ScriptRefusal.TheVariants as refusals
 use Rattle.nm_script.specs.Plain as plain
-use Rattle.nm_script.specs.Reading.{Reads, Refuses}
+use Rattle.nm_script.specs.Reading.{GivesReading, Refuses}
 use Rattle.nm_script.specs.Faults as script_faults
 use Rattle.nm_script.specs.Faults.{IsFirstFault}
 use Rattle.nm_top.specs.Answer.{Answers, IsAccepted, IsOrMemory, IsRefusal, IsUnserved, status_of, TakesAll}
@@ -27,7 +27,7 @@ abbrev script_in : plain.Script → Result plain.Script (ScriptFault × ℕ) →
 script_in s (Ok t) = t
 script_in s (Err p) = s
 
-pub same_script : (s t : plain.Script) → Reads (Ok s) (Ok t) → t ≡ s
+pub same_script : (s t : plain.Script) → GivesReading (Ok s) (Ok t) → t ≡ s
 same_script s t e = ap (script_in s) e
 
 abbrev read_status : Result plain.Script (ScriptFault × ℕ) → Status
@@ -43,7 +43,7 @@ pub refused_none : (e : ScriptRefusal) (s : plain.Script) → Refuses e (Ok s) �
 refused_none refusals.Memory s h = refl
 refused_none (refusals.At g k) s h = absurd (ok-err (Ok s) s (g, k) refl h)
 
-pub refused_cause : (e : ScriptRefusal) (bytes : List ℕ) → script_faults.IsRefusal bytes e → IsRefusal bytes (status_of e)
+pub refused_cause : (e : ScriptRefusal) (bytes : List ℕ) → script_faults.IsTextRefusal bytes e → IsRefusal bytes (status_of e)
 refused_cause refusals.Memory bytes h = tt
 refused_cause (refusals.At g k) bytes h = h
 
