@@ -3,7 +3,7 @@ use Rattle.std.proofs.Common.{◌≡◌, get_or, ap, rules, ◌∙◌}
 use Rattle.nm_report.proofs.Pieces.{AllFit-made}
 use Rattle.nm_top.specs.Output.{first_program}
 use Rattle.nm_top.proofs.Runs.{first-found}
-use Rattle.nm_top.proofs.call.script_output.Goals as goal
+use Rattle.nm_top.proofs.sim.script_output.Goals as goal
 
 pub print_cpu-requires : goal.print_cpu-requires
 print_cpu-requires c =
