@@ -2,7 +2,7 @@
 
 ghost use Rattle.std.specs.Prelude.{◌≡◌, ℕ, ◌+◌, ◌*◌, ◌<◌, ◌≤◌, ◌^◌, IsTrue, IsSome, IfOk, length, replicate, slice_index, slice_set};
 ghost use Rattle.nm_base.specs.Geometry.{IsWritable, backing_page, vpage_at, page_count};
-ghost use Rattle.nm_flat.specs.Memory.{page_of, place, word_count};
+ghost use Rattle.nm_flat.specs.Memory.{mapped_page, place, flat_size};
 
 use nm_base::{Geometry, PageWord, VPage};
 use std::alloc::{AllocError, Global};
@@ -34,7 +34,7 @@ impl<'a> Still<'a> {
     /// where there is no memory for it.
     pub fn start(alloc: Global, g: &'a Geometry) -> Result<Still<'a>, AllocError>
         ensures geometry { IfOk result (λ s. s.geometry ≡ g.now) }
-        ensures words { IfOk result (λ s. s.words ≡ replicate (word_count g.now) 0) }
+        ensures words { IfOk result (λ s. s.words ≡ replicate (flat_size g.now) 0) }
     {
         let machine = Machine::new(alloc, g)?;
         Ok(Still { machine })
@@ -83,7 +83,7 @@ impl<'a> Machine<'a> {
     fn new(alloc: Global, g: &'a Geometry) -> Result<Machine<'a>, AllocError>
         ensures sound { IfOk result (λ m. IsSound (parts_of m)) }
         ensures geometry { IfOk result (λ m. m.geometry.now ≡ g.now) }
-        ensures words { IfOk result (λ m. words_of (parts_of m) ≡ replicate (word_count g.now) 0) }
+        ensures words { IfOk result (λ m. words_of (parts_of m) ≡ replicate (flat_size g.now) 0) }
     {
         Ok(Machine {
             geometry: g,
@@ -129,7 +129,7 @@ impl<'a> Machine<'a> {
         ensures sound { IsSound (parts_of self.new) }
         ensures geometry { self.new.geometry.now ≡ self.old.geometry.now }
         ensures same { words_of (parts_of self.new) ≡ words_of (parts_of self.old) }
-        ensures place { IsPlaceOf (parts_of self.new) (page_of self.old.geometry.now v) w result }
+        ensures place { IsPlaceOf (parts_of self.new) (mapped_page self.old.geometry.now v) w result }
     {
         let frame = self.mapped_frame(v);
         let g = self.geometry;
@@ -143,7 +143,7 @@ impl<'a> Machine<'a> {
         ensures sound { IsSound (parts_of self.new) }
         ensures geometry { self.new.geometry.now ≡ self.old.geometry.now }
         ensures same { words_of (parts_of self.new) ≡ words_of (parts_of self.old) }
-        ensures home { slice_index self.new.homes.items (page_of self.old.geometry.now v) ≡ result + 1 }
+        ensures home { slice_index self.new.homes.items (mapped_page self.old.geometry.now v) ≡ result + 1 }
     {
         if let Some(PageWord::Present { frame, .. }) = PageWord::of_word(self.table[v as usize]) {
             return frame;

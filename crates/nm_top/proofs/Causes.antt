@@ -240,7 +240,7 @@ pub IsSimCall-script : {S K : Type 0} (m : SourceTells S) (k : SinkTells K) (old
     → IsReading m old new (Ok s) → IsScriptCall k s sink sink' status → IsSimCall m k old new sink sink' status
 IsSimCall-script m k old new sink sink' s status read call =
     IsSimCall-from m k old new sink sink' status (script_cause m k old new sink sink' s status read.cause call)
-      (λ none. answers_along (m.left old) _ _ (script_answers k s sink sink' status call) (read.answers none))
+    (λ none. answers_along (m.left old) _ _ (script_answers k s sink sink' status call) (read.answers none))
 
 unread_sim : {S K : Type 0} (m : SourceTells S) (k : SinkTells K) (old new : S) (sink : K) (status : Status) → ReadCause m old new (Err status)
     → SimCause m k old new sink sink status
@@ -257,4 +257,4 @@ pub IsSimCall-refused : {S K : Type 0} (m : SourceTells S) (k : SinkTells K) (ol
     → IsReading m old new (Err status) → IsSimCall m k old new sink sink status
 IsSimCall-refused m k old new sink status read =
     IsSimCall-from m k old new sink sink status (unread_sim m k old new sink status read.cause)
-      (λ none. answers_along (m.left old) _ _ (refused_answers status) (read.answers none))
+    (λ none. answers_along (m.left old) _ _ (refused_answers status) (read.answers none))

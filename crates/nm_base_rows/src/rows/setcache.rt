@@ -1,5 +1,5 @@
 //! Worked values of the set-associative cache, and both caches through the trait.
-use crate::SetCache;
+use nm_setcache::SetCache;
 use nm_xlat::{Translations, XlatCache};
 use std::alloc::{AllocError, Global};
 use std::test::Fail;

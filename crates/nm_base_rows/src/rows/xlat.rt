@@ -1,5 +1,5 @@
 //! Worked values of the fully associative cache.
-use crate::{Translations, XlatCache};
+use nm_xlat::{Translations, XlatCache};
 use std::test::Fail;
 
 // The entries of a table are put by the trait's `put` alone.
