@@ -34,49 +34,34 @@ fn reads_not_after_the_end(rt: HostRuntime) -> Result<(), Fail> {
     Ok(())
 }
 
-/// A write of `TEXT` to a sink with this room, in these pieces, where this call fails: how many bytes it then holds.
-struct Written {
-    room: usize,
-    piece: u32,
-    call: u64,
-    held: usize,
-}
-
-const fn written(room: usize, piece: u32, call: u64, held: usize) -> Written {
-    Written {
-        room,
-        piece,
-        call,
-        held,
-    }
-}
-
-const WRITES: [Written; 10] = [
-    written(37, 16, 1, 0),
-    written(37, 16, 3, 32),
-    written(37, 16, 4, 37),
-    written(37, 1, 1, 0),
-    written(37, 1, 20, 19),
-    written(37, 1, 37, 36),
-    written(37, 1, 38, 37),
-    written(20, 16, 9, 20),
-    written(0, 16, 9, 0),
-    written(1_000, 1_000, 9, 37),
+/// Writes of `TEXT`: the room of the sink, its pieces, the call that fails, and how many bytes are held then.
+const WRITES: [(usize, u32, u64, usize); 10] = [
+    (37, 16, 1, 0),
+    (37, 16, 3, 32),
+    (37, 16, 4, 37),
+    (37, 1, 1, 0),
+    (37, 1, 20, 19),
+    (37, 1, 37, 36),
+    (37, 1, 38, 37),
+    (20, 16, 9, 20),
+    (0, 16, 9, 0),
+    (1_000, 1_000, 9, 37),
 ];
 
 #[test]
 fn writes_up_to_the_failing_call(rt: HostRuntime) -> Result<(), Fail> {
-    for row in &WRITES {
-        assert!(rt; row.piece >= 1);
-        let mut sink = MemSink::new(rt.alloc(), row.room, row.piece, &[row.call])?;
+    for (room, piece, call, held) in WRITES {
+        assert!(rt; piece >= 1);
+        let mut sink = MemSink::new(rt.alloc(), room, piece, &[call])?;
         let answer = write_all(&mut sink, TEXT);
-        assert_eq!(rt; answer == Ok(()), row.held == 37);
-        assert_eq!(rt; sink.bytes().len(), row.held);
+        assert_eq!(rt; answer == Ok(()), held == 37);
+        assert_eq!(rt; sink.bytes().len(), held);
         assert!(rt; TEXT.starts_with(sink.bytes()));
     }
-    assert_eq!(rt;
-        write_all(&mut MemSink::new(rt.alloc(), 0, 1, &[1])?, b""),
-        Ok(())
+    let mut full = MemSink::new(rt.alloc(), 0, 1, &[2])?;
+    assert_eq!(rt; write_all(&mut full, b""), Ok(()));
+    assert_eq!(rt; write_all(&mut full, b"x"), Err(WriteFault));
+    Ok(())
     );
     assert_eq!(rt;
         write_all(&mut MemSink::new(rt.alloc(), 0, 1, &[])?, b"x"),

@@ -91,7 +91,7 @@ fn writes_a_writer(rt: HostRuntime) -> Result<(), Fail> {
     let mut out = Vec::new(rt.alloc());
     let mut sink = StdSink::new(&mut out);
     assert_eq!(rt; write_all(&mut sink, b"cpu 0\n"), Ok(()));
-    assert!(rt; out.as_slice() == b"cpu 0\n");
+    assert!(rt; out.as_slice() == b"cpu 0\n".as_slice());
 
     for takes_nothing in [false, true] {
         let mut sink = StdSink::new(FailsOnce::at(2, takes_nothing));
