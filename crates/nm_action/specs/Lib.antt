@@ -1,3 +1,4 @@
 pub mod Kinds
+pub mod Own
 pub mod Spent
 pub mod Tally

@@ -7,7 +7,8 @@ use Rattle.nm_action.specs.declared.turn.Step.{Step}
 use Rattle.nm_action.specs.declared.turn.Step.TheVariants.{Do}
 use Rattle.nm_view.specs.Views.{View}
 use Rattle.nm_event.specs.Fitting.{Fits}
-use Rattle.nm_part.specs.Own.{Own, view_after}
+use Rattle.nm_action.specs.Own.{Own}
+use Rattle.nm_event.specs.After.{view_after}
 use Rattle.nm_part.specs.Parts.{IsAsked, IsStep}
 use Rattle.nm_part.proofs.OwnLemmas.{view-push}
 use Rattle.nm_actor.specs.Chairs.{ChairState, stepped}

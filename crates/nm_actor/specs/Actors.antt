@@ -11,7 +11,8 @@ use Rattle.nm_view.specs.Views.{View}
 use Rattle.nm_view.specs.Opening.{opening}
 use Rattle.nm_permit.specs.Permitted.{Allowed}
 use Rattle.nm_event.specs.Fitting.{Fits}
-use Rattle.nm_part.specs.Own.{Own, view_after}
+use Rattle.nm_action.specs.Own.{Own}
+use Rattle.nm_event.specs.After.{view_after}
 use Rattle.nm_actor.specs.Lanes.{LaneMove, put, took}
 
 -- what an actor did: its own list, and a list for each lane of the pages that it put and took

@@ -6,7 +6,7 @@ use Rattle.nm_action.specs.declared.action.Reply.TheVariants.{Word}
 use Rattle.nm_action.specs.declared.turn.Turn.{Turn}
 use Rattle.nm_action.specs.declared.turn.Turn.TheVariants.{Do, End}
 use Rattle.nm_view.specs.Opening.{opening}
-use Rattle.nm_part.specs.Own.{Own}
+use Rattle.nm_action.specs.Own.{Own}
 use Rattle.nm_actor.specs.Lanes.{LaneState, Held}
 use Rattle.nm_actor.specs.Chairs.{ChairState}
 use Rattle.nm_actor.specs.Boards.{BoardState, Stood}

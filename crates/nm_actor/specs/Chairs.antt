@@ -7,7 +7,7 @@ use Rattle.nm_action.specs.declared.turn.Lane.{Lane}
 use Rattle.nm_action.specs.declared.turn.Lane.TheVariants.{Candidates, Pending}
 use Rattle.nm_view.specs.Views.{View}
 use Rattle.nm_event.specs.After.{after_of}
-use Rattle.nm_part.specs.Own.{Own}
+use Rattle.nm_action.specs.Own.{Own}
 use Rattle.nm_actor.specs.Lanes.{LaneState}
 
 -- the geometry, the actor, its own list and its view; its two lanes; and the name of the board

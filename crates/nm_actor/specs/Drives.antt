@@ -4,7 +4,8 @@ use Rattle.nm_base.specs.Geometry.{Geometry}
 use Rattle.nm_action.specs.declared.action.Action.{Action}
 use Rattle.nm_action.specs.declared.turn.Step.{Step}
 use Rattle.nm_view.specs.Views.{View}
-use Rattle.nm_part.specs.Own.{Own, view_after}
+use Rattle.nm_action.specs.Own.{Own}
+use Rattle.nm_event.specs.After.{view_after}
 use Rattle.nm_part.specs.Parts.{IsStep}
 use Rattle.nm_actor.specs.Chairs.{ChairState}
 

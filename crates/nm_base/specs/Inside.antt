@@ -8,7 +8,7 @@ abbrev pub plain_of : Inside → Geometry
 plain_of g = record { words = g.words; tiers = g.tiers.items; cpus = g.cpus; vpages = g.vpages.items }
 
 -- a machine can have it, and its two counts are kept beside it
-pub record IsSound (g : Inside) : Type 0 where
+pub record IsGeometryKept (g : Inside) : Type 0 where
   pub geometry : IsGeometry (plain_of g)
   pub pages : g.pages ≡ page_count (plain_of g)
   pub frames : g.frames ≡ frame_count (plain_of g)

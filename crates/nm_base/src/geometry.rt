@@ -64,11 +64,11 @@ impl Model for Geometry {
 
     ghost Value = { plain.Geometry };
 
-    ghost use Rattle.nm_base.specs.Inside.{plain_of, IsSound};
+    ghost use Rattle.nm_base.specs.Inside.{plain_of, IsGeometryKept};
 
     ghost view = { plain_of };
 
-    ghost invariant = { IsSound };
+    ghost invariant = { IsGeometryKept };
 }
 
 /// A tier has fewer frames than this, and all tiers have at most this many.

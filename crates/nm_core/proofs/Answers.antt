@@ -8,7 +8,7 @@ use Rattle.nm_action.specs.declared.action.Reply.{Reply}
 use Rattle.nm_action.specs.declared.action.Reply.TheVariants.{Done, Busy, Lost}
 use Rattle.nm_action.specs.declared.action.Action.{Action}
 use Rattle.nm_action.specs.declared.action.Action.TheVariants.{Load, Store, Add, Look, Walk, Peek, Poll, Ack, Lock, Unlock, Bump, SeeAck, Raise, Soften, Arm, ClearDirty, Unmap, Map, Grant, CopyLoad, CopyStore, SetHome, SetShadow, TakeTurn, Scan, GiveFrame, PutFrame, ReleaseTurn, Mark, Read}
-use Rattle.nm_view.specs.Ranges.{IsFrame, IsWord}
+use Rattle.nm_base.specs.Ranges.{IsFrame, IsWord}
 use Rattle.nm_view.specs.Views.{View}
 use Rattle.nm_event.specs.Fitting.{IsReplyOf, most_bumps, most_raises}
 use Rattle.nm_shape.specs.Ranged.{IsInRangeReply, IsNarrowWalk}

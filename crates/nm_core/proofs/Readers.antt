@@ -1,6 +1,6 @@
 -- What readers of a state rest on.
 use Rattle.std.proofs.Common.{◌≡◌, ℕ, ◌≤◌, get_or, sym, subst, arith}
-use Rattle.nm_view.specs.Ranges.{IsPage, IsFrame}
+use Rattle.nm_base.specs.Ranges.{IsPage, IsFrame}
 use Rattle.nm_words.specs.declared.names.Where.TheVariants.{Home}
 use Rattle.nm_words.specs.Names.{IsPlace}
 use Rattle.nm_step.specs.Table.{free_word_of}

@@ -7,7 +7,7 @@ use Rattle.std.proofs.lemmas.List.FromFn.{length-map-range_with_len, get_or-map-
 use Rattle.std.proofs.lemmas.List.Sums.{sum_by-cons}
 use Rattle.nm_base.specs.Geometry.{Geometry, IsGeometry}
 use Rattle.nm_view.specs.declared.view.CacheEntry.{CacheEntry}
-use Rattle.nm_view.specs.Ranges.{IsFrame}
+use Rattle.nm_base.specs.Ranges.{IsFrame}
 use Rattle.nm_view.specs.Views.{View}
 use Rattle.nm_view.specs.Opening.{opening, IsActor}
 use Rattle.nm_shape.proofs.Laws.{keyed_opening}

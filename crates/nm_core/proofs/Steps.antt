@@ -6,7 +6,7 @@ use Rattle.std.proofs.lemmas.List.Sums.{sum_by-set, sum_by-le}
 use Rattle.nm_base.specs.Geometry.{Geometry, IsGeometry, frame_count}
 use Rattle.nm_action.specs.declared.action.Action.{Action}
 use Rattle.nm_action.specs.declared.action.Reply.{Reply}
-use Rattle.nm_view.specs.Ranges.{IsWord}
+use Rattle.nm_base.specs.Ranges.{IsWord}
 use Rattle.nm_view.specs.Views.{View}
 use Rattle.nm_view.specs.Opening.{opening}
 use Rattle.nm_event.specs.After.{after_of}

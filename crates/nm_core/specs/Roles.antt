@@ -5,9 +5,11 @@ use Rattle.std.specs.Int.{bit_at}
 use Rattle.nm_base.specs.Geometry.{Geometry, frame_count}
 use Rattle.nm_view.specs.Lists.{find}
 use Rattle.nm_view.specs.Views.{View, end_word}
-use Rattle.nm_view.specs.Operations.{owned_frame, shadow_of}
+use Rattle.nm_base.specs.ShadowWord.{shadow_frame}
+use Rattle.nm_view.specs.Operations.{owned_frame}
 use Rattle.nm_words.specs.Words.{word_at}
-use Rattle.nm_step.specs.Table.{free_word_of, free_bit}
+use Rattle.nm_base.specs.FreeWords.{free_bit}
+use Rattle.nm_step.specs.Table.{free_word_of}
 use Rattle.nm_core.specs.declared.ends.Role.{Role}
 use Rattle.nm_core.specs.declared.ends.Role.TheVariants.{Free, Mapped, Shadow, Held}
 use Rattle.nm_core.specs.State.{State}
@@ -22,7 +24,7 @@ is_mapped s f = list_any (λ home. home == f + 1) s.words.home
 
 -- a shadow word names the frame as shadow
 abbrev pub names_shadow : ℕ → ℕ → Bool
-names_shadow f word = not (word == 0) && (shadow_of word == f)
+names_shadow f word = not (word == 0) && (shadow_frame word == f)
 
 -- some shadow word names the frame as shadow
 abbrev pub is_shadow : State → ℕ → Bool

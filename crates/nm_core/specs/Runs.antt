@@ -42,15 +42,6 @@ state_after g events = state_from (start g) events
 abbrev pub IsRun : Geometry → List Event → Type 0
 IsRun g events = IsRunFrom (start g) events
 
--- the own list of an actor: its events, in their order
-abbrev pub own_list : ℕ → List Event → List Event
-own_list actor events = filter (λ e. e.actor == actor) events
-
--- a list is a merge of given lists, one for each actor by its number: the own list of each actor is the one given, and
--- there are no other events
-abbrev pub IsMerge : List (List Event) → List Event → Type 0
-IsMerge lists events = (actor : ℕ) → own_list actor events ≡ slice_index_or lists actor []
-
 -- the access that an action with its reply is, if it is one
 abbrev pub access_by : ℕ → Action → Reply → Option Access
 access_by cpu (Load v i) (Word x) = Some (record { cpu = cpu; vpage = v; word = i; kind = kinds.Load x })

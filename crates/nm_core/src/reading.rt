@@ -3,7 +3,7 @@
 ghost use Rattle.std.specs.Prelude.{◌≡◌, ◌+◌, ◌<◌, ◌≤◌, ◌^◌, ◌↔◌, ◌==◌, ℕ, IsTrue, All, map, slice_index, [], length};
 ghost use Rattle.std.specs.List.{range_with_len, list_any};
 ghost use Rattle.nm_base.specs.Geometry.{page_count, frame_count};
-ghost use Rattle.nm_view.specs.Ranges.{IsPage, IsFrame};
+ghost use Rattle.nm_base.specs.Ranges.{IsPage, IsFrame};
 ghost use Rattle.nm_view.specs.Views.{View, end_word};
 ghost use Rattle.nm_view.specs.Opening.{IsActor};
 ghost use Rattle.nm_core.specs.State.{view_of};

@@ -4,7 +4,7 @@ ghost use Rattle.std.specs.Prelude.{◌≡◌, ℕ, ◌<◌, ◌↔◌, IfOk, ma
 ghost use Rattle.std.specs.List.{range_with_len};
 ghost use Rattle.nm_base.specs.Geometry.{IsGeometry};
 ghost use Rattle.nm_view.specs.Opening.{opening, IsActor};
-ghost use Rattle.nm_view.specs.Ranges.{IsWord};
+ghost use Rattle.nm_base.specs.Ranges.{IsWord};
 ghost use Rattle.nm_event.specs.After.{after_of};
 ghost use Rattle.nm_permit.specs.Permitted.{Allowed};
 ghost use Rattle.nm_shape.specs.Keyed.{IsKeyed};

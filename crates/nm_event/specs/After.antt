@@ -16,6 +16,7 @@ use Rattle.nm_action.specs.declared.action.AckTo.{AckTo}
 use Rattle.nm_action.specs.declared.action.AckTo.TheVariants.{Seen, Off, End}
 use Rattle.nm_action.specs.declared.action.Cell.{Cell}
 use Rattle.nm_action.specs.declared.action.Cell.TheVariants.{Home, Shadow}
+use Rattle.nm_action.specs.Own.{Own}
 use Rattle.nm_action.specs.declared.action.Reply.{Reply}
 use Rattle.nm_action.specs.declared.action.Reply.TheVariants.{Done, Word}
 use Rattle.nm_action.specs.declared.action.Action.{Action}
@@ -23,7 +24,8 @@ use Rattle.nm_action.specs.declared.action.Action.TheVariants.{Look, Walk, Peek,
 use Rattle.nm_view.specs.Lists.{find, edit, erase, put, first, itself}
 use Rattle.nm_view.specs.Views.{Op, View, off_word, end_word}
 use Rattle.nm_view.specs.Opening.{opened, unscanned}
-use Rattle.nm_view.specs.Operations.{page_of, cached_page, peeked_page, owned_frame, op_on, shadow_word, shadow_of, is_flush_ended}
+use Rattle.nm_base.specs.ShadowWord.{shadow_word, shadow_frame}
+use Rattle.nm_view.specs.Operations.{page_of, cached_page, peeked_page, owned_frame, op_on, known_home, is_flush_ended}
 
 -- Translations.
 
@@ -68,12 +70,12 @@ kept_entries view End = []
 
 -- Operations.
 
--- the operations with the one on this page changed, if there is such a page
+-- the operations with the one on this page op_changed, if there is such a page
 abbrev pub edit_under : Option ℕ → (Op → Op) → List Op → List Op
 edit_under None f ops = ops
 edit_under (Some page) f ops = edit page_of page f ops
 
--- the operations with the one on the backing page of v changed
+-- the operations with the one on the backing page of v op_changed
 abbrev pub edit_of : Geometry → ℕ → (Op → Op) → List Op → List Op
 edit_of g v f ops = edit_under (backing_page g v) f ops
 
@@ -212,11 +214,6 @@ abbrev pub let_go : ℕ → Option ℕ → List Owned → List Owned
 let_go page None owned = owned
 let_go page (Some home) owned = if home == 0 then owned else owning (home - 1) (Equal page) owned
 
--- the home word that an operation knows
-abbrev pub known_home : Option Op → Option ℕ
-known_home None = None
-known_home (Some o) = o.home
-
 abbrev pub is_taken_phase : Phase → Bool
 is_taken_phase Held = false
 is_taken_phase Cleared = false
@@ -234,7 +231,7 @@ unshaded_fill false page = Raw
 -- the frames after the shadow of this shadow word is taken away
 abbrev pub unshading : Fill → Option ℕ → List Owned → List Owned
 unshading fill None owned = owned
-unshading fill (Some word) owned = owning (shadow_of word) fill owned
+unshading fill (Some word) owned = owning (shadow_frame word) fill owned
 
 -- the frames after the known shadow of the operation on a page is taken away
 abbrev pub unshaded : Geometry → ℕ → Option Op → List Owned → List Owned
@@ -299,3 +296,8 @@ after_of g view (PutFrame f) (Word _) = record view { owned = erase owned_frame 
 after_of g view (ReleaseTurn _) Done = record view { turn = None; scan = unscanned }
 after_of g view (Read b cell) (Word n) = record view { ops = edit page_of b (read_cell cell n) view.ops }
 after_of g view _ _ = view
+
+-- the view after these actions were answered so
+abbrev pub view_after : Geometry → View → Own → View
+view_after g view [] = view
+view_after g view (p ∷ ps) = view_after g (after_of g view p.0 p.1) ps

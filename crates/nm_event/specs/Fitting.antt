@@ -11,8 +11,9 @@ use Rattle.nm_action.specs.declared.action.Action.{Action}
 use Rattle.nm_action.specs.declared.action.Action.TheVariants.{Load, Store, Add, Look, Walk, Peek, Poll, Ack, Lock, Unlock, Bump, SeeAck, Raise, Soften, Arm, ClearDirty, Unmap, Map, Grant, CopyLoad, CopyStore, SetHome, SetShadow, TakeTurn, Scan, GiveFrame, PutFrame, ReleaseTurn, Mark, Read}
 use Rattle.nm_view.specs.Lists.{find, first}
 use Rattle.nm_view.specs.Views.{Op, View}
-use Rattle.nm_view.specs.Operations.{op_on, op_of, owned_frame, IsTaken, shadow_word, shadow_of}
-use Rattle.nm_view.specs.Ranges.{IsFrame, IsWord}
+use Rattle.nm_base.specs.ShadowWord.{shadow_word, shadow_frame}
+use Rattle.nm_view.specs.Operations.{op_on, op_of, owned_frame, IsTaken}
+use Rattle.nm_base.specs.Ranges.{IsFrame, IsWord}
 
 -- Kinds of reply.
 
@@ -142,7 +143,7 @@ pub record IsHomeRead (g : Geometry) (view : View) (word : ℕ) (o : Op) : Type 
 pub record IsShadowRead (g : Geometry) (view : View) (master word : ℕ) (o : Op) : Type 0 where
   pub known : IfSome o.shadow (λ s. word ≡ s)
   pub news : o.shadow ≡ None → IsNewsOfShadow g o.page master word
-  pub free : word ≢ 0 → IsNotOwned view (shadow_of word)
+  pub free : word ≢ 0 → IsNotOwned view (shadow_frame word)
 
 abbrev pub IsReadOf : Geometry → View → Cell → ℕ → Op → Type 0
 IsReadOf g view (Home _) word o = IsHomeRead g view word o

@@ -7,8 +7,8 @@ use Rattle.nm_action.specs.declared.action.Reply.TheVariants.{Done, Word}
 use Rattle.nm_action.specs.declared.action.Action.{Action}
 use Rattle.nm_action.specs.declared.action.Action.TheVariants.{Walk, Bump, Raise, SetHome, Scan}
 use Rattle.nm_view.specs.Views.{Op, View}
-use Rattle.nm_view.specs.Operations.{op_on}
-use Rattle.nm_event.specs.After.{after_of, known_home}
+use Rattle.nm_view.specs.Operations.{op_on, known_home}
+use Rattle.nm_event.specs.After.{after_of}
 
 -- the lists of an operation are within its room, which is the view's, and its numbers fit their fields
 pub record IsOpWithin (vpages : ℕ) (o : Op) : Type 0 where

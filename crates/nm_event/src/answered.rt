@@ -3,10 +3,12 @@
 ghost use Rattle.std.specs.Prelude.{◌≡◌, ◌+◌, ◌*◌, ◌<◌, ◌≤◌, ◌^◌, Some, IfSome, count_ones, length, option_map};
 ghost use Rattle.nm_base.specs.Geometry.{first_frame};
 ghost use Rattle.nm_base.specs.PageWord.{frame_of};
-ghost use Rattle.nm_view.specs.Operations.{op_on, shadow_of, free_words};
-ghost use Rattle.nm_view.specs.Ranges.{IsTier};
+ghost use Rattle.nm_base.specs.FreeWords.{free_words};
+ghost use Rattle.nm_base.specs.ShadowWord.{shadow_frame};
+ghost use Rattle.nm_view.specs.Operations.{op_on, known_home};
+ghost use Rattle.nm_base.specs.Ranges.{IsTier};
 ghost use Rattle.nm_permit.specs.Permitted.{Allowed};
-ghost use Rattle.nm_event.specs.After.{after_of, walked, known_home, let_go, unshaded, unshaded_fill, is_quiet};
+ghost use Rattle.nm_event.specs.After.{after_of, walked, let_go, unshaded, unshaded_fill, is_quiet};
 ghost use Rattle.nm_event.specs.Fitting.{IsReplyOf};
 ghost use Rattle.nm_event.specs.Room.{HasRoom, NumbersFit};
 
@@ -156,8 +158,8 @@ fn after_set_home(_g: &Geometry, view: &mut ActorView, page: u32, frame: u32)
 }
 
 /// The shadow that a shadow word names.
-fn shadow_of(word: u64) -> u32
-    ensures { result ≡ shadow_of word }
+fn shadow_frame(word: u64) -> u32
+    ensures { result ≡ shadow_frame word }
 {
     ((word % (1 << 32)) as u32).saturating_sub(1)
 }
@@ -170,7 +172,7 @@ fn unshade(g: &Geometry, view: &mut ActorView, page: u32)
     let Some((fill, Some(word))) = unshaded_as(g, view, page) else {
         return;
     };
-    own(view, shadow_of(word), fill);
+    own(view, shadow_frame(word), fill);
 }
 
 /// The fill that the shadow of a page gets where it is taken away, and the shadow word that is known.

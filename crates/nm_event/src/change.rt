@@ -3,8 +3,8 @@
 ghost use Rattle.std.specs.Prelude.{◌≡◌, ◌<◌, ◌≤◌, ◌^◌, map};
 ghost use Rattle.nm_view.specs.Views.{Op};
 ghost use Rattle.nm_event.specs.After.{looked_at, read_cell, cleared_at, taken_at, raised_to, loaded, copied_one, homed_at, shaded, mapped_at, granted_at, granted_word, bumped_to, seen_at};
-ghost use Rattle.nm_view.specs.Operations.{shadow_word};
-ghost use Rattle.nm_event.specs.Changes.{changed};
+ghost use Rattle.nm_base.specs.ShadowWord.{shadow_word};
+ghost use Rattle.nm_event.specs.Changes.{op_changed};
 ghost use Rattle.nm_event.specs.Room.{IsOpWithin};
 
 use nm_action::Cell;
@@ -164,8 +164,8 @@ fn grant_at(op: &mut OpenOp, vpage: u32, word: u64)
 
 /// Makes a change of an operation.
 pub(crate) fn make_change(op: &mut OpenOp, change: OpChange)
-    requires { IsOpWithin op.old.room (changed change op.old) }
-    ensures { op.new ≡ changed change op.old }
+    requires { IsOpWithin op.old.room (op_changed change op.old) }
+    ensures { op.new ≡ op_changed change op.old }
 {
     match change {
         OpChange::LookedAt(vpage, word) => look_at(op, vpage, word),

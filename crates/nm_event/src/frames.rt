@@ -6,7 +6,7 @@ ghost use Rattle.nm_view.specs.Lists.{find, edit, erase, put};
 ghost use Rattle.nm_view.specs.Views.{Op, View, most_ops};
 ghost use Rattle.nm_view.specs.Operations.{page_of, owned_frame, peeked_page, is_flush_ended};
 ghost use Rattle.nm_event.specs.After.{edit_of, owning, filled, spoiled, spoiled_frame, spoiled_fill, spoiled_under, is_fresh_at, is_confirmed, stale, is_quiet, scanned_word, least_with, least_bit};
-ghost use Rattle.nm_event.specs.Changes.{changed};
+ghost use Rattle.nm_event.specs.Changes.{op_changed};
 ghost use Rattle.nm_event.specs.Room.{IsOpWithin};
 ghost use Rattle.nm_base.specs.Geometry.{backing_page};
 
@@ -18,8 +18,8 @@ use nm_view::{ActorView, CacheEntry, Fill, OpenOp, Owned, Peeked, Phase, Scanned
 
 /// Changes the operation on a page, among operations.
 fn change_in(ops: &mut [OpenOp], page: u32, change: OpChange)
-    requires { (o : Op) → find page_of page ops.old ≡ Some o → IsOpWithin o.room (changed change o) }
-    ensures { ops.new ≡ edit page_of page (changed change) ops.old }
+    requires { (o : Op) → find page_of page ops.old ≡ Some o → IsOpWithin o.room (op_changed change o) }
+    ensures { ops.new ≡ edit page_of page (op_changed change) ops.old }
 {
     if let Some(i) = place(ops, page) {
         make_change(&mut ops[i], change);
@@ -29,8 +29,8 @@ fn change_in(ops: &mut [OpenOp], page: u32, change: OpChange)
 /// Changes the operation on a page.
 pub(crate) fn change_op(view: &mut ActorView, page: u32, change: OpChange)
     requires before { All (IsOpWithin view.old.room.aliases) view.old.ops }
-    requires after { All (IsOpWithin view.old.room.aliases) (edit page_of page (changed change) view.old.ops) }
-    ensures { view.new ≡ record view.old { ops = edit page_of page (changed change) view.old.ops } }
+    requires after { All (IsOpWithin view.old.room.aliases) (edit page_of page (op_changed change) view.old.ops) }
+    ensures { view.new ≡ record view.old { ops = edit page_of page (op_changed change) view.old.ops } }
 {
     change_in(&mut view.ops, page, change);
 }
@@ -38,8 +38,8 @@ pub(crate) fn change_op(view: &mut ActorView, page: u32, change: OpChange)
 /// Changes the operation on the backing page of a virtual page.
 pub(crate) fn change_op_of(g: &Geometry, view: &mut ActorView, vpage: u32, change: OpChange)
     requires before { All (IsOpWithin view.old.room.aliases) view.old.ops }
-    requires after { All (IsOpWithin view.old.room.aliases) (edit_of g.now vpage (changed change) view.old.ops) }
-    ensures { view.new ≡ record view.old { ops = edit_of g.now vpage (changed change) view.old.ops } }
+    requires after { All (IsOpWithin view.old.room.aliases) (edit_of g.now vpage (op_changed change) view.old.ops) }
+    ensures { view.new ≡ record view.old { ops = edit_of g.now vpage (op_changed change) view.old.ops } }
 {
     if let Some(page) = backing(g, vpage) {
         change_op(view, page, change);

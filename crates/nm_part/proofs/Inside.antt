@@ -6,7 +6,8 @@ use Rattle.nm_action.specs.declared.action.Reply.{Reply}
 use Rattle.nm_view.specs.Views.{View}
 use Rattle.nm_permit.specs.Permitted.{Allowed}
 use Rattle.nm_event.specs.Fitting.{Fits}
-use Rattle.nm_part.specs.Own.{Own, view_after}
+use Rattle.nm_action.specs.Own.{Own}
+use Rattle.nm_event.specs.After.{view_after}
 use Rattle.nm_part.specs.Parts.{IsBegun, IsAsked}
 use Rattle.nm_part.proofs.OwnLemmas.{view-append}
 

@@ -9,7 +9,8 @@ use Rattle.nm_action.specs.declared.turn.Step.{Step}
 use Rattle.nm_action.specs.declared.turn.Step.TheVariants.{Do, Over}
 use Rattle.nm_view.specs.Views.{View}
 use Rattle.nm_event.specs.Fitting.{Fits}
-use Rattle.nm_part.specs.Own.{Own, view_after}
+use Rattle.nm_action.specs.Own.{Own}
+use Rattle.nm_event.specs.After.{view_after}
 use Rattle.nm_part.specs.Parts.{IsBegun, IsStep}
 use Rattle.nm_part.specs.Nested.{looked_view, MayNest, IsNested, LeavesNested, IsLooking, IsInside}
 use Rattle.nm_part.proofs.Inside.{asked-inside}

@@ -5,10 +5,10 @@ use Rattle.nm_action.specs.declared.action.Action.{Action}
 use Rattle.nm_action.specs.declared.action.Action.TheVariants.{Look}
 use Rattle.nm_action.specs.declared.action.Reply.TheVariants.{Word}
 use Rattle.nm_view.specs.Views.{View}
-use Rattle.nm_view.specs.Ranges.{IsVPage}
+use Rattle.nm_base.specs.Ranges.{IsVPage}
 use Rattle.nm_event.specs.After.{after_of}
 use Rattle.nm_event.specs.Fitting.{Fits}
-use Rattle.nm_part.specs.Own.{Own}
+use Rattle.nm_action.specs.Own.{Own}
 
 -- the view after the look
 abbrev pub looked_view : Geometry → View → ℕ → ℕ → View

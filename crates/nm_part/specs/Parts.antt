@@ -8,7 +8,8 @@ use Rattle.nm_action.specs.declared.turn.Step.TheVariants.{Do, Over}
 use Rattle.nm_view.specs.Views.{View}
 use Rattle.nm_permit.specs.Permitted.{Allowed}
 use Rattle.nm_event.specs.Fitting.{Fits}
-use Rattle.nm_part.specs.Own.{Own, view_after}
+use Rattle.nm_action.specs.Own.{Own}
+use Rattle.nm_event.specs.After.{view_after}
 
 -- In all of these `view` is the one that the part began in, and `own` its own list since then.
 

@@ -12,7 +12,8 @@ pub trait Part {
     ghost use Rattle.nm_action.specs.declared.action.Reply.{Reply};
     ghost use Rattle.nm_view.specs.Views.{View};
     ghost use Rattle.nm_event.specs.Fitting.{Fits};
-    ghost use Rattle.nm_part.specs.Own.{Own, view_after};
+    ghost use Rattle.nm_action.specs.Own.{Own};
+    ghost use Rattle.nm_event.specs.After.{view_after};
     ghost use Rattle.nm_part.specs.Parts.{IsStep, IsHeard};
 
     /// What it ends with.
@@ -73,7 +74,7 @@ mod tests {
         type Made = u32;
 
         ghost use Rattle.std.specs.Prelude.{◌≡◌, ◌∷◌, [], false};
-        ghost use Rattle.nm_view.specs.Ranges.{IsVPage};
+        ghost use Rattle.nm_base.specs.Ranges.{IsVPage};
         ghost use Rattle.nm_event.specs.After.{after_of};
         ghost use Rattle.nm_action.specs.declared.action.Action.TheVariants.{Look};
         ghost use Rattle.nm_action.specs.declared.action.Reply.TheVariants.{Word};

@@ -14,8 +14,9 @@ use Rattle.nm_action.specs.declared.action.Action.{Action}
 use Rattle.nm_action.specs.declared.action.Action.TheVariants.{Load, Store, Add, Look, Walk, Peek, Poll, Ack, Lock, Unlock, Bump, SeeAck, Raise, Soften, Arm, ClearDirty, Unmap, Map, Grant, CopyLoad, CopyStore, SetHome, SetShadow, TakeTurn, Scan, GiveFrame, PutFrame, ReleaseTurn, Mark, Read}
 use Rattle.nm_view.specs.Lists.{find, first, itself}
 use Rattle.nm_view.specs.Views.{Op, View, most_ops, off_word, end_word}
-use Rattle.nm_view.specs.Ranges.{IsVPage, IsPage, IsFrame, IsTier, IsIndex, IsWord}
-use Rattle.nm_view.specs.Operations.{IsProcessor, cached_page, peeked_page, owned_frame, op_on, op_of, fill_of, IsFlushEnded, IsTaken, IsLookedMapped, IsLookedAbsent, IsLookedOver, IsUnmapped, IsInLastTier, free_words}
+use Rattle.nm_base.specs.Ranges.{IsVPage, IsPage, IsFrame, IsTier, IsIndex, IsWord}
+use Rattle.nm_base.specs.FreeWords.{free_words}
+use Rattle.nm_view.specs.Operations.{IsProcessor, cached_page, peeked_page, owned_frame, op_on, op_of, fill_of, IsFlushEnded, IsTaken, IsLookedMapped, IsLookedAbsent, IsLookedOver, IsUnmapped, IsInLastTier}
 
 -- Numbers in range.
 

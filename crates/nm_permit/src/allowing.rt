@@ -1,7 +1,7 @@
 //! Whether an action is permitted.
 
 ghost use Rattle.std.specs.Prelude.{◌↔◌, IfSome, IsTrue};
-ghost use Rattle.nm_view.specs.Ranges.{IsVPage, IsPage, IsFrame, IsTier, IsIndex};
+ghost use Rattle.nm_base.specs.Ranges.{IsVPage, IsPage, IsFrame, IsTier, IsIndex};
 ghost use Rattle.nm_permit.specs.Permitted.{Allowed, InRange, Permitted, IsCell, MayCopyStore};
 
 use crate::permitted::{

@@ -6,8 +6,9 @@ ghost use Rattle.std.specs.Int.{bit_at};
 ghost use Rattle.nm_base.specs.Geometry.{backing_page, IsWritable};
 ghost use Rattle.nm_base.specs.PageWord.{IsPresentWord, is_present, has_hint, is_writable, is_dirty, is_saved, frame_of};
 ghost use Rattle.nm_view.specs.Lists.{find, first, itself};
-ghost use Rattle.nm_view.specs.Operations.{op_on, op_of, page_of, fill_of, is_answered, are_seen, is_flush_ended, IsFlushEnded, IsTaken, IsLookedMapped, IsLookedAbsent, IsLookedOver, IsAllTaken, IsTakenOnly, IsUnmapped, IsInLastTier, free_words, IsProcessor};
-ghost use Rattle.nm_view.specs.Ranges.{IsVPage, IsFrame};
+ghost use Rattle.nm_base.specs.FreeWords.{free_words};
+ghost use Rattle.nm_view.specs.Operations.{op_on, op_of, page_of, fill_of, is_answered, are_seen, is_flush_ended, IsFlushEnded, IsTaken, IsLookedMapped, IsLookedAbsent, IsLookedOver, IsAllTaken, IsTakenOnly, IsUnmapped, IsInLastTier, IsProcessor};
+ghost use Rattle.nm_base.specs.Ranges.{IsVPage, IsFrame};
 ghost use Rattle.nm_permit.specs.Permitted.{Allowed, InRange, Permitted, MayWalk, MayAck, MayLock, MayUnlock, MayBump, AreDueDry, IsWet, MayClear, IsTakingPhase, MayUnmap, IsWordBack, IsVacant, IsWordNew, HasMappedWord, MayMap, MayGrant, IsSavedWord, IsCopyingPhase, MayCopyLoad, IsZeroedTo, IsCopiedTo, IsLoaded, MayCopyStore, IsTakenClean, IsFreeOfShadow, IsHomeDemanded, IsHomeCommitted, IsHomeMoved, HasNewHome, MaySetHome, IsWhole, MayShade, MayUnshade, MaySetShadow, MayScan, MayGive, MayPut, IsMarkStep, IsMarkDone, MayRead, IsCell, IsCachedDirty};
 
 use nm_action::{AckTo, Action, Cell};

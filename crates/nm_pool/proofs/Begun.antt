@@ -8,10 +8,10 @@ use Rattle.nm_action.specs.declared.action.Action.TheVariants.{TakeTurn, Scan, G
 use Rattle.nm_action.specs.declared.action.Reply.TheVariants.{Done, Word}
 use Rattle.nm_view.specs.declared.view.Scanned.{Scanned}
 use Rattle.nm_view.specs.Views.{View}
-use Rattle.nm_view.specs.Operations.{free_words}
+use Rattle.nm_base.specs.FreeWords.{free_words}
 use Rattle.nm_event.specs.After.{scanned_word}
 use Rattle.nm_view.specs.Opening.{unscanned}
-use Rattle.nm_part.specs.Own.{Own}
+use Rattle.nm_action.specs.Own.{Own}
 use Rattle.nm_part.specs.Parts.{IsBegun}
 use Rattle.nm_part.proofs.OwnLemmas.{begun-front}
 use Rattle.nm_pool.specs.declared.job.PoolJob.{PoolJob}

@@ -10,7 +10,7 @@ use Rattle.std.specs.Int.{bit_at}
 use Rattle.nm_base.specs.Geometry.{Geometry, first_frame}
 use Rattle.nm_action.specs.declared.action.Action.TheVariants.{TakeTurn, Scan}
 use Rattle.nm_action.specs.declared.action.Reply.TheVariants.{Word, Busy}
-use Rattle.nm_part.specs.Own.{Own}
+use Rattle.nm_action.specs.Own.{Own}
 use Rattle.nm_pool.specs.Pool.{refused, scanned, free_count, IsFree}
 
 pub refused-push : (tier : ℕ) (ws : List ℕ) (w : ℕ) → refused tier (ws ++ w ∷ []) ≡ refused tier ws ++ (TakeTurn tier, Busy w) ∷ []

@@ -10,7 +10,7 @@ use Rattle.nm_action.specs.declared.action.Action.TheVariants.{TakeTurn, Scan, G
 use Rattle.nm_action.specs.declared.action.Reply.TheVariants.{Done, Word, Busy}
 use Rattle.nm_view.specs.Views.{View}
 use Rattle.nm_event.specs.Fitting.{Fits}
-use Rattle.nm_part.specs.Own.{Own}
+use Rattle.nm_action.specs.Own.{Own}
 use Rattle.nm_pool.specs.declared.job.PoolJob.{PoolJob}
 use Rattle.nm_pool.specs.declared.job.PoolMade.{PoolMade}
 use Rattle.nm_pool.specs.Given.{pool_made, MayWork, MayBegin}

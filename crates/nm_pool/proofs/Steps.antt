@@ -10,12 +10,12 @@ use Rattle.nm_action.specs.declared.turn.Step.{Step}
 use Rattle.nm_action.specs.declared.turn.Step.TheVariants.{Do, Over}
 use Rattle.nm_view.specs.declared.view.Scanned.{Scanned}
 use Rattle.nm_view.specs.Views.{View}
-use Rattle.nm_view.specs.Operations.{free_words}
-use Rattle.nm_event.specs.After.{scanned_word}
+use Rattle.nm_base.specs.FreeWords.{free_words}
+use Rattle.nm_event.specs.After.{scanned_word, view_after}
 use Rattle.nm_view.specs.Opening.{unscanned}
 use Rattle.nm_permit.specs.Permitted.{Allowed}
 use Rattle.nm_event.specs.Fitting.{Fits}
-use Rattle.nm_part.specs.Own.{Own, view_after}
+use Rattle.nm_action.specs.Own.{Own}
 use Rattle.nm_part.specs.Parts.{IsBegun, IsStep}
 use Rattle.nm_part.proofs.OwnLemmas.{view-push}
 use Rattle.nm_pool.specs.declared.job.PoolJob.{PoolJob}

@@ -7,11 +7,11 @@ use Rattle.nm_action.specs.declared.action.Action.TheVariants.{TakeTurn, Scan, G
 use Rattle.nm_action.specs.declared.action.Reply.TheVariants.{Done, Word, Busy}
 use Rattle.nm_view.specs.declared.view.Scanned.{Scanned}
 use Rattle.nm_view.specs.Views.{View}
-use Rattle.nm_view.specs.Operations.{free_words}
-use Rattle.nm_event.specs.After.{after_of, scanned_word}
+use Rattle.nm_base.specs.FreeWords.{free_words}
+use Rattle.nm_event.specs.After.{after_of, scanned_word, view_after}
 use Rattle.nm_view.specs.Opening.{unscanned}
 use Rattle.nm_event.specs.Fitting.{IsScanOf}
-use Rattle.nm_part.specs.Own.{Own, view_after}
+use Rattle.nm_action.specs.Own.{Own}
 use Rattle.nm_part.proofs.OwnLemmas.{view-push}
 use Rattle.nm_pool.specs.declared.job.PoolJob.{PoolJob}
 use Rattle.nm_pool.specs.declared.job.PoolJob.TheVariants.{Take, Level, Back}

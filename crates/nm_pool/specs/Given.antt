@@ -4,7 +4,8 @@ use Rattle.nm_base.specs.Geometry.{Geometry, IsGeometry, IsInTier, first_frame, 
 use Rattle.nm_view.specs.declared.view.Fill.TheVariants.{Raw}
 use Rattle.nm_view.specs.Lists.{find, erase}
 use Rattle.nm_view.specs.Views.{View}
-use Rattle.nm_view.specs.Operations.{owned_frame, free_words}
+use Rattle.nm_base.specs.FreeWords.{free_words}
+use Rattle.nm_view.specs.Operations.{owned_frame}
 use Rattle.nm_event.specs.After.{owning}
 use Rattle.nm_view.specs.Opening.{unscanned}
 use Rattle.nm_event.specs.Fitting.{IsNotOwned}

@@ -4,8 +4,8 @@ use Rattle.std.specs.Int.{bit_at}
 use Rattle.nm_base.specs.Geometry.{Geometry, first_frame, tier_of}
 use Rattle.nm_action.specs.declared.action.Action.TheVariants.{TakeTurn, Scan, GiveFrame, PutFrame, ReleaseTurn}
 use Rattle.nm_action.specs.declared.action.Reply.TheVariants.{Done, Word, Busy}
-use Rattle.nm_view.specs.Operations.{free_words}
-use Rattle.nm_part.specs.Own.{Own}
+use Rattle.nm_base.specs.FreeWords.{free_words}
+use Rattle.nm_action.specs.Own.{Own}
 use Rattle.nm_pool.specs.declared.job.PoolJob.{PoolJob}
 use Rattle.nm_pool.specs.declared.job.PoolJob.TheVariants.{Take, Level, Back}
 use Rattle.nm_pool.specs.declared.job.PoolEnd.{PoolEnd}

@@ -7,7 +7,8 @@ use Rattle.nm_action.specs.declared.action.Reply.TheVariants.{Done}
 use Rattle.nm_view.specs.declared.view.Scanned.{Scanned}
 use Rattle.nm_view.specs.Views.{View}
 use Rattle.nm_view.specs.Opening.{unscanned}
-use Rattle.nm_part.specs.Own.{Own, view_after}
+use Rattle.nm_action.specs.Own.{Own}
+use Rattle.nm_event.specs.After.{view_after}
 use Rattle.nm_pool.specs.declared.job.PoolJob.{PoolJob}
 use Rattle.nm_pool.specs.declared.job.PoolJob.TheVariants.{Take, Level, Back}
 use Rattle.nm_pool.specs.declared.job.PoolMade.{PoolMade}

@@ -3,7 +3,7 @@
 ghost use Rattle.std.specs.Prelude.{◌≡◌, ◌<◌, ◌≤◌, ◌+◌, ◌*◌, ◌^◌, [], ◌∷◌, length, count_ones, IfOk};
 ghost use Rattle.nm_base.specs.Geometry.{IsGeometry, frame_count};
 ghost use Rattle.nm_action.specs.declared.turn.Step.TheVariants.{Do};
-ghost use Rattle.nm_view.specs.Operations.{free_words};
+ghost use Rattle.nm_base.specs.FreeWords.{free_words};
 ghost use Rattle.nm_event.specs.After.{scanned_word, least_with, least_bit};
 ghost use Rattle.nm_pool.specs.declared.job.PoolJob.{PoolJob};
 ghost use Rattle.nm_pool.specs.Pool.{tier_for};

@@ -15,6 +15,3 @@ pub use printing::{print, print_cpu};
 pub use report::Report;
 pub use roles::counts_sum;
 pub use totals::summary;
-
-#[cfg(test)]
-mod tests;

@@ -5,7 +5,7 @@ use Rattle.std.specs.Int.{bit_at}
 use Rattle.std.proofs.lemmas.Bool.{ltb-true, ltb-false}
 use Rattle.std.proofs.lemmas.Nat.Bits.{bit_at_above}
 use Rattle.nm_base.specs.Geometry.{Geometry}
-use Rattle.nm_view.specs.Named.{HasOwnBits}
+use Rattle.nm_base.specs.FreeWords.{HasOwnBits}
 
 own_bit : (n bit word : ℕ) (b : Bool) → nat_lt bit n ≡ b → word < 2 ^ n → bit_at word bit ≡ 1 → 64 * 0 + bit < n
 own_bit n bit word true e lt set = let less : bit < n = ltb-true bit n e in omega (arith, less)

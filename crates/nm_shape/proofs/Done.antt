@@ -9,12 +9,12 @@ use Rattle.nm_action.specs.declared.action.Action.{Action}
 use Rattle.nm_action.specs.declared.action.Action.TheVariants.{Load, Store, Add, Look, Walk, Peek, Poll, Ack, Lock, Unlock, Bump, SeeAck, Raise, Soften, Arm, ClearDirty, Unmap, Map, Grant, CopyLoad, CopyStore, SetHome, SetShadow, TakeTurn, Scan, GiveFrame, PutFrame, ReleaseTurn, Mark, Read}
 use Rattle.nm_view.specs.Lists.{edit, erase, put}
 use Rattle.nm_view.specs.Views.{Op, View}
-use Rattle.nm_view.specs.Operations.{page_of, cached_page, owned_frame, op_on}
+use Rattle.nm_view.specs.Operations.{page_of, cached_page, owned_frame, op_on, known_home}
 use Rattle.nm_view.specs.Opening.{opened, unscanned}
-use Rattle.nm_view.specs.Ranges.{IsPage, IsVPage, IsFrame}
+use Rattle.nm_base.specs.Ranges.{IsPage, IsVPage, IsFrame}
 use Rattle.nm_view.proofs.Items.{all_find, all_join}
 use Rattle.nm_permit.specs.Permitted.{Allowed, MayLock, MayCopyStore, MaySetShadow}
-use Rattle.nm_event.specs.After.{after_of, walked, is_confirmed, acked_word, kept_entries, mapped_at, copied_one, homed_at, shaded, edit_under, edit_of, let_go, known_home, shading, spoiled_under, stored_fill}
+use Rattle.nm_event.specs.After.{after_of, walked, is_confirmed, acked_word, kept_entries, mapped_at, copied_one, homed_at, shaded, edit_under, edit_of, let_go, shading, spoiled_under, stored_fill}
 use Rattle.nm_shape.specs.Keyed.{IsOpKeyed, IsScanInRange, IsKeyed}
 use Rattle.nm_shape.proofs.Keys.{none_left, all_put, all_filter, all_erase, once_put, once_filter, once_erase, once_join, length_erase}
 use Rattle.nm_shape.proofs.Ops.{keyed_opened, keyed_mapped, keyed_copied, keyed_homed, keyed_shaded}

@@ -10,7 +10,7 @@ use Rattle.nm_action.specs.declared.action.Action.{Action}
 use Rattle.nm_action.specs.declared.action.Action.TheVariants.{Load, Store, Add, Look, Walk, Peek, Poll, Ack, Lock, Unlock, Bump, SeeAck, Raise, Soften, Arm, ClearDirty, Unmap, Map, Grant, CopyLoad, CopyStore, SetHome, SetShadow, TakeTurn, Scan, GiveFrame, PutFrame, ReleaseTurn, Mark, Read}
 use Rattle.nm_view.specs.Views.{Op, View}
 use Rattle.nm_view.specs.Operations.{op_on}
-use Rattle.nm_view.specs.Named.{IsShadowName}
+use Rattle.nm_base.specs.ShadowWord.{IsShadowName}
 use Rattle.nm_permit.specs.Permitted.{Allowed, MayRead}
 use Rattle.nm_event.specs.Fitting.{Fits, FitsWord, IsReadOf, IsNewsOfHome, IsNewsOfShadow}
 use Rattle.nm_shape.specs.Keyed.{IsOpKeyed, IsKeyed}

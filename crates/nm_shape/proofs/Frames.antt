@@ -8,9 +8,9 @@ use Rattle.nm_view.specs.declared.view.Fill.TheVariants.{Raw, Zeroed, Copied, Eq
 use Rattle.nm_view.specs.declared.view.Owned.{Owned}
 use Rattle.nm_view.specs.Lists.{edit, erase, Once}
 use Rattle.nm_view.specs.Views.{Op}
-use Rattle.nm_view.specs.Operations.{owned_frame, shadow_word, shadow_of}
-use Rattle.nm_view.specs.Named.{IsShadowName}
-use Rattle.nm_view.specs.Ranges.{IsPage, IsFrame}
+use Rattle.nm_base.specs.ShadowWord.{shadow_word, shadow_frame, IsShadowName}
+use Rattle.nm_view.specs.Operations.{owned_frame}
+use Rattle.nm_base.specs.Ranges.{IsPage, IsFrame}
 use Rattle.nm_event.specs.After.{spoiled_fill, spoiled_frame, spoiled, spoiled_under, filled, owning, let_go, unshaded_fill, unshading, unshaded, stored_fill, is_quiet}
 use Rattle.nm_shape.specs.Keyed.{IsFillInRange, IsOwnedInRange, IsOpKeyed}
 use Rattle.nm_shape.proofs.Keys.{all_put, all_erase, all_edit, all_map, once_put, once_erase, once_edit, once_map}
@@ -71,18 +71,18 @@ owned_let_go g page (Some home) owned p r h = let_go_if g page home owned (home 
 
 -- The shadow of a page.
 
-named_shadow : (page shadow : ℕ) → shadow + 1 < 2 ^ 32 → shadow_of (shadow_word page (Some shadow)) ≡ shadow
+named_shadow : (page shadow : ℕ) → shadow + 1 < 2 ^ 32 → shadow_frame (shadow_word page (Some shadow)) ≡ shadow
 named_shadow page shadow lt =
     let m : ((page + 1) * 2 ^ 32 + (shadow + 1)) % 2 ^ 32 ≡ shadow + 1 = mod-mul-add (page + 1) (2 ^ 32) (shadow + 1) lt in
     let e : (page + 1) * 2 ^ 32 + shadow + 1 ≡ (page + 1) * 2 ^ 32 + (shadow + 1) = omega arith in
     rw (e, m) (omega arith)
 
 -- the shadow of a shadow word that is not 0 is a frame
-pub shadow_in_range : (g : Geometry) (word : ℕ) → frame_count g ≤ 4096 → IsShadowName g word → word ≢ 0 → IsFrame g (shadow_of word)
+pub shadow_in_range : (g : Geometry) (word : ℕ) → frame_count g ≤ 4096 → IsShadowName g word → word ≢ 0 → IsFrame g (shadow_frame word)
 shadow_in_range g word few (inl e) n = absurd (n e)
 shadow_in_range g word few (inr h) n =
     let lt : h.shadow + 1 < 2 ^ 32 = omega (arith, few, h.range) in
-    let P : ℕ → Type 0 = λ w. IsFrame g (shadow_of w) in
+    let P : ℕ → Type 0 = λ w. IsFrame g (shadow_frame w) in
     let Q : ℕ → Type 0 = λ f. IsFrame g f in
     subst P (sym h.is) (subst Q (sym (named_shadow h.page h.shadow lt)) h.range)
 
@@ -92,7 +92,7 @@ unshaded_in_range g false page p = tt
 
 pub owned_unshading : (g : Geometry) (fill : Fill) (word : Option ℕ) (owned : List Owned) → frame_count g ≤ 4096 → IfSome word (IsShadowName g) → IsSomeAnd word (λ w. w ≢ 0) → IsFillInRange g fill → AreOwned g owned → AreOwned g (unshading fill word owned)
 owned_unshading g fill None owned few r s f h = absurd s
-owned_unshading g fill (Some word) owned few r s f h = owned_more g (shadow_of word) fill owned (shadow_in_range g word few r s) f h
+owned_unshading g fill (Some word) owned few r s f h = owned_more g (shadow_frame word) fill owned (shadow_in_range g word few r s) f h
 
 pub owned_unshaded : (g : Geometry) (page : ℕ) (op : Option Op) (owned : List Owned) → frame_count g ≤ 4096 → IsPage g page → IfSome op (IsOpKeyed g) → IsSomeAnd op (λ o. IsSomeAnd o.shadow (λ w. w ≢ 0)) → AreOwned g owned → AreOwned g (unshaded g page op owned)
 owned_unshaded g page None owned few p k s h = h

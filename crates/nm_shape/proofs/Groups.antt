@@ -9,7 +9,7 @@ use Rattle.nm_view.specs.declared.view.Scanned.{Scanned}
 use Rattle.nm_view.specs.Lists.{find, edit, Once}
 use Rattle.nm_view.specs.Views.{Op, View, most_ops}
 use Rattle.nm_view.specs.Operations.{page_of, cached_page, peeked_page, owned_frame, op_of}
-use Rattle.nm_view.specs.Ranges.{IsVPage, IsTier}
+use Rattle.nm_base.specs.Ranges.{IsVPage, IsTier}
 use Rattle.nm_event.specs.After.{edit_under, edit_of}
 use Rattle.nm_shape.specs.Keyed.{IsOpKeyed, IsOwnedInRange, IsScanInRange, IsKeyed, own_bumps, own_raises}
 use Rattle.nm_shape.proofs.Keys.{find_number, once_edit, once_map, all_edit, all_map, length_edit}

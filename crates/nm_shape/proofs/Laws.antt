@@ -6,7 +6,7 @@ use Rattle.nm_action.specs.declared.action.Reply.TheVariants.{Done, Word, Busy, 
 use Rattle.nm_action.specs.declared.action.Action.{Action}
 use Rattle.nm_view.specs.Views.{View}
 use Rattle.nm_view.specs.Opening.{opening, IsActor}
-use Rattle.nm_view.specs.Ranges.{IsVPage}
+use Rattle.nm_base.specs.Ranges.{IsVPage}
 use Rattle.nm_permit.specs.Permitted.{Allowed}
 use Rattle.nm_event.specs.After.{after_of}
 use Rattle.nm_event.specs.Fitting.{Fits}

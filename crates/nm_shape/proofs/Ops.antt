@@ -8,10 +8,9 @@ use Rattle.nm_action.specs.declared.action.Cell.{Cell}
 use Rattle.nm_action.specs.declared.action.Cell.TheVariants.{Home, Shadow}
 use Rattle.nm_view.specs.Lists.{find, erase, put, first, itself}
 use Rattle.nm_view.specs.Views.{Op}
-use Rattle.nm_view.specs.Operations.{shadow_word}
+use Rattle.nm_base.specs.ShadowWord.{shadow_word, IsShadowName}
 use Rattle.nm_view.specs.Opening.{most_aliases, opened}
-use Rattle.nm_view.specs.Named.{IsShadowName}
-use Rattle.nm_view.specs.Ranges.{IsPage, IsFrame}
+use Rattle.nm_base.specs.Ranges.{IsPage, IsFrame}
 use Rattle.nm_view.proofs.Items.{all_join}
 use Rattle.nm_event.specs.After.{looked_at, read_cell, cleared_at, taken_at, raised_to, bumped_to, seen_at, seen_with, loaded, copied_one, homed_at, shaded, mapped_at, granted_at, granted_word}
 use Rattle.nm_shape.specs.Keyed.{AreOwnPages, AreOwnNumbers, IsOpKeyed}

@@ -14,11 +14,11 @@ use Rattle.nm_action.specs.declared.action.Action.{Action}
 use Rattle.nm_action.specs.declared.action.Action.TheVariants.{Load, Store, Add, Look, Walk, Peek, Poll, Ack, Lock, Unlock, Bump, SeeAck, Raise, Soften, Arm, ClearDirty, Unmap, Map, Grant, CopyLoad, CopyStore, SetHome, SetShadow, TakeTurn, Scan, GiveFrame, PutFrame, ReleaseTurn, Mark, Read}
 use Rattle.nm_view.specs.Lists.{first, itself, Once}
 use Rattle.nm_view.specs.Views.{Op, View}
-use Rattle.nm_view.specs.Operations.{cached_page, peeked_page, owned_frame, op_on, free_words}
-use Rattle.nm_view.specs.Named.{IsShadowName}
-use Rattle.nm_view.specs.Ranges.{IsTier, IsPage}
+use Rattle.nm_base.specs.FreeWords.{free_words}
+use Rattle.nm_view.specs.Operations.{cached_page, peeked_page, owned_frame, op_on, known_home}
+use Rattle.nm_base.specs.ShadowWord.{IsShadowName}
+use Rattle.nm_base.specs.Ranges.{IsTier, IsPage}
 use Rattle.nm_permit.specs.Permitted.{Allowed, MayScan}
-use Rattle.nm_event.specs.After.{known_home}
 use Rattle.nm_event.specs.Room.{IsOpWithin, IsWithinRoom, NumbersFit}
 use Rattle.nm_shape.specs.Keyed.{IsOpKeyed, IsOwnedInRange, IsKeyed}
 use Rattle.nm_shape.specs.Ranged.{IsInRangeReply, IsNarrowWalk}

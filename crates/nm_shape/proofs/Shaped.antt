@@ -11,7 +11,7 @@ use Rattle.nm_view.specs.Lists.{edit}
 use Rattle.nm_view.specs.Views.{Op, View, off_word}
 use Rattle.nm_view.specs.Operations.{page_of, op_on, IsProcessor}
 use Rattle.nm_view.specs.Opening.{opened, opening, IsActor}
-use Rattle.nm_view.specs.Ranges.{IsFrame}
+use Rattle.nm_base.specs.Ranges.{IsFrame}
 use Rattle.nm_view.proofs.Items.{all_join}
 use Rattle.nm_permit.specs.Permitted.{Allowed, MayRead, MaySetShadow}
 use Rattle.nm_event.specs.After.{after_of, edit_under, edit_of, looked_at, read_cell, cleared_at, taken_at, raised_to, bumped_to, seen_at, loaded, copied_one, homed_at, shaded, mapped_at, granted_at}

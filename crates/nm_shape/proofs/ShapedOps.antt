@@ -7,9 +7,9 @@ use Rattle.nm_action.specs.declared.action.Cell.TheVariants.{Home, Shadow}
 use Rattle.nm_view.specs.declared.view.Phase.TheVariants.{Held, Cleared, Taken}
 use Rattle.nm_view.specs.Lists.{erase, first}
 use Rattle.nm_view.specs.Views.{Op, View}
-use Rattle.nm_view.specs.Operations.{shadow_word}
+use Rattle.nm_base.specs.ShadowWord.{shadow_word}
 use Rattle.nm_view.specs.Opening.{opened}
-use Rattle.nm_view.specs.Ranges.{IsFrame}
+use Rattle.nm_base.specs.Ranges.{IsFrame}
 use Rattle.nm_permit.specs.Permitted.{MayRead, MaySetShadow}
 use Rattle.nm_event.specs.After.{looked_at, read_cell, cleared_at, taken_at, raised_to, bumped_to, seen_at, loaded, copied_one, homed_at, shaded, mapped_at, granted_at, has_some}
 use Rattle.nm_event.specs.Fitting.{IsReadOf, IsNewsOfShadow}

@@ -16,10 +16,10 @@ use Rattle.nm_view.specs.declared.view.Peeked.{Peeked}
 use Rattle.nm_view.specs.declared.view.Fill.TheVariants.{Raw}
 use Rattle.nm_view.specs.Lists.{erase, put}
 use Rattle.nm_view.specs.Views.{Op, View}
-use Rattle.nm_view.specs.Operations.{page_of, peeked_page, owned_frame, op_of, free_words}
+use Rattle.nm_base.specs.FreeWords.{free_words, HasOwnBits}
+use Rattle.nm_view.specs.Operations.{page_of, peeked_page, owned_frame, op_of}
 use Rattle.nm_view.specs.Opening.{unscanned}
-use Rattle.nm_view.specs.Named.{HasOwnBits}
-use Rattle.nm_view.specs.Ranges.{IsVPage, IsFrame, IsTier, IsWord}
+use Rattle.nm_base.specs.Ranges.{IsVPage, IsFrame, IsTier, IsWord}
 use Rattle.nm_permit.specs.Permitted.{Allowed, MayUnmap, MayScan}
 use Rattle.nm_event.specs.After.{after_of, looked_at, stale, bumped_to, seen_at, raised_to, cleared_at, taken_at, granted_at, loaded, read_cell, scanned_word, least_with, least_bit, owning, edit_of, spoiled_under}
 use Rattle.nm_shape.specs.Keyed.{IsScanInRange, IsKeyed}

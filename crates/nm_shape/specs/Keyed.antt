@@ -7,9 +7,10 @@ use Rattle.nm_view.specs.declared.view.Owned.{Owned}
 use Rattle.nm_view.specs.declared.view.Scanned.{Scanned}
 use Rattle.nm_view.specs.Lists.{Once, first, itself}
 use Rattle.nm_view.specs.Views.{Op, View, most_ops}
-use Rattle.nm_view.specs.Operations.{page_of, cached_page, peeked_page, owned_frame, free_words}
-use Rattle.nm_view.specs.Named.{IsShadowName}
-use Rattle.nm_view.specs.Ranges.{IsPage, IsVPage, IsFrame, IsTier}
+use Rattle.nm_base.specs.FreeWords.{free_words}
+use Rattle.nm_view.specs.Operations.{page_of, cached_page, peeked_page, owned_frame}
+use Rattle.nm_base.specs.ShadowWord.{IsShadowName}
+use Rattle.nm_base.specs.Ranges.{IsPage, IsVPage, IsFrame, IsTier}
 use Rattle.nm_view.specs.Opening.{unscanned, most_aliases, room_of, IsActor}
 
 -- items by virtual pages of a backing page, none of them twice

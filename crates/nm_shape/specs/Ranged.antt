@@ -9,8 +9,9 @@ use Rattle.nm_action.specs.declared.action.Reply.{Reply}
 use Rattle.nm_action.specs.declared.action.Reply.TheVariants.{Done, Word, Busy, Lost}
 use Rattle.nm_action.specs.declared.action.Action.{Action}
 use Rattle.nm_action.specs.declared.action.Action.TheVariants.{Walk, Bump, Raise, Scan, Read}
-use Rattle.nm_view.specs.Named.{IsShadowName, HasOwnBits}
-use Rattle.nm_view.specs.Ranges.{IsWord}
+use Rattle.nm_base.specs.ShadowWord.{IsShadowName}
+use Rattle.nm_base.specs.FreeWords.{HasOwnBits}
+use Rattle.nm_base.specs.Ranges.{IsWord}
 use Rattle.nm_event.specs.Fitting.{most_bumps, most_raises}
 
 -- a home word names no frame that is not there; a shadow word is 0 or names a page and a frame

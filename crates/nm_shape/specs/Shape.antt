@@ -3,8 +3,8 @@ use Rattle.std.specs.Prelude.{◌≡◌, ◌≢◌, ℕ, ◌≤◌, ◌⊎◌, [
 use Rattle.nm_base.specs.Geometry.{Geometry}
 use Rattle.nm_view.specs.declared.view.Phase.TheVariants.{Taken}
 use Rattle.nm_view.specs.Views.{Op, View, off_word}
-use Rattle.nm_view.specs.Operations.{shadow_word}
-use Rattle.nm_view.specs.Ranges.{IsFrame}
+use Rattle.nm_base.specs.ShadowWord.{shadow_word}
+use Rattle.nm_base.specs.Ranges.{IsFrame}
 use Rattle.nm_event.specs.Fitting.{most_bumps}
 use Rattle.nm_shape.specs.Keyed.{IsKeyed}
 

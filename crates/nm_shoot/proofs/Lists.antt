@@ -4,7 +4,7 @@ use Rattle.std.proofs.lemmas.List.{length-replicate, get_or-replicate}
 use Rattle.std.proofs.lemmas.List.Elements.{All-append, All-nil, All-cons}
 use Rattle.nm_action.specs.declared.action.Action.TheVariants.{SeeAck}
 use Rattle.nm_action.specs.declared.action.Reply.TheVariants.{Word}
-use Rattle.nm_part.specs.Own.{Own}
+use Rattle.nm_action.specs.Own.{Own}
 use Rattle.nm_shoot.specs.Shootdown.{asked, asked_from, IsAnswered}
 
 pub All-push : {A : Type 0} (P : A → Type 0) (xs : List A) (x : A) → All P xs → P x → All P (xs ++ x ∷ [])

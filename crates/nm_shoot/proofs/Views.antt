@@ -8,8 +8,8 @@ use Rattle.std.specs.Prelude.{bit_or}
 use Rattle.nm_base.specs.Geometry.{Geometry}
 use Rattle.nm_view.specs.Views.{Op, View}
 use Rattle.nm_view.specs.Operations.{are_seen, is_answered}
-use Rattle.nm_event.specs.After.{seen_with, seen_at, bumped_to}
-use Rattle.nm_part.specs.Own.{Own, view_after}
+use Rattle.nm_event.specs.After.{seen_with, seen_at, bumped_to, view_after}
+use Rattle.nm_action.specs.Own.{Own}
 use Rattle.nm_part.proofs.OwnLemmas.{view-append}
 use Rattle.nm_shoot.specs.Shootdown.{asked, asked_from, IsAnswered, IsShootdown}
 use Rattle.nm_shoot.specs.Flushed.{IsFlushOf, IsFlushed}

@@ -7,7 +7,7 @@ use Rattle.nm_action.specs.declared.action.Reply.TheVariants.{Word}
 use Rattle.nm_action.specs.declared.turn.Step.{Step}
 use Rattle.nm_action.specs.declared.turn.Step.TheVariants.{Do, Over}
 use Rattle.nm_view.specs.Views.{View}
-use Rattle.nm_part.specs.Own.{Own}
+use Rattle.nm_action.specs.Own.{Own}
 use Rattle.nm_shoot.specs.declared.shoot.Shoot.{Shoot}
 use Rattle.nm_shoot.specs.declared.shoot.Stage.{Stage}
 use Rattle.nm_shoot.specs.declared.shoot.Stage.TheVariants.{New, Bumping, Seeing}

@@ -2,7 +2,7 @@
 use Rattle.std.specs.Prelude.{◌≡◌, ℕ, ◌+◌, ◌<◌, ◌≤◌, List, [], ◌∷◌, ◌++◌, length, All}
 use Rattle.nm_action.specs.declared.action.Action.TheVariants.{Bump, SeeAck}
 use Rattle.nm_action.specs.declared.action.Reply.TheVariants.{Word}
-use Rattle.nm_part.specs.Own.{Own}
+use Rattle.nm_action.specs.Own.{Own}
 
 -- the acknowledgement of processor p was read once for each of these words
 abbrev pub asked : ℕ → List ℕ → Own

@@ -7,10 +7,9 @@ use Rattle.nm_action.specs.declared.action.Cell.TheVariants as cells
 use Rattle.nm_action.specs.declared.action.Action.{Action}
 use Rattle.nm_action.specs.declared.action.Action.TheVariants.{Load, Store, Add, Look, Walk, Peek, Poll, Ack, Lock, Unlock, Bump, SeeAck, Raise, Soften, Arm, ClearDirty, Unmap, Map, Grant, CopyLoad, CopyStore, SetHome, SetShadow, TakeTurn, Scan, GiveFrame, PutFrame, ReleaseTurn, Mark, Read}
 use Rattle.nm_view.specs.Lists.{find}
-use Rattle.nm_view.specs.Ranges.{IsFrame}
+use Rattle.nm_base.specs.Ranges.{IsFrame}
 use Rattle.nm_view.specs.Views.{View}
-use Rattle.nm_view.specs.Operations.{cached_page, page_of, op_on}
-use Rattle.nm_event.specs.After.{known_home}
+use Rattle.nm_view.specs.Operations.{cached_page, page_of, op_on, known_home}
 use Rattle.nm_permit.specs.Permitted.{Allowed, MayCopyLoad, IsCachedDirty}
 use Rattle.nm_words.specs.Names.{IsPlace}
 use Rattle.nm_step.specs.Named.{NamesFrames, OpNamesFrames}

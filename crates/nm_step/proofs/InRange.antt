@@ -13,16 +13,18 @@ use Rattle.nm_action.specs.declared.action.Cell.TheVariants as cells
 use Rattle.nm_action.specs.declared.action.Action.{Action}
 use Rattle.nm_action.specs.declared.action.Action.TheVariants.{Load, Store, Add, Look, Walk, Peek, Poll, Ack, Lock, Unlock, Bump, SeeAck, Raise, Soften, Arm, ClearDirty, Unmap, Map, Grant, CopyLoad, CopyStore, SetHome, SetShadow, TakeTurn, Scan, GiveFrame, PutFrame, ReleaseTurn, Mark, Read}
 use Rattle.nm_view.specs.Lists.{find, first}
-use Rattle.nm_view.specs.Named.{IsShadowName, HasOwnBits}
-use Rattle.nm_view.specs.Ranges.{IsPage, IsFrame}
+use Rattle.nm_base.specs.ShadowWord.{IsShadowName}
+use Rattle.nm_base.specs.FreeWords.{HasOwnBits, free_bit}
+use Rattle.nm_base.specs.Ranges.{IsPage, IsFrame}
 use Rattle.nm_view.specs.Views.{Op, View}
-use Rattle.nm_view.specs.Operations.{op_of, shadow_word}
+use Rattle.nm_base.specs.ShadowWord.{shadow_word}
+use Rattle.nm_view.specs.Operations.{op_of}
 use Rattle.nm_permit.specs.Permitted.{Allowed, MayMap, IsWordBack, IsWordNew}
 use Rattle.nm_words.specs.Exchanges.{changed}
 use Rattle.nm_words.specs.Ranged.{IsRanged}
 use Rattle.nm_step.specs.Drawn.{bumps_after, raises_after}
 use Rattle.nm_step.specs.Named.{NamesFrames, OpNamesFrames}
-use Rattle.nm_step.specs.Table.{where_of, change_of, walked_word, walk_bits, all_but, bit_of, free_bit}
+use Rattle.nm_step.specs.Table.{where_of, change_of, walked_word, walk_bits, all_but, bit_of}
 use Rattle.nm_step.proofs.Keyed.{some_and, All-found, All-op_of}
 
 -- Table words: bits below the frame leave the frame.

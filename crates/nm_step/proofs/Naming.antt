@@ -13,7 +13,7 @@ use Rattle.nm_action.specs.declared.action.Action.{Action}
 use Rattle.nm_action.specs.declared.action.Action.TheVariants.{Look, Walk, Peek, Poll, Ack, Lock, Unlock, Bump, SeeAck, Raise, ClearDirty, Unmap, Map, Grant, CopyLoad, CopyStore, SetHome, SetShadow, TakeTurn, Scan, GiveFrame, PutFrame, ReleaseTurn, Read}
 use Rattle.nm_view.specs.declared.view.CacheEntry.{CacheEntry}
 use Rattle.nm_view.specs.Lists.{first}
-use Rattle.nm_view.specs.Ranges.{IsFrame}
+use Rattle.nm_base.specs.Ranges.{IsFrame}
 use Rattle.nm_view.specs.Views.{Op, View}
 use Rattle.nm_view.specs.Opening.{opened}
 use Rattle.nm_view.specs.Operations.{page_of, cached_page}

@@ -2,7 +2,7 @@
 use Rattle.std.specs.Prelude.{◌≤◌, All, IfSome}
 use Rattle.nm_base.specs.Geometry.{Geometry, frame_count}
 use Rattle.nm_base.specs.PageWord.{frame_of}
-use Rattle.nm_view.specs.Ranges.{IsFrame}
+use Rattle.nm_base.specs.Ranges.{IsFrame}
 use Rattle.nm_view.specs.Views.{Op, View}
 
 -- the frames that an operation names are in range

@@ -7,7 +7,7 @@ use Rattle.nm_action.specs.declared.action.Reply.{Reply}
 use Rattle.nm_action.specs.declared.action.Reply.TheVariants.{Done, Word}
 use Rattle.nm_action.specs.declared.action.Action.{Action}
 use Rattle.nm_action.specs.declared.action.Action.TheVariants.{Walk, Unmap, Read}
-use Rattle.nm_view.specs.Ranges.{IsFrame}
+use Rattle.nm_base.specs.Ranges.{IsFrame}
 
 -- the frame that a reply names is in range
 abbrev pub IsNamed : Geometry → Action → Reply → Type 0

@@ -12,8 +12,10 @@ use Rattle.nm_action.specs.declared.action.Action.TheVariants.{Load, Store, Add,
 use Rattle.nm_view.specs.declared.view.CacheEntry.{CacheEntry}
 use Rattle.nm_view.specs.Lists.{find}
 use Rattle.nm_view.specs.Views.{View}
-use Rattle.nm_view.specs.Operations.{cached_page, op_on, shadow_word}
-use Rattle.nm_event.specs.After.{acked_word, known_home}
+use Rattle.nm_base.specs.ShadowWord.{shadow_word}
+use Rattle.nm_base.specs.FreeWords.{free_index, free_bit}
+use Rattle.nm_view.specs.Operations.{cached_page, op_on, known_home}
+use Rattle.nm_event.specs.After.{acked_word}
 use Rattle.nm_words.specs.declared.names.Where.{Where}
 use Rattle.nm_words.specs.declared.names.Where.TheVariants as words
 use Rattle.nm_words.specs.declared.exchanges.Change.{Change}
@@ -39,12 +41,9 @@ named_frame (Some home) = home - 1
 abbrev pub home_frame : View → ℕ → ℕ
 home_frame view page = named_frame (known_home (op_on view page))
 
--- the word in which a frame has its bit, and the bit
+-- the word in which a frame has its bit
 abbrev pub free_word_of : Geometry → ℕ → Where
-free_word_of g f = words.Free (tier_of g f) ((f - first_frame g (tier_of g f)) / 64)
-
-abbrev pub free_bit : Geometry → ℕ → ℕ
-free_bit g f = (f - first_frame g (tier_of g f)) % 64
+free_word_of g f = words.Free (tier_of g f) (free_index g f)
 
 -- the word that a Read reads
 abbrev pub cell_word : Cell → Where

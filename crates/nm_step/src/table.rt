@@ -2,12 +2,14 @@
 
 ghost use Rattle.std.specs.Prelude.{◌≡◌, ◌+◌, ◌≤◌, ◌<◌, ◌^◌, ◌-◌};
 ghost use Rattle.nm_base.specs.Geometry.{first_frame, tier_of};
-ghost use Rattle.nm_view.specs.Ranges.{IsFrame, IsPage};
-ghost use Rattle.nm_view.specs.Operations.{op_on, shadow_word};
-ghost use Rattle.nm_event.specs.After.{acked_word, known_home};
+ghost use Rattle.nm_base.specs.Ranges.{IsFrame, IsPage};
+ghost use Rattle.nm_base.specs.ShadowWord.{shadow_word};
+ghost use Rattle.nm_view.specs.Operations.{op_on, known_home};
+ghost use Rattle.nm_event.specs.After.{acked_word};
 ghost use Rattle.nm_permit.specs.Permitted.{InRange};
 ghost use Rattle.nm_words.specs.Names.{IsPlace};
-ghost use Rattle.nm_step.specs.Table.{where_of, change_of, reply_of, cached_frame, home_frame, named_frame, free_word_of, free_bit, cell_word, all_but, bit_of, walk_bits, walked_word, unless_busy, unless_lost};
+ghost use Rattle.nm_base.specs.FreeWords.{free_bit};
+ghost use Rattle.nm_step.specs.Table.{where_of, change_of, reply_of, cached_frame, home_frame, named_frame, free_word_of, cell_word, all_but, bit_of, walk_bits, walked_word, unless_busy, unless_lost};
 
 use nm_action::{AckTo, Action, Bit, Cell, Reply};
 use nm_base::Geometry;

@@ -10,7 +10,7 @@ use Rattle.nm_script.specs.declared.fault.ScriptRefusal.{ScriptRefusal}
 use Rattle.nm_script.specs.declared.fault.ScriptRefusal.TheVariants as refusals
 use Rattle.nm_script.specs.Plain as plain
 use Rattle.nm_script.specs.Script.{script_text}
-use Rattle.nm_script.specs.Reading.{Reads, Refuses}
+use Rattle.nm_script.specs.Reading.{GivesReading, Refuses}
 use Rattle.nm_script.specs.Grammar.{IsScriptText}
 use Rattle.nm_script.specs.Faults as script_faults
 use Rattle.nm_script.specs.Faults.{IsFirstFault}
@@ -37,7 +37,7 @@ abbrev script_in : plain.Script → Result plain.Script (ScriptFault × ℕ) →
 script_in s (Ok t) = t
 script_in s (Err p) = s
 
-same_script : (s t : plain.Script) → Reads (Ok s) (Ok t) → t ≡ s
+same_script : (s t : plain.Script) → GivesReading (Ok s) (Ok t) → t ≡ s
 same_script s t e = ap (script_in s) e
 
 abbrev read_status : Result plain.Script (ScriptFault × ℕ) → Status
@@ -76,7 +76,7 @@ left_all (Some left) new bytes P all h = subst P all.0 h
 
 -- the bytes are this script
 pub IsReading-script : {S : Type 0} (m : SourceTells S) (old new : S) (bytes : List ℕ) (s : plain.Script) → HasRead m old new bytes → IsScriptText bytes s
-    → ((t : plain.Script) → IsScriptText bytes t → Reads (Ok s) (Ok t)) → ((f : ScriptFault) (n : ℕ) → IsFirstFault bytes f n → Reads (Ok s) (Err (f, n)))
+    → ((t : plain.Script) → IsScriptText bytes t → GivesReading (Ok s) (Ok t)) → ((f : ScriptFault) (n : ℕ) → IsFirstFault bytes f n → GivesReading (Ok s) (Err (f, n)))
     → IsReading m old new (Ok s)
 IsReading-script m old new bytes s h says only first = record {
   cause = whole m old new bytes (λ b. IsScriptText b s) h says;
@@ -88,14 +88,14 @@ IsReading-script m old new bytes s h says only first = record {
 }
 
 refused_cause : {S : Type 0} (m : SourceTells S) (old new : S) (bytes : List ℕ) (e : ScriptRefusal) → HasRead m old new bytes
-    → script_faults.IsRefusal bytes e → ReadCause m old new (Err (status_of_text e))
+    → script_faults.IsTextRefusal bytes e → ReadCause m old new (Err (status_of_text e))
 refused_cause m old new bytes refusals.Memory h fault = record { lost = lost_all _ _ bytes h.few h.all; kept = h.kept }
 refused_cause m old new bytes (refusals.At f n) h fault =
     inr (omega (arith, fault.count), whole m old new bytes (λ b. IsFirstFault b f n) h fault)
 
 -- the bytes are no script, or memory is wanting
 pub IsReading-refused : {S : Type 0} (m : SourceTells S) (old new : S) (bytes : List ℕ) (e : ScriptRefusal) → HasRead m old new bytes
-    → script_faults.IsRefusal bytes e → ((t : plain.Script) → IsScriptText bytes t → Refuses e (Ok t))
+    → script_faults.IsTextRefusal bytes e → ((t : plain.Script) → IsScriptText bytes t → Refuses e (Ok t))
     → ((f : ScriptFault) (n : ℕ) → IsFirstFault bytes f n → Refuses {A = plain.Script} e (Err (f, n))) → IsReading m old new (Err (status_of_text e))
 IsReading-refused m old new bytes e h fault only first = record {
   cause = refused_cause m old new bytes e h fault;

@@ -75,10 +75,10 @@ opening g number = record {
 abbrev pub IsActor : Geometry → ℕ → Type 0
 IsActor g number = number < g.cpus + 2
 
--- one more virtual page of a backing page is counted, if there is such a page
-abbrev pub counted : Option ℕ → List ℕ → List ℕ
-counted None counts = counts
-counted (Some page) counts = slice_set counts page (slice_index counts page + 1)
+-- one more virtual page of a backing page is counted_page, if there is such a page
+abbrev pub counted_page : Option ℕ → List ℕ → List ℕ
+counted_page None counts = counts
+counted_page (Some page) counts = slice_set counts page (slice_index counts page + 1)
 
 -- a count for each of so many backing pages: how many virtual pages of a list are mapped to it
 pub record HasCounts (counts : List ℕ) (vs : List (Option VPage)) (pages : ℕ) : Type 0 where

@@ -101,15 +101,7 @@ pub record IsInLastTier (g : Geometry) (home : ℕ) : Type 0 where
   pub above : first_frame g (length g.tiers - 1) < home
   pub exists : home ≤ frame_count g
 
--- the words of a tier's free frames, 64 frames each
-abbrev pub free_words : Geometry → ℕ → ℕ
-free_words g t = (slice_index g.tiers t + 63) / 64
-
--- the shadow word of a frame: 0 for none, or page b and its shadow s
-abbrev pub shadow_word : ℕ → Option ℕ → ℕ
-shadow_word b None = 0
-shadow_word b (Some s) = (b + 1) * 2 ^ 32 + s + 1
-
--- the shadow that a shadow word names
-abbrev pub shadow_of : ℕ → ℕ
-shadow_of word = word % 2 ^ 32 - 1
+-- the home word that an operation knows, if there is an operation
+abbrev pub known_home : Option Op → Option ℕ
+known_home None = None
+known_home (Some o) = o.home

@@ -4,7 +4,8 @@ ghost use Rattle.std.specs.Prelude.{◌≡◌, ◌≤◌, ◌<◌, ◌==◌};
 ghost use Rattle.std.specs.Option.{option_copied};
 ghost use Rattle.std.specs.Int.{bit_at};
 ghost use Rattle.nm_base.specs.Geometry.{backing_page};
-ghost use Rattle.nm_view.specs.Operations.{op_on, op_of, fill_of, are_seen, is_flush_ended, free_words};
+ghost use Rattle.nm_base.specs.FreeWords.{free_words};
+ghost use Rattle.nm_view.specs.Operations.{op_on, op_of, fill_of, are_seen, is_flush_ended};
 
 use crate::keyed::{look_up, place};
 use crate::view::{ActorView, Fill, OpenOp};

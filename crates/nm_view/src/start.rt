@@ -2,7 +2,7 @@
 
 ghost use Rattle.std.specs.Prelude.{◌≡◌, ◌≤◌, ◌<◌, ◌^◌, All, IfOk, IfSome, length, slice_index, vec_capacity};
 ghost use Rattle.nm_view.specs.Views.{most_ops};
-ghost use Rattle.nm_view.specs.Opening.{opened, opening, counted, most_aliases, HasCounts, IsActor};
+ghost use Rattle.nm_view.specs.Opening.{opened, opening, counted_page, most_aliases, HasCounts, IsActor};
 ghost use Rattle.nm_base.specs.Geometry.{page_count};
 
 use crate::reading::backing;
@@ -65,7 +65,7 @@ pub const UNSCANNED: Scanned = Scanned {
 fn count_alias(counts: &mut Vec<usize>, page: Option<u32>)
     requires within { IfSome page (λ b. b < length counts.old.items) }
     requires few { (b : _) → slice_index counts.old.items b < 2 ^ 63 }
-    ensures { counts.new.items ≡ counted page counts.old.items }
+    ensures { counts.new.items ≡ counted_page page counts.old.items }
 {
     if let Some(page) = page {
         counts[page as usize] += 1;

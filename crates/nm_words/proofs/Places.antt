@@ -10,7 +10,8 @@ use Rattle.std.proofs.lemmas.List.Concat.{length-flat_map, get_or-flat_map}
 use Rattle.std.proofs.lemmas.Nat.{same_from_place, mul-add-lt}
 use Rattle.std.proofs.lemmas.Nat.Bits.{ones_shr}
 use Rattle.nm_base.specs.Geometry.{Geometry, frame_count}
-use Rattle.nm_words.specs.Names.{words_for, first_free, free_place, free_count, mem_place}
+use Rattle.nm_base.specs.FreeWords.{words_for}
+use Rattle.nm_words.specs.Names.{first_free, free_place, free_count, mem_place}
 use Rattle.nm_words.specs.Words.{full_word, full_words}
 
 -- the words of so few tiers are few

@@ -4,7 +4,7 @@ use Rattle.std.proofs.lemmas.Bool.{cases_eq, cases_lt}
 use Rattle.std.proofs.lemmas.List.{get_or-replicate}
 use Rattle.std.proofs.lemmas.Nat.Bits.{bit_at_ones_above}
 use Rattle.nm_base.specs.Geometry.{Geometry, page_count, frame_count}
-use Rattle.nm_view.specs.Named.{HasOwnBits}
+use Rattle.nm_base.specs.FreeWords.{HasOwnBits}
 use Rattle.nm_words.specs.declared.names.Where.{Where}
 use Rattle.nm_words.specs.declared.names.Where.TheVariants.{Req, Pte, Stamp, Home, Shadow, Lock, Mark, Ack, Turn, Free, Mem}
 use Rattle.nm_words.specs.Names.{IsPlace}

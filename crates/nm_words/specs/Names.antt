@@ -1,14 +1,10 @@
 -- The words of a machine by name, and the places of the free frames and of the memory in their lists.
 use Rattle.std.specs.Prelude.{ℕ, ◌+◌, ◌*◌, ◌/◌, ◌<◌, take, sum_by}
 use Rattle.nm_base.specs.Geometry.{Geometry}
-use Rattle.nm_view.specs.Ranges.{IsVPage, IsPage, IsFrame, IsTier, IsIndex}
-use Rattle.nm_view.specs.Operations.{free_words}
+use Rattle.nm_base.specs.Ranges.{IsVPage, IsPage, IsFrame, IsTier, IsIndex}
+use Rattle.nm_base.specs.FreeWords.{free_words, words_for}
 use Rattle.nm_words.specs.declared.names.Where.{Where}
 use Rattle.nm_words.specs.declared.names.Where.TheVariants.{Req, Pte, Stamp, Home, Shadow, Lock, Mark, Ack, Turn, Free, Mem}
-
--- the words that stand for so many free frames, 64 frames each
-abbrev pub words_for : ℕ → ℕ
-words_for frames = (frames + 63) / 64
 
 -- the words of the free frames of the tiers before tier t
 abbrev pub first_free : Geometry → ℕ → ℕ

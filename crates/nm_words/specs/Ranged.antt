@@ -2,8 +2,9 @@
 use Rattle.std.specs.Prelude.{◌≡◌, ℕ, ◌≤◌}
 use Rattle.nm_base.specs.Geometry.{Geometry, frame_count}
 use Rattle.nm_base.specs.PageWord.{frame_of}
-use Rattle.nm_view.specs.Ranges.{IsFrame}
-use Rattle.nm_view.specs.Named.{IsShadowName, HasOwnBits}
+use Rattle.nm_base.specs.Ranges.{IsFrame}
+use Rattle.nm_base.specs.ShadowWord.{IsShadowName}
+use Rattle.nm_base.specs.FreeWords.{HasOwnBits}
 use Rattle.nm_words.specs.declared.names.Where.{Where}
 use Rattle.nm_words.specs.declared.names.Where.TheVariants.{Req, Pte, Stamp, Home, Shadow, Free}
 use Rattle.nm_words.specs.Names.{IsPlace}

@@ -6,7 +6,8 @@ use Rattle.nm_view.specs.Views.{off_word}
 use Rattle.nm_words.specs.declared.names.Where.{Where}
 use Rattle.nm_words.specs.declared.names.Where.TheVariants.{Req, Pte, Stamp, Home, Shadow, Lock, Mark, Ack, Turn, Free, Mem}
 use Rattle.nm_words.specs.declared.exchanges.Change.{Change}
-use Rattle.nm_words.specs.Names.{words_for, free_count, free_place, mem_place}
+use Rattle.nm_base.specs.FreeWords.{words_for}
+use Rattle.nm_words.specs.Names.{free_count, free_place, mem_place}
 use Rattle.nm_words.specs.Exchanges.{changed}
 
 -- the number of bumps; for each virtual page its table word and its number of raises; for each backing page its home,

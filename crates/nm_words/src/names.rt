@@ -2,7 +2,8 @@
 
 ghost use Rattle.std.specs.Prelude.{◌≡◌, ◌↔◌, IsTrue, ◌<◌, ◌≤◌, ◌+◌, ◌*◌, sum_by, length};
 ghost use Rattle.nm_base.specs.Geometry.{frame_count};
-ghost use Rattle.nm_words.specs.Names.{IsPlace, words_for, first_free, free_count, free_place, mem_place};
+ghost use Rattle.nm_base.specs.FreeWords.{words_for};
+ghost use Rattle.nm_words.specs.Names.{IsPlace, first_free, free_count, free_place, mem_place};
 
 use nm_base::Geometry;
 use nm_view::reading::free_words;

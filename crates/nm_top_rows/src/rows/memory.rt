@@ -62,12 +62,6 @@ fn writes_up_to_the_failing_call(rt: HostRuntime) -> Result<(), Fail> {
     assert_eq!(rt; write_all(&mut full, b""), Ok(()));
     assert_eq!(rt; write_all(&mut full, b"x"), Err(WriteFault));
     Ok(())
-    );
-    assert_eq!(rt;
-        write_all(&mut MemSink::new(rt.alloc(), 0, 1, &[])?, b"x"),
-        Err(WriteFault)
-    );
-    Ok(())
 }
 
 #[test]
