@@ -1,11 +1,11 @@
 use Rattle.std.proofs.Common.{◌≡◌, subst}
 use Rattle.nm_base.specs.Geometry.{Geometry, IsGeometry}
-use Rattle.nm_base.specs.Inside.{IsSound, plain_of}
+use Rattle.nm_base.specs.Inside.{IsGeometryKept, plain_of}
 use Rattle.nm_base.specs.declared.geometry.Geometry.TheInside.{Inside}
 use Rattle.nm_shape.proofs.Laws.{keyed_after, keyed_room, keyed_numbers}
 use Rattle.nm_shape.proofs.advancing.advance.Goals as goal
 
-sound : (i : Inside) (g : Geometry) → plain_of i ≡ g → IsSound i → IsGeometry g
+sound : (i : Inside) (g : Geometry) → plain_of i ≡ g → IsGeometryKept i → IsGeometry g
 sound i g e h = let P : Geometry → Type 0 = λ x. IsGeometry x in subst P e h.geometry
 
 pub after-requires-clause-room : goal.after-requires-clause-room
