@@ -1,6 +1,5 @@
 //! Runs rows over a state, and reads it.
 
-use crate::kinds::Row;
 use nm_action::{Action, Reply};
 use nm_base::{Geometry, VPage};
 use nm_core::{EndWords, Role, State};
@@ -8,6 +7,14 @@ use nm_permit::allowed;
 use std::alloc::Global;
 use std::process::Abort;
 use std::test::Fail;
+
+/// An action of an actor, and the reply that must come; None where the action must not be permitted.
+#[derive(Clone, Copy, Debug)]
+pub struct Row {
+    pub actor: u32,
+    pub action: Action,
+    pub reply: Option<Reply>,
+}
 
 const WRITABLE: Option<VPage> = Some(VPage {
     page: 0,

@@ -4,6 +4,4 @@
 #[cfg(test)]
 mod driver;
 #[cfg(test)]
-mod kinds;
-#[cfg(test)]
 mod rows;
