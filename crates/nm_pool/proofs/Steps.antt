@@ -39,7 +39,7 @@ frame-exists : (g : Geometry) (tier : ℕ) (v : View) (f : ℕ) → IsGiven g ti
 frame-exists g tier v f h = omega (arith, h.there.below, sum_by-take-le (λ x. x) g.tiers (tier + 1))
 
 permitted-scan : (g : Geometry) (v : View) (job : PoolJob) (own : Own) (scan : Scanned) → IsScanning (pool_made g job) g v own scan → scan.words < free_words g (tier_for g job) → Allowed g (view_after g v own) (Scan (tier_for g job) scan.words)
-permitted-scan g v job own scan h lt = rw h.turn.now (record { range = (tier-exists g v job h.turn.may, lt); permitted = record { turn = refl; next = refl } })
+permitted-scan g v job own scan h lt = rw h.turn.now (record { range = record { tier = tier-exists g v job h.turn.may; index = lt }; permitted = record { turn = refl; next = refl } })
 
 permitted-give : (g : Geometry) (v : View) (job : PoolJob) (own : Own) (scan : Scanned) (f : ℕ) → IsScanning (pool_made g job) g v own scan → free_words g (tier_for g job) ≤ scan.words → scan.least ≡ Some f → Allowed g (view_after g v own) (GiveFrame f)
 permitted-give g v job own scan f h ge e =
@@ -154,7 +154,7 @@ after-word g v made scan own action w f a new n =
     subst P (sym a.at.0.turn.may.is) (λ b e.
     let F : Action → Type 0 = λ x. Fits g (view_after g v own) x (Word w) in
     let fits = subst F b.is f in
-    let at = at-scanned-word g v made.job own scan w fits.told.0 fits.told.1 b.at.1 b.at.0 in
+    let at = at-scanned-word g v made.job own scan w fits.told.bits fits.told.said b.at.1 b.at.0 in
     rw (b.is, e) (asks g v made.job (own ++ (Scan (tier_for g made.job) scan.words, Word w) ∷ []) (scanned_word (m.base + 64 * scan.words) w scan) (next_stage m (scanned_word (m.base + 64 * scan.words) w scan))
     (at-next g v made.job (own ++ (Scan (tier_for g made.job) scan.words, Word w) ∷ []) (scanned_word (m.base + 64 * scan.words) w scan) b.at.2 at))) a n
 

@@ -3,8 +3,7 @@
 ghost use Rattle.std.specs.Prelude.{◌≡◌, ◌<◌, ◌≤◌, ◌+◌, ◌*◌, ◌^◌, [], ◌∷◌, length, count_ones, IfOk};
 ghost use Rattle.nm_base.specs.Geometry.{IsGeometry, frame_count};
 ghost use Rattle.nm_action.specs.declared.turn.Step.TheVariants.{Do};
-ghost use Rattle.nm_base.specs.FreeWords.{free_words};
-ghost use Rattle.nm_event.specs.After.{scanned_word, least_with, least_bit};
+ghost use Rattle.nm_event.specs.After.{scanned_word};
 ghost use Rattle.nm_pool.specs.declared.job.PoolJob.{PoolJob};
 ghost use Rattle.nm_pool.specs.Pool.{tier_for};
 ghost use Rattle.nm_pool.specs.Given.{pool_made};
@@ -12,7 +11,7 @@ ghost use Rattle.nm_pool.specs.Stages.{made_of, IsNewPool, action_at, next_stage
 
 use crate::job::{PoolEnd, PoolJob, PoolMade};
 use nm_base::Geometry;
-use nm_event::{Action, Reply, Scanned, Step};
+use nm_event::{Action, Reply, Scanned, Step, scanned_word};
 use nm_part::{Part, Piece};
 
 /// How far a task has come.
@@ -39,38 +38,6 @@ pub struct PoolTask {
     made: PoolMade,
     scan: Scanned,
     stage: Stage,
-}
-
-/// How many words the free frames of a tier have.
-fn free_words(g: &Geometry, tier: u32) -> u32
-    requires { tier < length g.now.tiers }
-    ensures { result ≡ free_words g.now tier }
-{
-    (g.tiers[tier as usize] + 63) / 64
-}
-
-/// The place of the lowest bit that is set.
-#[tactic(auto, unfolding(nm_event::specs::After::least_bit))]
-fn least_bit(word: u64) -> u32
-    ensures value { result ≡ least_bit word }
-    ensures bound { result ≤ 64 }
-{
-    word.trailing_zeros()
-}
-
-/// The least frame found so far, after a word whose bit 0 stands for the frame `base`.
-fn least_with(least: Option<u32>, base: u32, word: u64) -> Option<u32>
-    requires { base + 64 < 2 ^ 32 }
-    ensures { result ≡ least_with least base word }
-{
-    match least {
-        Some(frame) => Some(frame),
-        None => if word == 0 {
-            None
-        } else {
-            Some(base + least_bit(word))
-        },
-    }
 }
 
 impl PoolTask {
@@ -114,7 +81,7 @@ impl PoolTask {
                 job,
                 tier,
                 base: g.first_frame(tier),
-                words: free_words(g, tier),
+                words: g.free_words(tier),
             },
             scan: Scanned {
                 words: 0,
@@ -181,12 +148,7 @@ impl PoolTask {
         requires sum { self.now.scan.sum + count_ones word < 2 ^ 32 }
         ensures { result ≡ scanned_word (self.now.made.base + 64 * self.now.scan.words) word self.now.scan }
     {
-        let base = self.made.base + 64 * self.scan.words;
-        Scanned {
-            words: self.scan.words + 1,
-            sum: self.scan.sum + word.count_ones(),
-            least: least_with(self.scan.least, base, word),
-        }
+        scanned_word(self.made.base + 64 * self.scan.words, word, self.scan)
     }
 }
 
