@@ -2,6 +2,4 @@
 #![tactic(auto)]
 
 #[cfg(test)]
-mod composites;
-#[cfg(test)]
 mod rows;
