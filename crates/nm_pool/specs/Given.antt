@@ -1,5 +1,5 @@
 -- When a pool task may begin, and the view that it leaves.
-use Rattle.std.specs.Prelude.{◌≡◌, ◌≢◌, ℕ, ◌+◌, ◌<◌, length, None, Some, IsSome, All}
+use Rattle.std.specs.Prelude.{◌≡◌, ◌≢◌, ℕ, ◌<◌, length, None, Some, IsSome, All}
 use Rattle.nm_base.specs.Geometry.{Geometry, IsGeometry, IsInTier, first_frame, frame_count}
 use Rattle.nm_view.specs.declared.view.Fill.TheVariants.{Raw}
 use Rattle.nm_view.specs.Lists.{find, erase}

@@ -1,5 +1,5 @@
 -- What a shootdown leaves of the operations of a view.
-use Rattle.std.proofs.Common.{◌≡◌, ℕ, ◌==◌, if◌then◌else◌, Bool, true, false, List, [], ◌∷◌, Option, Some, IsTrue, IsSomeAnd, map, refl, ap, ◌∙◌}
+use Rattle.std.proofs.Common.{◌≡◌, ℕ, Some, IsTrue, IsSomeAnd, ap, ◌∙◌}
 use Rattle.std.specs.Prelude.{option_map}
 use Rattle.nm_base.specs.Geometry.{Geometry}
 use Rattle.nm_view.specs.Lists.{find}
