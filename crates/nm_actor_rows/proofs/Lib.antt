@@ -1,2 +1,2 @@
-pub mod Surveyed
 pub mod Nesting
+pub mod Surveyed

@@ -6,11 +6,11 @@ use Rattle.nm_action.specs.declared.action.Action.{Action}
 use Rattle.nm_action.specs.declared.action.Action.TheVariants.{Lock, Look, Unlock, Bump}
 use Rattle.nm_action.specs.declared.action.Reply.TheVariants.{Done, Word, Busy}
 use Rattle.nm_action.specs.Own.{Own}
-use Rattle.nm_view.specs.Views.{Op, View}
+use Rattle.nm_view.specs.Views.{Op, View, most_bumps}
 use Rattle.nm_view.specs.Opening.{opening, opened}
 use Rattle.nm_view.specs.Lists.{find}
-use Rattle.nm_view.specs.Operations.{page_of, op_under, IsTaken}
-use Rattle.nm_event.specs.Fitting.{Fits, IsAsKnown, most_bumps}
+use Rattle.nm_view.specs.Operations.{page_of, op_under}
+use Rattle.nm_event.specs.Fitting.{Fits, IsAsKnown}
 use Rattle.nm_part.specs.Parts.{IsAsked}
 use Rattle.nm_compose.specs.Acts.{MayAct}
 use Rattle.nm_survey.specs.declared.survey.SurveyMade.{SurveyMade}
@@ -35,43 +35,30 @@ pub fits-locked : (g : Geometry) (v : View) (page : ℕ) → Fits g v (Lock page
 fits-locked g v page = record { kind = tt; told = tt }
 
 pub fits-busy : (g : Geometry) (v : View) (page w : ℕ) → 0 < w → w < 2 ^ 64 → Fits g v (Lock page) (Busy w)
-fits-busy g v page w some small = record { kind = tt; told = (small, λ e. omega (arith, e, some)) }
+fits-busy g v page w some small = record { kind = tt; told = record { bits = small; said = λ e. omega (arith, e, some) } }
 
 pub fits-unlocked : (g : Geometry) (v : View) (page : ℕ) → Fits g v (Unlock page) Done
 fits-unlocked g v page = record { kind = tt; told = tt }
 
 known-none : (b r v : ℕ) (test : Bool) → IfSome (if test then Some (opened b r) else None) (IsAsKnown v 0)
-known-none b r v true = record { looked = λ e. tt; home = tt; shadow = tt }
+known-none b r v true = record { looked = λ e. tt; taken = λ t. refl; home = tt; shadow = tt }
 known-none b r v false = tt
-
--- where v is taken, a word of it that is 0 is 0
-abbrev IsAbsentTaken : ℕ → Op → Type 0
-IsAbsentTaken v o = let zero : ℕ = 0 in IsTaken o v → zero ≡ zero
-
-taken-none : (b r v : ℕ) (test : Bool) → IfSome (if test then Some (opened b r) else None) (IsAbsentTaken v)
-taken-none b r v true = λ t. refl
-taken-none b r v false = tt
 
 -- where the view has one operation, in which nothing is known, no virtual page need be mapped
 known-under : (view : View) (b r v : ℕ) (page : Option ℕ) → view.ops ≡ opened b r ∷ [] → IfSome (op_under view page) (IsAsKnown v 0)
 known-under view b r v None e = tt
 known-under view b r v (Some p) e = let P : List Op → Type 0 = λ ops. IfSome (find page_of p ops) (IsAsKnown v 0) in subst P (sym e) (known-none b r v (b == p))
 
-taken-under : (view : View) (b r v : ℕ) (page : Option ℕ) → view.ops ≡ opened b r ∷ [] → IfSome (op_under view page) (IsAbsentTaken v)
-taken-under view b r v None e = tt
-taken-under view b r v (Some p) e = let P : List Op → Type 0 = λ ops. IfSome (find page_of p ops) (IsAbsentTaken v) in subst P (sym e) (taken-none b r v (b == p))
-
 pub fits-looked : (g : Geometry) (view : View) (b r v : ℕ) → view.ops ≡ opened b r ∷ [] → Fits g view (Look v) (Word 0)
 fits-looked g view b r v e = record {
   kind = tt;
-  told = (
-    omega arith,
-    record {
+  told = record {
+    bits = omega arith;
+    said = record {
       table = record { layout = inl refl; frame = λ n. absurd (n refl); writable = λ w. cc; saved = λ s. cc };
       known = known-under view b r v (backing_page g v) e;
-      taken = taken-under view b r v (backing_page g v) e;
-    },
-  );
+    };
+  };
 }
 
 -- a machine without pages, tiers and processors
@@ -84,4 +71,4 @@ may-bump action g e =
     subst P (sym e) (record { quiet = tt; allowed = record { range = tt; permitted = record { few = omega arith; dry = All-nil _ } } })
 
 pub fits-bumped : (g : Geometry) (v : View) (word : ℕ) → word ≤ most_bumps → word < 2 ^ 64 → Fits g v Bump (Word word)
-fits-bumped g v word most small = record { kind = tt; told = (small, most) }
+fits-bumped g v word most small = record { kind = tt; told = record { bits = small; said = most } }

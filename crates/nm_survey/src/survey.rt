@@ -114,7 +114,7 @@ impl Plan<Act> for Survey {
 
     ghost may_begin = { MaySurvey };
 
-    ghost shape = { λ made g own mapped. IsSurvey made own mapped };
+    ghost shape = { IsSurvey };
 
     ghost leaves = { λ made g view mapped left. IsSurveyed view left };
 
