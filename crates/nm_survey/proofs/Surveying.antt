@@ -26,7 +26,7 @@ use Rattle.nm_survey.specs.declared.survey.Survey.{Survey}
 use Rattle.nm_survey.specs.declared.survey.Stage.{Stage}
 use Rattle.nm_survey.specs.declared.survey.Stage.TheVariants.{Locking, Looking, Unlocking}
 use Rattle.nm_survey.specs.declared.survey.SurveyMade.{SurveyMade}
-use Rattle.nm_survey.specs.Surveys.{numbers_from, count_with, count_after, IsSurveyed, Unlocks, LookAt, Looks, AfterLock, IsSurvey, MaySurvey, HasLocked, IsLocking, survey_stages, survey_action, left_at, looking_from}
+use Rattle.nm_survey.specs.Surveys.{numbers_from, count_with, count_after, IsSurveyed, Unlocks, LookAt, Looks, AfterLock, IsSurvey, MaySurvey, HasLocked, IsAtLock, survey_stages, survey_action, left_at, looking_from}
 
 -- The operation on the page.
 
@@ -54,7 +54,7 @@ fresh-now : (page : ℕ) (first now : View) → now ≡ first → op_on first pa
 fresh-now page first now same fresh = rw same fresh
 
 -- the page was locked
-pub locked-done : (made : SurveyMade) (g : Geometry) (first now later : View) → IsLocking made g first now → IsActed g now (Lock made.page) Done later → HasLocked made g first later
+pub locked-done : (made : SurveyMade) (g : Geometry) (first now later : View) → IsAtLock made g first now → IsActed g now (Lock made.page) Done later → HasLocked made g first later
 locked-done made g first now later at acted =
     let L : View → Type 0 = λ v. HasLocked made g first v in
     subst L (sym acted.is) (record {

@@ -92,12 +92,12 @@ pub record HasLocked (made : SurveyMade) (g : Geometry) (first now : View) : Typ
   pub rest : now ≡ record first { ops = now.ops }
 
 -- it has begun
-pub record IsLocking (made : SurveyMade) (g : Geometry) (first now : View) : Type 0 where
+pub record IsAtLock (made : SurveyMade) (g : Geometry) (first now : View) : Type 0 where
   pub may : MaySurvey made g first
   pub begun : now ≡ first
 
 -- so many of the virtual pages before this one are mapped
-pub record IsLooking (made : SurveyMade) (vpage mapped : ℕ) (g : Geometry) (first now : View) : Type 0 where
+pub record IsAtLook (made : SurveyMade) (vpage mapped : ℕ) (g : Geometry) (first now : View) : Type 0 where
   pub locked : HasLocked made g first now
   pub within : vpage < made.vpages
   pub count : mapped ≤ vpage
@@ -105,8 +105,8 @@ pub record IsLooking (made : SurveyMade) (vpage mapped : ℕ) (g : Geometry) (fi
 -- what is known at a stage
 abbrev pub KnownAt : SurveyMade → Stage → Geometry → View → View → Type 0
 KnownAt made New g first now = ⊥
-KnownAt made Locking g first now = IsLocking made g first now
-KnownAt made (Looking vpage mapped) g first now = IsLooking made vpage mapped g first now
+KnownAt made Locking g first now = IsAtLock made g first now
+KnownAt made (Looking vpage mapped) g first now = IsAtLook made vpage mapped g first now
 KnownAt made (Unlocking mapped) g first now = HasLocked made g first now
 
 abbrev pub survey_stages : Stages SurveyMade Stage Action Reply (Option ℕ)
