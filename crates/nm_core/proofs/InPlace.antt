@@ -13,16 +13,15 @@ use Rattle.nm_view.proofs.Items.{all_find}
 use Rattle.nm_view.specs.Operations.{cached_page, page_of, op_on, known_home}
 use Rattle.nm_permit.specs.Permitted.{Allowed, MayCopyLoad, IsCachedDirty}
 use Rattle.nm_words.specs.Names.{IsPlace}
-use Rattle.nm_shape.specs.Keyed.{IsKeyed, IsOpKeyed}
-use Rattle.nm_core.specs.Named.{NamesFrames}
+use Rattle.nm_shape.specs.Keyed.{IsKeyed, IsOpKeyed, IsEntryInRange}
 use Rattle.nm_step.specs.Table.{where_of, entry_frame, cached_frame, named_frame, home_frame, free_word_of}
 use Rattle.nm_core.proofs.Keyed.{some_and, some_is}
 
 -- a cached translation leads to a frame
-cached : (g : Geometry) (view : View) (v : ℕ) → NamesFrames g view → IsSome (find cached_page v view.cache) → IsFrame g (cached_frame view v)
-cached g view v names some =
+cached : (g : Geometry) (view : View) (v : ℕ) → IsKeyed g view → IsSome (find cached_page v view.cache) → IsFrame g (cached_frame view v)
+cached g view v keyed some =
     let e = some_is (find cached_page v view.cache) some in
-    let frame : IsFrame g e.0.frame = all_find cached_page v (λ e. IsFrame g e.frame) view.cache e.0 names.cache e.1 in
+    let frame : IsFrame g e.0.frame = (all_find cached_page v (IsEntryInRange g) view.cache e.0 keyed.cache e.1).frame in
     let is : cached_frame view v ≡ e.0.frame = ap entry_frame e.1 in
     omega (arith, frame, is)
 
@@ -50,35 +49,35 @@ IsPlace-free_word_of g f frame =
     (at.exists, omega (arith, at.from, at.below, size))
 
 -- the machine has the word of each permitted action
-pub IsPlace-where_of : (g : Geometry) (view : View) (a : Action) → IsKeyed g view → NamesFrames g view → Allowed g view a → IsPlace g (where_of g view a)
-IsPlace-where_of g view (Load v i) keyed names may = (cached g view v names may.permitted.cached, may.range.index)
-IsPlace-where_of g view (Store v i x) keyed names may = (cached g view v names (dirty_some g view v may.permitted.cached), may.range.index)
-IsPlace-where_of g view (Add v i x) keyed names may = (cached g view v names (dirty_some g view v may.permitted.cached), may.range.index)
-IsPlace-where_of g view (Look v) keyed names may = may.range
-IsPlace-where_of g view (Walk v e write) keyed names may = may.range
-IsPlace-where_of g view (Peek v) keyed names may = may.range
-IsPlace-where_of g view Poll keyed names may = tt
-IsPlace-where_of g view (Ack to) keyed names may = may.permitted.processor
-IsPlace-where_of g view (Lock b) keyed names may = may.range
-IsPlace-where_of g view (Unlock b) keyed names may = may.range
-IsPlace-where_of g view Bump keyed names may = tt
-IsPlace-where_of g view (SeeAck p) keyed names may = may.range
-IsPlace-where_of g view (Raise v) keyed names may = may.range
-IsPlace-where_of g view (Soften v bit) keyed names may = may.range
-IsPlace-where_of g view (Arm v) keyed names may = may.range
-IsPlace-where_of g view (ClearDirty v) keyed names may = may.range
-IsPlace-where_of g view (Unmap v) keyed names may = may.range
-IsPlace-where_of g view (Map v word) keyed names may = may.range
-IsPlace-where_of g view (Grant v) keyed names may = may.range
-IsPlace-where_of g view (CopyLoad b i) keyed names may = (copied g view b i keyed may.permitted, may.range.index)
-IsPlace-where_of g view (CopyStore b f i x) keyed names may = (may.range.frame, may.range.index)
-IsPlace-where_of g view (SetHome b f) keyed names may = may.range.page
-IsPlace-where_of g view (SetShadow b m s) keyed names may = may.range.master
-IsPlace-where_of g view (TakeTurn t) keyed names may = may.range
-IsPlace-where_of g view (Scan t k) keyed names may = (may.range.tier, may.range.index)
-IsPlace-where_of g view (GiveFrame f) keyed names may = IsPlace-free_word_of g f may.range
-IsPlace-where_of g view (PutFrame f) keyed names may = IsPlace-free_word_of g f may.range
-IsPlace-where_of g view (ReleaseTurn t) keyed names may = may.range
-IsPlace-where_of g view (Mark b old new) keyed names may = may.range
-IsPlace-where_of g view (Read b (cells.Home page)) keyed names may = let at : page ≡ b = may.range.cell in omega (arith, at, may.range.page)
-IsPlace-where_of g view (Read b (cells.Shadow frame)) keyed names may = may.range.cell
+pub IsPlace-where_of : (g : Geometry) (view : View) (a : Action) → IsKeyed g view → Allowed g view a → IsPlace g (where_of g view a)
+IsPlace-where_of g view (Load v i) keyed may = (cached g view v keyed may.permitted.cached, may.range.index)
+IsPlace-where_of g view (Store v i x) keyed may = (cached g view v keyed (dirty_some g view v may.permitted.cached), may.range.index)
+IsPlace-where_of g view (Add v i x) keyed may = (cached g view v keyed (dirty_some g view v may.permitted.cached), may.range.index)
+IsPlace-where_of g view (Look v) keyed may = may.range
+IsPlace-where_of g view (Walk v e write) keyed may = may.range
+IsPlace-where_of g view (Peek v) keyed may = may.range
+IsPlace-where_of g view Poll keyed may = tt
+IsPlace-where_of g view (Ack to) keyed may = may.permitted.processor
+IsPlace-where_of g view (Lock b) keyed may = may.range
+IsPlace-where_of g view (Unlock b) keyed may = may.range
+IsPlace-where_of g view Bump keyed may = tt
+IsPlace-where_of g view (SeeAck p) keyed may = may.range
+IsPlace-where_of g view (Raise v) keyed may = may.range
+IsPlace-where_of g view (Soften v bit) keyed may = may.range
+IsPlace-where_of g view (Arm v) keyed may = may.range
+IsPlace-where_of g view (ClearDirty v) keyed may = may.range
+IsPlace-where_of g view (Unmap v) keyed may = may.range
+IsPlace-where_of g view (Map v word) keyed may = may.range
+IsPlace-where_of g view (Grant v) keyed may = may.range
+IsPlace-where_of g view (CopyLoad b i) keyed may = (copied g view b i keyed may.permitted, may.range.index)
+IsPlace-where_of g view (CopyStore b f i x) keyed may = (may.range.frame, may.range.index)
+IsPlace-where_of g view (SetHome b f) keyed may = may.range.page
+IsPlace-where_of g view (SetShadow b m s) keyed may = may.range.master
+IsPlace-where_of g view (TakeTurn t) keyed may = may.range
+IsPlace-where_of g view (Scan t k) keyed may = (may.range.tier, may.range.index)
+IsPlace-where_of g view (GiveFrame f) keyed may = IsPlace-free_word_of g f may.range
+IsPlace-where_of g view (PutFrame f) keyed may = IsPlace-free_word_of g f may.range
+IsPlace-where_of g view (ReleaseTurn t) keyed may = may.range
+IsPlace-where_of g view (Mark b old new) keyed may = may.range
+IsPlace-where_of g view (Read b (cells.Home page)) keyed may = let at : page ≡ b = may.range.cell in omega (arith, at, may.range.page)
+IsPlace-where_of g view (Read b (cells.Shadow frame)) keyed may = may.range.cell

@@ -1,5 +1,5 @@
 -- That a permitted action leaves its word what it can be.
-use Rattle.std.proofs.Common.{◌≡◌, ℕ, ◌+◌, ◌*◌, ◌^◌, ◌<◌, ◌≤◌, ◌==◌, Bool, true, false, if◌then◌else◌, Option, Some, None, IsSomeAnd, IfSome, get_or, refl, subst, sym, inl, inr, arith}
+use Rattle.std.proofs.Common.{All, ◌≡◌, ℕ, ◌+◌, ◌*◌, ◌^◌, ◌<◌, ◌≤◌, ◌==◌, Bool, true, false, if◌then◌else◌, Option, Some, None, IsSomeAnd, IfSome, get_or, refl, subst, sym, inl, inr, arith}
 use Rattle.std.specs.Prelude.{bit_and, bit_or}
 use Rattle.std.proofs.lemmas.Bool.{eqb-true, cases_eq}
 use Rattle.std.proofs.lemmas.Nat.Bits.{bit_at_and, bit_at_or, bit_at-pow_other, bit_at-lt}
@@ -26,7 +26,7 @@ use Rattle.nm_step.specs.Table.{where_of, change_of, bit_mask}
 use Rattle.nm_step.proofs.Cases.{Claim, InReq, InPte, InStamp, InHome, InShadow, InFree, OnReq, OnPte, OnStamp, OnHome, OnShadow, OnFree, by_req, by_pte, by_stamp, by_home, by_shadow, by_free}
 use Rattle.nm_shape.specs.Keyed.{IsKeyed, IsOpKeyed}
 use Rattle.nm_core.specs.Drawn.{bumps_after, raises_after}
-use Rattle.nm_core.specs.Named.{NamesFrames, AreTakenInRange}
+use Rattle.nm_core.specs.Named.{AreTakenInRange}
 use Rattle.nm_core.proofs.Keyed.{some_and, all_op_of}
 
 -- Table words.
@@ -52,11 +52,11 @@ fresh g v word o keyed is =
     let home : frame_of word + 1 ≤ frame_count g = rw is.home at keyed.home in
     IsTableInRange-present g word (omega (arith, home)) is.present
 
-pub mapped : (g : Geometry) (view : View) (v word : ℕ) → IsKeyed g view → NamesFrames g view → IsSomeAnd (op_of g view v) (MayMap g v word) → IsTableInRange g word
-mapped g view v word keyed names may =
+pub mapped : (g : Geometry) (view : View) (v word : ℕ) → IsKeyed g view → All (AreTakenInRange g) view.ops → IsSomeAnd (op_of g view v) (MayMap g v word) → IsTableInRange g word
+mapped g view v word keyed taken may =
     let o = some_and (op_of g view v) (MayMap g v word) may in
     elim o.1.1.fits [
-      | inl is ↦ back g v word o.0 (all_op_of g (AreTakenInRange g) v view o.0 names.taken o.1.0) is
+      | inl is ↦ back g v word o.0 (all_op_of g (AreTakenInRange g) v view o.0 taken o.1.0) is
       | inr is ↦ fresh g v word o.0 (all_op_of g (IsOpKeyed g) v view o.0 keyed.ops o.1.0) is
     ]
 
@@ -95,15 +95,15 @@ Stays g view bumps raises n a c change = Allowed g view a → IsRanged g bumps r
 stays_req : (g : Geometry) (view : View) (bumps raises n : ℕ) → bumps + 1 < 2 ^ 64 → OnReq (Stays g view bumps raises n)
 stays_req g view bumps raises n few = record { poll = λ may h. h; bump = λ may h. omega (arith, h, few) }
 
-stays_pte : (g : Geometry) (view : View) (bumps raises n : ℕ) → IsKeyed g view → NamesFrames g view → 0 < frame_count g → OnPte (Stays g view bumps raises n)
-stays_pte g view bumps raises n keyed names some = record {
+stays_pte : (g : Geometry) (view : View) (bumps raises n : ℕ) → IsKeyed g view → All (AreTakenInRange g) view.ops → 0 < frame_count g → OnPte (Stays g view bumps raises n)
+stays_pte g view bumps raises n keyed taken some = record {
   look = λ v may h. h;
   walk = λ v e write may h. walked g n e write h;
   soften = λ v bit may h. IsTableInRange-and g n (all_but (bit_mask bit)) h;
   arm = λ v may h. IsTableInRange-or g n hint_mask (omega arith) h;
   clear_dirty = λ v may h. IsTableInRange-and g n (all_but dirty_mask) h;
   unmap = λ v may h. IsTableInRange-zero g some;
-  map = λ v word may h. mapped g view v word keyed names may.permitted;
+  map = λ v word may h. mapped g view v word keyed taken may.permitted;
   grant = λ v may h. IsTableInRange-xor g n grant_mask (omega arith) h;
 }
 
@@ -127,18 +127,18 @@ stays_free g view bumps raises n = record {
 here : (In : Where → Type 0) (c d : Where) → c ≡ d → In d → In c
 here In c d e h = subst In (sym e) h
 
-stays : (g : Geometry) (view : View) (bumps raises n : ℕ) (a : Action) (c : Where) → where_of g view a ≡ c → IsKeyed g view → NamesFrames g view → 0 < frame_count g → bumps + 1 < 2 ^ 64 → Stays g view bumps raises n a (where_of g view a) (change_of g view a)
-stays g view bumps raises n a Req e keyed names some few = by_req g view (Stays g view bumps raises n) (stays_req g view bumps raises n few) a (here InReq (where_of g view a) Req e tt)
-stays g view bumps raises n a (Pte v) e keyed names some few = by_pte g view (Stays g view bumps raises n) (stays_pte g view bumps raises n keyed names some) a (here InPte (where_of g view a) (Pte v) e tt)
-stays g view bumps raises n a (Stamp v) e keyed names some few = by_stamp g view (Stays g view bumps raises n) (stays_stamp g view bumps raises n) a (here InStamp (where_of g view a) (Stamp v) e tt)
-stays g view bumps raises n a (Home b) e keyed names some few = by_home g view (Stays g view bumps raises n) (stays_home g view bumps raises n) a (here InHome (where_of g view a) (Home b) e tt)
-stays g view bumps raises n a (Shadow m) e keyed names some few = by_shadow g view (Stays g view bumps raises n) (stays_shadow g view bumps raises n) a (here InShadow (where_of g view a) (Shadow m) e tt)
-stays g view bumps raises n a (Free t k) e keyed names some few = by_free g view (Stays g view bumps raises n) (stays_free g view bumps raises n) a (here InFree (where_of g view a) (Free t k) e tt)
-stays g view bumps raises n a (Lock b) e keyed names some few = λ may h. here (λ d. IsRanged g (bumps_after a bumps) (raises_after a raises) d (changed (change_of g view a) n)) (where_of g view a) (Lock b) e tt
-stays g view bumps raises n a (Mark b) e keyed names some few = λ may h. here (λ d. IsRanged g (bumps_after a bumps) (raises_after a raises) d (changed (change_of g view a) n)) (where_of g view a) (Mark b) e tt
-stays g view bumps raises n a (Ack p) e keyed names some few = λ may h. here (λ d. IsRanged g (bumps_after a bumps) (raises_after a raises) d (changed (change_of g view a) n)) (where_of g view a) (Ack p) e tt
-stays g view bumps raises n a (Turn t) e keyed names some few = λ may h. here (λ d. IsRanged g (bumps_after a bumps) (raises_after a raises) d (changed (change_of g view a) n)) (where_of g view a) (Turn t) e tt
-stays g view bumps raises n a (Mem f i) e keyed names some few = λ may h. here (λ d. IsRanged g (bumps_after a bumps) (raises_after a raises) d (changed (change_of g view a) n)) (where_of g view a) (Mem f i) e tt
+stays : (g : Geometry) (view : View) (bumps raises n : ℕ) (a : Action) (c : Where) → where_of g view a ≡ c → IsKeyed g view → All (AreTakenInRange g) view.ops → 0 < frame_count g → bumps + 1 < 2 ^ 64 → Stays g view bumps raises n a (where_of g view a) (change_of g view a)
+stays g view bumps raises n a Req e keyed taken some few = by_req g view (Stays g view bumps raises n) (stays_req g view bumps raises n few) a (here InReq (where_of g view a) Req e tt)
+stays g view bumps raises n a (Pte v) e keyed taken some few = by_pte g view (Stays g view bumps raises n) (stays_pte g view bumps raises n keyed taken some) a (here InPte (where_of g view a) (Pte v) e tt)
+stays g view bumps raises n a (Stamp v) e keyed taken some few = by_stamp g view (Stays g view bumps raises n) (stays_stamp g view bumps raises n) a (here InStamp (where_of g view a) (Stamp v) e tt)
+stays g view bumps raises n a (Home b) e keyed taken some few = by_home g view (Stays g view bumps raises n) (stays_home g view bumps raises n) a (here InHome (where_of g view a) (Home b) e tt)
+stays g view bumps raises n a (Shadow m) e keyed taken some few = by_shadow g view (Stays g view bumps raises n) (stays_shadow g view bumps raises n) a (here InShadow (where_of g view a) (Shadow m) e tt)
+stays g view bumps raises n a (Free t k) e keyed taken some few = by_free g view (Stays g view bumps raises n) (stays_free g view bumps raises n) a (here InFree (where_of g view a) (Free t k) e tt)
+stays g view bumps raises n a (Lock b) e keyed taken some few = λ may h. here (λ d. IsRanged g (bumps_after a bumps) (raises_after a raises) d (changed (change_of g view a) n)) (where_of g view a) (Lock b) e tt
+stays g view bumps raises n a (Mark b) e keyed taken some few = λ may h. here (λ d. IsRanged g (bumps_after a bumps) (raises_after a raises) d (changed (change_of g view a) n)) (where_of g view a) (Mark b) e tt
+stays g view bumps raises n a (Ack p) e keyed taken some few = λ may h. here (λ d. IsRanged g (bumps_after a bumps) (raises_after a raises) d (changed (change_of g view a) n)) (where_of g view a) (Ack p) e tt
+stays g view bumps raises n a (Turn t) e keyed taken some few = λ may h. here (λ d. IsRanged g (bumps_after a bumps) (raises_after a raises) d (changed (change_of g view a) n)) (where_of g view a) (Turn t) e tt
+stays g view bumps raises n a (Mem f i) e keyed taken some few = λ may h. here (λ d. IsRanged g (bumps_after a bumps) (raises_after a raises) d (changed (change_of g view a) n)) (where_of g view a) (Mem f i) e tt
 
-pub IsRanged-changed : (g : Geometry) (view : View) (a : Action) (bumps raises n : ℕ) → IsKeyed g view → NamesFrames g view → Allowed g view a → 0 < frame_count g → bumps + 1 < 2 ^ 64 → IsRanged g bumps raises (where_of g view a) n → IsRanged g (bumps_after a bumps) (raises_after a raises) (where_of g view a) (changed (change_of g view a) n)
-IsRanged-changed g view a bumps raises n keyed names may some few h = stays g view bumps raises n a (where_of g view a) refl keyed names some few may h
+pub IsRanged-changed : (g : Geometry) (view : View) (a : Action) (bumps raises n : ℕ) → IsKeyed g view → All (AreTakenInRange g) view.ops → Allowed g view a → 0 < frame_count g → bumps + 1 < 2 ^ 64 → IsRanged g bumps raises (where_of g view a) n → IsRanged g (bumps_after a bumps) (raises_after a raises) (where_of g view a) (changed (change_of g view a) n)
+IsRanged-changed g view a bumps raises n keyed taken may some few h = stays g view bumps raises n a (where_of g view a) refl keyed taken some few may h

@@ -79,7 +79,7 @@ writes g actor view (Lock b) n is k may = omega (arith, k.keyed.actor, is.ranges
 writes g actor view (Unlock b) n is k may = omega arith
 writes g actor view (Arm v) n is k may = omega arith
 writes g actor view (Unmap v) n is k may = omega arith
-writes g actor view (Map v word) n is k may = omega (arith, HasLayout-lt word (mapped g view v word k.keyed k.names may.permitted).layout)
+writes g actor view (Map v word) n is k may = omega (arith, HasLayout-lt word (mapped g view v word k.keyed k.taken may.permitted).layout)
 writes g actor view (Grant v) n is k may = omega arith
 writes g actor view (CopyStore b f i x) n is k may = may.range.value
 writes g actor view (SetHome b f) n is k may = let frames : frame_count g ≤ 4096 = omega (arith, is.ranges.1) in omega (arith, may.range.frame, frames)

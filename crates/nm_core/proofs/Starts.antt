@@ -6,8 +6,6 @@ use Rattle.std.proofs.lemmas.List.Elements.{All-nil}
 use Rattle.std.proofs.lemmas.List.FromFn.{length-map-range_with_len, get_or-map-range_with_len}
 use Rattle.std.proofs.lemmas.List.Sums.{sum_by-cons}
 use Rattle.nm_base.specs.Geometry.{Geometry, IsGeometry}
-use Rattle.nm_view.specs.declared.view.CacheEntry.{CacheEntry}
-use Rattle.nm_base.specs.Ranges.{IsFrame}
 use Rattle.nm_view.specs.Views.{View}
 use Rattle.nm_view.specs.Opening.{opening, IsActor}
 use Rattle.nm_shape.proofs.Laws.{keyed_opening}
@@ -29,7 +27,7 @@ view_opening : (g : Geometry) (actor : ℕ) → IsActor g actor → IsViewKept g
 view_opening g actor there = record {
   number = refl;
   keyed = keyed_opening g actor there;
-  names = record { cache = All-nil (λ (e : CacheEntry). IsFrame g e.frame); taken = All-nil (AreTakenInRange g) };
+  taken = All-nil (AreTakenInRange g);
   polled = omega arith;
 }
 

@@ -27,7 +27,7 @@ use Rattle.nm_core.specs.Kept.{IsViewKept, IsKept, bumps_of, raises_of}
 use Rattle.nm_core.proofs.InPlace.{IsPlace-where_of}
 use Rattle.nm_core.proofs.InRange.{IsRanged-changed}
 use Rattle.nm_core.proofs.InWords.{IsWord-changed}
-use Rattle.nm_core.proofs.Naming.{NamesFrames-after, HasCounted-after}
+use Rattle.nm_core.proofs.Naming.{taken-after, HasCounted-after}
 use Rattle.nm_core.proofs.Counts.{bumps-sum, raises-sum, raises-more, bumps-elsewhere}
 use Rattle.nm_core.proofs.Answers.{IsInRangeReply-reply_of}
 
@@ -49,7 +49,7 @@ some_frame g h = omega (arith, h.room)
 
 -- the machine has the word of a permitted action, and it is what it can be
 pub place_there : (s : State) (actor : ℕ) (a : Action) → IsKept s → actor < length s.views → Allowed s.geometry (view_of s actor) a → IsPlace s.geometry (place_found s actor a)
-place_there s actor a k there may = IsPlace-where_of s.geometry (view_of s actor) a (k.views actor there).keyed (k.views actor there).names may
+place_there s actor a k there may = IsPlace-where_of s.geometry (view_of s actor) a (k.views actor there).keyed may
 
 pub found_ranged : (s : State) (actor : ℕ) (a : Action) → IsKept s → actor < length s.views → Allowed s.geometry (view_of s actor) a → IsRanged s.geometry (bumps_of s) (raises_of s) (place_found s actor a) (word_found s actor a)
 found_ranged s actor a k there may = k.ranged (place_found s actor a) (place_there s actor a k there may)
@@ -76,7 +76,7 @@ view_kept g actor view a n named word keyed k =
     record {
       number = counted.number ∙ k.number;
       keyed = keyed;
-      names = NamesFrames-after g view a (reply_of (change_of g view a) n) named k.names;
+      taken = taken-after g view a (reply_of (change_of g view a) n) named k.taken;
       polled = rw counted.polled (polled_word g view a n view.req_seen word k.polled);
     }
 
@@ -102,7 +102,7 @@ ranged_step s actor a k there may =
     let g : Geometry = s.geometry in
     let view : View = view_of s actor in
     let found = found_ranged s actor a k there may in
-    let new = IsRanged-changed g view a (bumps_of s) (raises_of s) (word_found s actor a) (k.views actor there).keyed (k.views actor there).names may (some_frame g k.geometry) (omega (arith, few_bumps s k)) found in
+    let new = IsRanged-changed g view a (bumps_of s) (raises_of s) (word_found s actor a) (k.views actor there).keyed (k.views actor there).taken may (some_frame g k.geometry) (omega (arith, few_bumps s k)) found in
     subst (AreRanged g (bumps_after a (bumps_of s)) (raises_after a (raises_of s))) (sym (after_words s actor a))
     (AreRanged-with_word g (bumps_of s) (raises_of s) (bumps_after a (bumps_of s)) (raises_after a (raises_of s)) s.words (place_found s actor a) (changed (change_made s actor a) (word_found s actor a)) k.sizes (place_there s actor a k there may) (raises-more a (raises_of s)) (bumps-elsewhere g view a (bumps_of s)) new k.ranged)
 

@@ -1,12 +1,12 @@
 -- What every step of the machine keeps, whoever the actors are and whatever they do within what is permitted.
-use Rattle.std.specs.Prelude.{◌≡◌, ℕ, ◌<◌, length, sum_by}
+use Rattle.std.specs.Prelude.{All, ◌≡◌, ℕ, ◌<◌, length, sum_by}
 use Rattle.nm_base.specs.Geometry.{Geometry, IsGeometry}
 use Rattle.nm_base.specs.Ranges.{IsWord}
 use Rattle.nm_view.specs.Views.{View}
 use Rattle.nm_shape.specs.Keyed.{IsKeyed}
 use Rattle.nm_words.specs.Words.{HasSizes}
 use Rattle.nm_words.specs.Ranged.{AreRanged, AreWords}
-use Rattle.nm_core.specs.Named.{NamesFrames}
+use Rattle.nm_core.specs.Named.{AreTakenInRange}
 use Rattle.nm_core.specs.State.{State, view_of, actor_count}
 
 -- the bumps and the raises that all actors together have made
@@ -16,12 +16,12 @@ bumps_of s = sum_by (λ v. v.bumps) s.views
 abbrev pub raises_of : State → ℕ
 raises_of s = sum_by (λ v. v.raises) s.views
 
--- the view of an actor has its number, its numbers are in range, and so are the frames that it caches, the words that it
--- took and the number that it polled
+-- the view of an actor has its number, its numbers are in range, and so are the words that it took and the number that it
+-- polled
 pub record IsViewKept (g : Geometry) (actor : ℕ) (view : View) : Type 0 where
   pub number : view.number ≡ actor
   pub keyed : IsKeyed g view
-  pub names : NamesFrames g view
+  pub taken : All (AreTakenInRange g) view.ops
   pub polled : IsWord view.req_seen
 
 -- there is a view for each actor, and each word has 64 bits and is what it can be

@@ -4,6 +4,7 @@
 pub mod ends;
 mod reading;
 mod roles;
+pub mod runs;
 pub mod state;
 
 pub use ends::{EndWords, Role};

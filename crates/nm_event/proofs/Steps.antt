@@ -16,7 +16,7 @@ get_or_again [] i d = refl
 get_or_again (y ∷ ys) zero d = refl
 get_or_again (y ∷ ys) (suc i) d = get_or_again ys i d
 
--- a loop that has op_changed the first i items changes one more
+-- a loop that has changed the first i items changes one more
 pub map_step : {A : Type 0} (f : A → A) (xs ys : List A) (i : ℕ) (d : A) → i < length xs → ys ≡ map f (take i xs) ++ drop i xs → set ys i (f (get_or ys i d)) ≡ map f (take (i + 1) xs) ++ drop (i + 1) xs
 map_step f xs ys i d lt h = map_over_more f xs ys i (get_or ys i d) lt h (get_or_again ys i d)
 

@@ -66,12 +66,12 @@ kept_entries view End = []
 
 -- Operations.
 
--- the operations with the one on this page op_changed, if there is such a page
+-- the operations with the one on this page changed, if there is such a page
 abbrev pub edit_under : Option ℕ → (Op → Op) → List Op → List Op
 edit_under None f ops = ops
 edit_under (Some page) f ops = edit page_of page f ops
 
--- the operations with the one on the backing page of v op_changed
+-- the operations with the one on the backing page of v changed
 abbrev pub edit_of : Geometry → ℕ → (Op → Op) → List Op → List Op
 edit_of g v f ops = edit_under (backing_page g v) f ops
 

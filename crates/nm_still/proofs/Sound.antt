@@ -12,7 +12,7 @@ use Rattle.nm_base.specs.Geometry.{page_count, frame_count, backing_among}
 use Rattle.nm_base.proofs.Pages.{page_size}
 use Rattle.nm_flat.specs.Memory.{place, mapped_page}
 use Rattle.nm_flat.proofs.Places.{place-same}
-use Rattle.nm_still.specs.Inside.{Parts, IsStillSound, IsMapping, IsPlaceOf, homed_word, value_at, page_words}
+use Rattle.nm_still.specs.Inside.{Parts, IsStillSound, IsMapping, IsMemoryPlace, homed_word, value_at, page_words}
 use Rattle.nm_still.proofs.Words.{page_words-same, page_words-set, page_words-get}
 
 pub homed_word-none : (size : ℕ) (memory : List ℕ) (home i : ℕ) → home ≡ 0 → homed_word size memory home i ≡ 0
@@ -83,8 +83,8 @@ frame-lt p b f s home =
     omega (arith, home, s.within b, s.count, count_by-le-length (λ h. nat_lt 0 h) p.homes, s.homes_size, s.geometry.room)
 
 -- a word of a frame lies in the memory
-pub IsPlaceOf-frame : (p : Parts) (b i f : ℕ) → IsStillSound p → i < p.geometry.words → get_or p.homes b 0 ≡ f + 1 → IsPlaceOf p b i (f * p.geometry.words + i)
-IsPlaceOf-frame p b i f s word home = record {
+pub IsMemoryPlace-frame : (p : Parts) (b i f : ℕ) → IsStillSound p → i < p.geometry.words → get_or p.homes b 0 ≡ f + 1 → IsMemoryPlace p b i (f * p.geometry.words + i)
+IsMemoryPlace-frame p b i f s word home = record {
   frame = f;
   home = home;
   is = refl;
@@ -92,7 +92,7 @@ IsPlaceOf-frame p b i f s word home = record {
 }
 
 -- the memory has a word of a page at its place
-pub memory-place : (p : Parts) (b i at : ℕ) → b < page_count p.geometry → i < p.geometry.words → IsPlaceOf p b i at → get_or p.memory at 0 ≡ get_or (page_words p) (place p.geometry b i) 0
+pub memory-place : (p : Parts) (b i at : ℕ) → b < page_count p.geometry → i < p.geometry.words → IsMemoryPlace p b i at → get_or p.memory at 0 ≡ get_or (page_words p) (place p.geometry b i) 0
 memory-place p b i at page word is =
     ap (λ n. get_or p.memory n 0) is.is ∙ sym (homed_word-some p.geometry.words p.memory (get_or p.homes b 0) is.frame i is.home) ∙ sym (page_words-get p b i page word)
 
@@ -101,13 +101,13 @@ abbrev pub with_memory_word : Parts → ℕ → ℕ → Parts
 with_memory_word p at x = record p { memory = set p.memory at x }
 
 -- no other word of a page stands at a place
-place-other : (p : Parts) (b i at c j f : ℕ) → IsStillSound p → i < p.geometry.words → j < p.geometry.words → IsPlaceOf p b i at → get_or p.homes c 0 ≡ f + 1 → (c ≡ b → j ≢ i) → f * p.geometry.words + j ≢ at
+place-other : (p : Parts) (b i at c j f : ℕ) → IsStillSound p → i < p.geometry.words → j < p.geometry.words → IsMemoryPlace p b i at → get_or p.homes c 0 ≡ f + 1 → (c ≡ b → j ≢ i) → f * p.geometry.words + j ≢ at
 place-other p b i at c j f s word index is home other e =
     let same = place-same p.geometry f j is.frame i index word (e ∙ is.is) in
     let page : c ≡ b = s.own c b (omega (arith, home)) (home ∙ ap (λ n. n + 1) same.0 ∙ sym is.home) in
     other page same.1
 
-value_at-with_memory_word : (p : Parts) (b i at x c j : ℕ) → IsStillSound p → i < p.geometry.words → j < p.geometry.words → IsPlaceOf p b i at → (c ≡ b → j ≢ i) → value_at (with_memory_word p at x) c j ≡ value_at p c j
+value_at-with_memory_word : (p : Parts) (b i at x c j : ℕ) → IsStillSound p → i < p.geometry.words → j < p.geometry.words → IsMemoryPlace p b i at → (c ≡ b → j ≢ i) → value_at (with_memory_word p at x) c j ≡ value_at p c j
 value_at-with_memory_word p b i at x c j s word index is other =
     let w : ℕ = p.geometry.words in
     let h : ℕ = get_or p.homes c 0 in
@@ -119,7 +119,7 @@ value_at-with_memory_word p b i at x c j s word index is other =
     ]
 
 -- the word of that place is set in the list of all words
-pub page_words-with_memory_word : (p : Parts) (b i at x : ℕ) → IsStillSound p → b < page_count p.geometry → i < p.geometry.words → IsPlaceOf p b i at → page_words (with_memory_word p at x) ≡ set (page_words p) (place p.geometry b i) x
+pub page_words-with_memory_word : (p : Parts) (b i at x : ℕ) → IsStillSound p → b < page_count p.geometry → i < p.geometry.words → IsMemoryPlace p b i at → page_words (with_memory_word p at x) ≡ set (page_words p) (place p.geometry b i) x
 page_words-with_memory_word p b i at x s page word is =
     page_words-set p (with_memory_word p at x) b i x refl page word
     (homed_word-some p.geometry.words (set p.memory at x) (get_or p.homes b 0) is.frame i is.home ∙ ap (λ n. get_or (set p.memory at x) n 0) (sym is.is) ∙ get_or-set_same p.memory at x 0 is.within)

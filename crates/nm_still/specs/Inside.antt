@@ -43,7 +43,7 @@ pub record IsMapping (home word : ℕ) : Type 0 where
   pub here : home ≡ frame + 1
 
 -- the place in the memory of word i of page b, which has a frame
-pub record IsPlaceOf (p : Parts) (b i at : ℕ) : Type 0 where
+pub record IsMemoryPlace (p : Parts) (b i at : ℕ) : Type 0 where
   pub frame : ℕ
   pub home : slice_index p.homes b ≡ frame + 1
   pub is : at ≡ frame * p.geometry.words + i

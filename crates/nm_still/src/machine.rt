@@ -78,7 +78,7 @@ struct Machine<'a> {
 }
 
 impl<'a> Machine<'a> {
-    ghost use Rattle.nm_still.specs.Inside.{IsPlaceOf, IsStillSound, parts_of, page_words};
+    ghost use Rattle.nm_still.specs.Inside.{IsMemoryPlace, IsStillSound, parts_of, page_words};
 
     fn new(alloc: Global, g: &'a Geometry) -> Result<Machine<'a>, AllocError>
         ensures sound { IfOk result (λ m. IsStillSound (parts_of m)) }
@@ -129,7 +129,7 @@ impl<'a> Machine<'a> {
         ensures sound { IsStillSound (parts_of self.new) }
         ensures geometry { self.new.geometry.now ≡ self.old.geometry.now }
         ensures same { page_words (parts_of self.new) ≡ page_words (parts_of self.old) }
-        ensures place { IsPlaceOf (parts_of self.new) (mapped_page self.old.geometry.now v) w result }
+        ensures place { IsMemoryPlace (parts_of self.new) (mapped_page self.old.geometry.now v) w result }
     {
         let frame = self.mapped_frame(v);
         let g = self.geometry;
@@ -190,42 +190,5 @@ fn vpage_of(g: &Geometry, v: u32) -> VPage
     match g.vpages[v as usize] {
         Some(vpage) => vpage,
         None => unreachable!(),
-    }
-}
-
-#[cfg(test)]
-mod tests {
-    use super::*;
-    use std::test::Fail;
-
-    const FIRST: Option<VPage> = Some(VPage {
-        page: 0,
-        writable: true,
-    });
-
-    const ALIAS: Option<VPage> = Some(VPage {
-        page: 0,
-        writable: false,
-    });
-
-    const SECOND: Option<VPage> = Some(VPage {
-        page: 1,
-        writable: true,
-    });
-
-    const MOST: u64 = 18446744073709551615;
-
-    #[test]
-    fn loads_what_was_stored(rt: HostRuntime) -> Result<(), Fail> {
-        let g = Geometry::new(rt.alloc(), 2, &[4, 8], 1, &[FIRST, ALIAS, SECOND])?;
-        let mut still = Still::start(rt.alloc(), &g)?;
-        assert_eq!(rt; still.load(1, 1), 0);
-        still.store(0, 1, 9);
-        assert_eq!(rt; still.load(1, 1), 9);
-        still.store(2, 1, MOST);
-        still.store(2, 0, 7);
-        assert_eq!(rt; (still.load(0, 0), still.load(0, 1)), (0, 9));
-        assert_eq!(rt; (still.load(2, 0), still.load(2, 1)), (7, MOST));
-        Ok(())
     }
 }

@@ -1,4 +1,4 @@
--- Virtual pages counted_page by their backing page.
+-- Virtual pages counted by their backing page.
 use Rattle.std.proofs.Common.{◌≡◌, ◌≢◌, ℕ, ◌+◌, ◌^◌, ◌<◌, ◌≤◌, ◌==◌, nat_lt, Bool, true, false, List, length, take, get_or, set, Option, Some, None, refl, sym, ◌∙◌, arith, length-take}
 use Rattle.std.specs.Option.{IfSome}
 use Rattle.std.proofs.lemmas.Grind.{get_or-set_at}
@@ -31,7 +31,7 @@ mapped_none : (o : Option VPage) (b : ℕ) → option_map (λ q. q.page) o ≡ N
 mapped_none None b e = refl
 mapped_none (Some q) b e = absurd (cc)
 
--- the count of page b after one more virtual page is counted_page, which page p has
+-- the count of page b after one more virtual page, which page p has, is counted
 one_more : (counts : List ℕ) (p b old new : ℕ) (t : Bool) → (p == b) ≡ t → slice_index counts b ≡ old → (t ≡ true → new ≡ old + 1) → (t ≡ false → new ≡ old) → b < length counts → slice_index (slice_set counts p (slice_index counts p + 1)) b ≡ new
 one_more counts p b old new true e was one stays lt =
     let same : b ≡ p = grind (arith, e) in
@@ -43,7 +43,7 @@ one_more counts p b old new false e was one stays lt =
     let at : get_or (set counts p (get_or counts p 0 + 1)) b 0 ≡ get_or counts b 0 = get_or-set_other counts p b (get_or counts p 0 + 1) 0 apart in
     omega (arith, at, was, stays refl)
 
--- one more virtual page is counted_page
+-- one more virtual page is counted
 pub counts_more : (g : Geometry) (counts : List ℕ) (v : ℕ) (page : Option ℕ) → page ≡ backing_page g v → v < length g.vpages → HasCounts counts (take v g.vpages) (page_count g) → HasCounts (counted_page page counts) (take (v + 1) g.vpages) (page_count g)
 counts_more g counts v None e lt h = record {
   size = h.size;

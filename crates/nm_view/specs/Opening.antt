@@ -75,7 +75,7 @@ opening g number = record {
 abbrev pub IsActor : Geometry → ℕ → Type 0
 IsActor g number = number < g.cpus + 2
 
--- one more virtual page of a backing page is counted_page, if there is such a page
+-- the counts with one more virtual page of a backing page, if there is such a page
 abbrev pub counted_page : Option ℕ → List ℕ → List ℕ
 counted_page None counts = counts
 counted_page (Some page) counts = slice_set counts page (slice_index counts page + 1)
