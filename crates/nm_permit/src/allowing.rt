@@ -19,44 +19,40 @@ fn in_range(g: &Geometry, action: Action) -> bool
     ensures { IsTrue result ↔ InRange g.now action }
 {
     match action {
-        Action::Load { vpage, word } => g.is_vpage(vpage) && word < g.words,
-        Action::Store { vpage, word, .. } => g.is_vpage(vpage) && word < g.words,
-        Action::Add { vpage, word, .. } => g.is_vpage(vpage) && word < g.words,
-        Action::Look { vpage } => g.is_vpage(vpage),
-        Action::Walk { vpage, .. } => g.is_vpage(vpage),
-        Action::Peek { vpage } => g.is_vpage(vpage),
-        Action::Poll => true,
-        Action::Ack { .. } => true,
-        Action::Lock { page } => page < g.pages(),
-        Action::Unlock { page } => page < g.pages(),
-        Action::Bump => true,
+        Action::Poll | Action::Ack { .. } | Action::Bump => true,
+        Action::Load { vpage, word }
+        | Action::Store { vpage, word, .. }
+        | Action::Add { vpage, word, .. } => g.is_vpage(vpage) && word < g.words,
+        Action::Look { vpage }
+        | Action::Walk { vpage, .. }
+        | Action::Peek { vpage }
+        | Action::Raise { vpage }
+        | Action::Soften { vpage, .. }
+        | Action::Arm { vpage }
+        | Action::ClearDirty { vpage }
+        | Action::Unmap { vpage }
+        | Action::Map { vpage, .. }
+        | Action::Grant { vpage } => g.is_vpage(vpage),
+        Action::Lock { page } | Action::Unlock { page } | Action::Mark { page, .. } => {
+            page < g.pages()
+        }
         Action::SeeAck { cpu } => cpu < g.cpus,
-        Action::Raise { vpage } => g.is_vpage(vpage),
-        Action::Soften { vpage, .. } => g.is_vpage(vpage),
-        Action::Arm { vpage } => g.is_vpage(vpage),
-        Action::ClearDirty { vpage } => g.is_vpage(vpage),
-        Action::Unmap { vpage } => g.is_vpage(vpage),
-        Action::Map { vpage, .. } => g.is_vpage(vpage),
-        Action::Grant { vpage } => g.is_vpage(vpage),
         Action::CopyLoad { page, index } => page < g.pages() && index < g.words,
         Action::CopyStore {
             page,
             frame,
             index,
             ..
-        } => { is_page_if_any(g, page) && frame < g.frames() && index < g.words }
+        } => is_page_if_any(g, page) && frame < g.frames() && index < g.words,
         Action::SetHome { page, frame } => page < g.pages() && frame < g.frames(),
         Action::SetShadow {
             page,
             master,
             shadow,
-        } => { page < g.pages() && master < g.frames() && is_frame_if_any(g, shadow) }
-        Action::TakeTurn { tier } => g.is_tier(tier),
+        } => page < g.pages() && master < g.frames() && is_frame_if_any(g, shadow),
+        Action::TakeTurn { tier } | Action::ReleaseTurn { tier } => g.is_tier(tier),
         Action::Scan { tier, index } => g.is_tier(tier) && index < g.free_words(tier),
-        Action::GiveFrame { frame } => frame < g.frames(),
-        Action::PutFrame { frame } => frame < g.frames(),
-        Action::ReleaseTurn { tier } => g.is_tier(tier),
-        Action::Mark { page, .. } => page < g.pages(),
+        Action::GiveFrame { frame } | Action::PutFrame { frame } => frame < g.frames(),
         Action::Read { page, cell } => page < g.pages() && is_cell(g, page, cell),
     }
 }
@@ -121,23 +117,21 @@ fn permits(g: &Geometry, view: &ActorView, action: Action) -> bool
 {
     match action {
         Action::Load { vpage, .. } => view.number < g.cpus && is_among(&view.cache, vpage),
-        Action::Store { vpage, .. } => view.number < g.cpus && is_cached_dirty(view, vpage),
-        Action::Add { vpage, .. } => view.number < g.cpus && is_cached_dirty(view, vpage),
-        Action::Look { .. } => true,
+        Action::Store { vpage, .. } | Action::Add { vpage, .. } => {
+            view.number < g.cpus && is_cached_dirty(view, vpage)
+        }
+        Action::Look { .. } | Action::SeeAck { .. } | Action::Soften { .. } => true,
         Action::Walk {
             vpage,
             expect,
             write,
         } => may_walk(g, view, vpage, expect, write),
-        Action::Peek { .. } => view.number < g.cpus,
-        Action::Poll => view.number < g.cpus,
+        Action::Peek { .. } | Action::Poll => view.number < g.cpus,
         Action::Ack { to } => view.number < g.cpus && is_polled_for(view, to),
         Action::Lock { page } => may_lock(view, page),
         Action::Unlock { page } => view.op_on(page).is_some_and(|op| may_unlock(g, op)),
         Action::Bump => may_bump(view),
-        Action::SeeAck { .. } => true,
         Action::Raise { vpage } => may_raise(g, view, vpage),
-        Action::Soften { .. } => true,
         Action::Arm { vpage } => view
             .op_of(g, vpage)
             .is_some_and(|op| is_looked_mapped(op, vpage)),
