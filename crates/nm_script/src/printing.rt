@@ -174,7 +174,12 @@ fn push_text(out: &mut Vec<u8>, cpus: u32, item: Item) -> Result<(), AllocError>
         Item::Version(version) => push_field(out, b"nomad ", u64::from(version)),
         Item::Page(words) => push_field(out, b"page ", u64::from(words)),
         Item::Tiers(fast, slow) => push_fields(out, b"tiers ", u64::from(fast), u64::from(slow)),
-        Item::Node(node) => push_fields(out, b"node ", u64::from(node.distance), u64::from(node.frames)),
+        Item::Node(node) => push_fields(
+            out,
+            b"node ",
+            u64::from(node.distance),
+            u64::from(node.frames),
+        ),
         Item::Cpus(cpus) => push_field(out, b"cpus ", u64::from(cpus)),
         Item::Retry(retry) => push_field(out, b"retry ", u64::from(retry)),
         Item::Serial(turns) => push_field(out, b"serial turns ", u64::from(turns)),
