@@ -1,8 +1,13 @@
 pub mod Answers
 pub mod Causes
 pub mod Counts
+pub mod InPlace
+pub mod InRange
+pub mod InWords
+pub mod Keyed
+pub mod Marks
+pub mod Naming
+pub mod Owns
 pub mod Readers
-pub mod Sound
 pub mod Starts
 pub mod Steps
-pub mod Words
