@@ -9,7 +9,8 @@ use Rattle.nm_script.specs.declared.fault.ScriptRefusal.{ScriptRefusal}
 use Rattle.nm_script.specs.declared.fault.ScriptRefusal.TheVariants as refusals
 use Rattle.nm_text.specs.Fields.{first_byte, lines_of}
 use Rattle.nm_script.specs.Told.{Told, nothing, is_whole, script_of}
-use Rattle.nm_script.specs.Reading.{◌>>=◌, Fails, Refuses, refusal_of, told_with, at_line, told_after, ended, script_in, reading}
+use Rattle.nm_script.specs.Reading.{◌>>=◌, Fails, refusal_of, told_with, at_line, told_after, ended, script_in, reading}
+use Rattle.nm_script.specs.Faults.{Refuses}
 
 -- one line was taken
 pub goes_on : (s t : Told) (n : ℕ) (line : List ℕ) (rest lines : List (List ℕ)) (total : Result Told (ScriptFault × ℕ)) → told_with s line ≡ Ok t → lines ≡ line ∷ rest → told_after s n lines ≡ total → told_after t (n + 1) rest ≡ total

@@ -301,13 +301,3 @@ AreMany nodes (errors.Fault f) = (f ≡ faults.TooManyTiers) × (4 < tier_count 
 abbrev pub refusal_of : ReadError → ℕ → ScriptRefusal
 refusal_of errors.Memory n = refusals.Memory
 refusal_of (errors.Fault f) n = refusals.At f n
-
--- the refusal is the fault of the reading and its line; want of memory says nothing of it
-abbrev pub Refuses : {A : Type 0} → ScriptRefusal → Result A (ScriptFault × ℕ) → Type 0
-Refuses refusals.Memory read = Unit {0}
-Refuses (refusals.At f n) read = read ≡ Err (f, n)
-
--- a script that was read, or a refusal, is what the reading gives
-abbrev pub GivesReading : Result Script ScriptRefusal → Result Script (ScriptFault × ℕ) → Type 0
-GivesReading (Ok s) read = read ≡ Ok s
-GivesReading (Err e) read = Refuses e read

@@ -4,11 +4,11 @@ ghost use Rattle.std.specs.Prelude.{◌≡◌, ℕ, List, ◌≤◌, ◌<◌, �
 ghost use Rattle.nm_text.specs.Fields.{lines_of};
 ghost use Rattle.nm_script.specs.Script.{IsScript};
 ghost use Rattle.nm_script.specs.Grammar.{IsScriptText};
-ghost use Rattle.nm_script.specs.Faults.{IsFirstFault, IsTextRefusal, IsOfText, HasOneReading, HasOneText};
+ghost use Rattle.nm_script.specs.Faults.{IsFirstFault, IsTextRefusal, IsOfText, HasOneReading, HasOneText, Refuses, GivesReading};
 ghost use Rattle.nm_script.specs.Plain as script;
 ghost use Rattle.nm_script.specs.Told.{nothing};
 ghost use Rattle.nm_script.specs.Holds.{IsToldSoFar};
-ghost use Rattle.nm_script.specs.Reading.{told_after, reading, refusal_of, Refuses, GivesReading};
+ghost use Rattle.nm_script.specs.Reading.{told_after, reading, refusal_of};
 
 use crate::draft::Draft;
 use crate::fault::{ReadError, ScriptFault, ScriptRefusal};
@@ -31,8 +31,6 @@ pub fn parse(alloc: Global, bytes: &[u8]) -> Result<Script, ScriptRefusal>
     ensures first { (f : _) (n : _) → IsFirstFault bytes.now f n → GivesReading result (Err (f, n)) }
     // No text is too long for the grammar.
     ensures of_text { IfErr result IsOfText }
-    // The same, by a function of the bytes.
-    ensures exact { GivesReading result (reading bytes.now) }
     ensures script { IfOk result IsScript }
 {
     read_script(alloc, bytes)

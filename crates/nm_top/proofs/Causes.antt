@@ -6,7 +6,7 @@ use Rattle.nm_script.specs.declared.fault.ScriptFault.{ScriptFault}
 use Rattle.nm_script.specs.declared.fault.ScriptRefusal.{ScriptRefusal}
 use Rattle.nm_script.specs.declared.fault.ScriptRefusal.TheVariants as refusals
 use Rattle.nm_script.specs.Plain as plain
-use Rattle.nm_script.specs.Reading.{GivesReading, Refuses}
+use Rattle.nm_script.specs.Faults.{GivesReading, Refuses}
 use Rattle.nm_script.specs.Faults as script_faults
 use Rattle.nm_script.specs.Faults.{IsFirstFault}
 use Rattle.nm_top.specs.Answer.{Answers, IsAccepted, IsOrMemory, IsRefusal, IsUnserved, status_of, TakesAll}
