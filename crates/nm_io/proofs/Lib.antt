@@ -1,3 +1,4 @@
 mod Fronts
 mod MemReads
+mod Turns
 mod Worked

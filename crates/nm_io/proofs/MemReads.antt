@@ -13,6 +13,10 @@ moved_front left into part items taken n is copied long =
     ∙ ap (λ l. l ++ drop n left) (sym (ap (λ k. take k (part ++ drop n into)) (sym long) ∙ take-append_seam part (drop n into)))
     ∙ ap (λ l. take n (part ++ drop n into) ++ l) (ap (drop n) (sym is) ∙ drop-drop n taken items)
 
+-- the slice's front is what was moved there
+pub front_moved : (left into part : List ℕ) (n : ℕ) → part ≡ take n left → length part ≡ n → take n (part ++ drop n into) ≡ take n left
+front_moved left into part n copied long = ap (λ k. take k (part ++ drop n into)) (sym long) ∙ take-append_seam part (drop n into) ∙ copied
+
 -- none moved into a slice with room exactly where none was left
 pub moved_none : (left into part : List ℕ) (piece m n : ℕ) → length part ≡ n → 1 ≤ piece → m ≡ min (length into) piece → n ≡ min m (length left)
     → 0 < length (part ++ drop n into) → (n ≡ 0) ↔ (left ≡ [])

@@ -1,5 +1,5 @@
 -- A sink over memory as plain data, and what a write does to it.
-use Rattle.std.specs.Prelude.{ℕ, ◌-◌, Bool, not, ◌&&◌, ◌||◌, ◌==◌, List, length, take, min, ◌++◌, Result, Ok, Err, if◌then◌else◌}
+use Rattle.std.specs.Prelude.{◌≡◌, ℕ, ◌-◌, Bool, not, ◌&&◌, ◌||◌, ◌==◌, List, length, take, min, ◌++◌, Result, Ok, Err, if◌then◌else◌}
 use Rattle.nm_io.specs.Count.{next_count}
 use Rattle.nm_io.specs.Calls.{fails_next}
 use Rattle.nm_io.specs.declared.faults.Failed.{Failed}
@@ -38,3 +38,8 @@ after_good_write s bytes = record s { held = s.held ++ bytes; calls = next_count
 abbrev pub after_write : SinkState → List ℕ → SinkState
 after_write s from =
     if write_fails s (length from) then after_failed_write s else after_good_write s (take (count_written s (length from)) from)
+
+-- a write of these bytes answers this, and leaves that sink
+pub record StateTakes (old : SinkState) (from : List ℕ) (result : Result ℕ Failed) (new : SinkState) : Type 0 where
+  pub answer : result ≡ write_result old (length from)
+  pub after : new ≡ after_write old from

@@ -1,6 +1,7 @@
 -- A source over bytes in memory as plain data, and what a read does to it.
-use Rattle.std.specs.Prelude.{ℕ, List, length, take, drop, min, ◌++◌, Result, Ok, Err, if◌then◌else◌}
+use Rattle.std.specs.Prelude.{◌≡◌, ℕ, ◌<◌, List, length, take, drop, min, ◌++◌, Result, Ok, Err, if◌then◌else◌}
 use Rattle.nm_io.specs.Count.{next_count}
+use Rattle.nm_io.specs.Source.{moved_bytes}
 use Rattle.nm_io.specs.Calls.{fails_next}
 use Rattle.nm_io.specs.declared.faults.Failed.{Failed}
 
@@ -40,3 +41,10 @@ with_bytes s n into = take n s.left ++ drop n into
 -- a slice after a read into it
 abbrev pub slice_after_read : SourceState → List ℕ → List ℕ
 slice_after_read s into = if fails_next s.calls s.fails then into else with_bytes s (count_read s (length into)) into
+
+-- a read into some slice with room answers this, and leaves that source
+pub record StateGives (old : SourceState) (result : Result (List ℕ) Failed) (new : SourceState) : Type 0 where
+  pub room : ℕ
+  pub some : 0 < room
+  pub answer : result ≡ moved_bytes (read_result old room) old.left
+  pub after : new ≡ after_read old room

@@ -1,10 +1,10 @@
 //! std's readers and writers as sources and sinks, the edge to the system.
-ghost use Rattle.std.specs.Prelude.{◌≡◌, ℕ, ◌^◌, ◌<◌, ◌≤◌, length, None, IfOk, OnErr};
+ghost use Rattle.std.specs.Prelude.{◌≡◌, ℕ, ◌^◌, ◌<◌, ◌≤◌, length, None, IfOk, OnOk, OnErr};
 ghost use Rattle.std.specs.Io.KnownBytes.{ReadConsumes, WriteAppends};
 ghost use Rattle.nm_io.specs.Count.{Rose};
-ghost use Rattle.nm_io.specs.Source.{Reads};
+ghost use Rattle.nm_io.specs.Source.{Reads, moved_bytes};
 ghost use Rattle.nm_io.specs.Sink.{Writes};
-ghost use Rattle.nm_io.specs.Adapters.{source_reader, source_faults, sink_writer, sink_faults, CountsErrors};
+ghost use Rattle.nm_io.specs.Adapters.{source_reader, source_faults, sink_writer, sink_faults, CountsErrors, SourceGives, SinkTakes};
 
 use crate::faults::Failed;
 use crate::sinks::Sink;
@@ -34,6 +34,8 @@ impl<R: Read> Source for StdSource<R> {
 
     ghost faults = { source_faults };
 
+    ghost read_gives = { SourceGives R.remaining };
+
     fn read(&mut self, into: &mut [u8]) -> Result<usize, Failed>
         // What it does beyond a source: it counts errors alone, and gives what the reader gives.
         ensures counts { CountsErrors (source_faults self.old) (source_faults self.new) result }
@@ -43,9 +45,12 @@ impl<R: Read> Source for StdSource<R> {
         // What every source does.
         ensures count { source_faults self.old ≤ source_faults self.new }
         ensures fits { source_faults self.new < 2 ^ 64 }
+        ensures kept { OnOk result (source_faults self.new ≡ source_faults self.old) }
         ensures failed { OnErr result (Rose (source_faults self.old) (source_faults self.new)) }
         ensures bound { IfOk result (λ n. n ≤ length into.new) }
         ensures bytes { Reads None None result into.new }
+        ensures gives { 0 < length into.old
+            → SourceGives R.remaining self.old (moved_bytes result into.new) self.new }
     {
         let faults = self.faults;
         match self.reader.read(into) {
@@ -82,6 +87,8 @@ impl<W: Write> Sink for StdSink<W> {
 
     ghost faults = { sink_faults };
 
+    ghost write_takes = { SinkTakes W.contents };
+
     fn write(&mut self, from: &[u8]) -> Result<usize, Failed>
         // What it does beyond a sink: it counts errors alone, and the writer takes what it says.
         ensures counts { CountsErrors (sink_faults self.old) (sink_faults self.new) result }
@@ -91,10 +98,12 @@ impl<W: Write> Sink for StdSink<W> {
         // What every sink does.
         ensures count { sink_faults self.old ≤ sink_faults self.new }
         ensures fits { sink_faults self.new < 2 ^ 64 }
+        ensures kept { OnOk result (sink_faults self.new ≡ sink_faults self.old) }
         ensures failed { OnErr result (Rose (sink_faults self.old) (sink_faults self.new)) }
         ensures bound { IfOk result (λ n. n ≤ length from.now) }
         ensures some { IfOk result (λ n. 0 < length from.now → 0 < n) }
         ensures bytes { Writes None None result from.now }
+        ensures takes { SinkTakes W.contents self.old from.now result self.new }
     {
         let faults = self.faults;
         match self.writer.write(from) {

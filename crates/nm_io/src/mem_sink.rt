@@ -1,8 +1,8 @@
 //! A sink over memory, some calls of which fail.
-ghost use Rattle.std.specs.Prelude.{◌≡◌, ℕ, ◌^◌, ◌<◌, ◌≤◌, [], length, Some, IfOk, OnErr};
+ghost use Rattle.std.specs.Prelude.{◌≡◌, ℕ, ◌^◌, ◌<◌, ◌≤◌, [], length, Some, IfOk, OnOk, OnErr};
 ghost use Rattle.nm_io.specs.Count.{Rose};
 ghost use Rattle.nm_io.specs.Sink.{Writes};
-ghost use Rattle.nm_io.specs.SinkState.{write_result, after_write};
+ghost use Rattle.nm_io.specs.SinkState.{write_result, after_write, StateTakes};
 
 use crate::faults::Failed;
 use crate::sinks::Sink;
@@ -79,6 +79,8 @@ impl Sink for MemSink {
 
     ghost faults = { λ s. s.faults };
 
+    ghost write_takes = { StateTakes };
+
     fn write(&mut self, from: &[u8]) -> Result<usize, Failed>
         // What it does, exactly.
         ensures value { result ≡ write_result self.old (length from.now) }
@@ -87,10 +89,12 @@ impl Sink for MemSink {
         // What every sink does.
         ensures count { self.old.faults ≤ self.new.faults }
         ensures fits { self.new.faults < 2 ^ 64 }
+        ensures kept { OnOk result (self.new.faults ≡ self.old.faults) }
         ensures failed { OnErr result (Rose self.old.faults self.new.faults) }
         ensures bound { IfOk result (λ n. n ≤ length from.now) }
         ensures some { IfOk result (λ n. 0 < length from.now → 0 < n) }
         ensures bytes { Writes (Some self.old.held) (Some self.new.held) result from.now }
+        ensures takes { StateTakes self.old from.now result self.new }
     {
         self.calls = self.calls.saturating_add(1);
         let left = self.room - self.bytes.len();

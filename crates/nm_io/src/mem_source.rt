@@ -1,8 +1,8 @@
 //! A source over bytes in memory, some calls of which fail.
-ghost use Rattle.std.specs.Prelude.{◌≡◌, ℕ, ◌^◌, ◌<◌, ◌≤◌, length, Some, IfOk, OnErr};
+ghost use Rattle.std.specs.Prelude.{◌≡◌, ℕ, ◌^◌, ◌<◌, ◌≤◌, length, Some, IfOk, OnOk, OnErr};
 ghost use Rattle.nm_io.specs.Count.{Rose};
-ghost use Rattle.nm_io.specs.Source.{Reads};
-ghost use Rattle.nm_io.specs.SourceState.{read_result, after_read, slice_after_read};
+ghost use Rattle.nm_io.specs.Source.{Reads, moved_bytes};
+ghost use Rattle.nm_io.specs.SourceState.{read_result, after_read, slice_after_read, StateGives};
 
 use crate::faults::Failed;
 use crate::sources::Source;
@@ -73,6 +73,8 @@ impl Source for MemSource {
 
     ghost faults = { λ s. s.faults };
 
+    ghost read_gives = { StateGives };
+
     fn read(&mut self, into: &mut [u8]) -> Result<usize, Failed>
         // What it does, exactly.
         ensures value { result ≡ read_result self.old (length into.old) }
@@ -82,9 +84,11 @@ impl Source for MemSource {
         // What every source does.
         ensures count { self.old.faults ≤ self.new.faults }
         ensures fits { self.new.faults < 2 ^ 64 }
+        ensures kept { OnOk result (self.new.faults ≡ self.old.faults) }
         ensures failed { OnErr result (Rose self.old.faults self.new.faults) }
         ensures bound { IfOk result (λ n. n ≤ length into.new) }
         ensures bytes { Reads (Some self.old.left) (Some self.new.left) result into.new }
+        ensures gives { 0 < length into.old → StateGives self.old (moved_bytes result into.new) self.new }
     {
         self.calls = self.calls.saturating_add(1);
         if self.fails.contains(&self.calls) {

@@ -53,11 +53,11 @@ pub record HasOneText (s : Script) : Type 0 where
 -- ---- what is answered to a text
 
 -- the refusal is this fault at this line, or want of memory
-abbrev pub Refuses : {A : Type 0} → ScriptRefusal → Result A (ScriptFault × ℕ) → Type 0
-Refuses refusals.Memory wanted = Unit {0}
-Refuses (refusals.At f n) wanted = wanted ≡ Err (f, n)
+abbrev pub GivesFault : {A : Type 0} → ScriptRefusal → Result A (ScriptFault × ℕ) → Type 0
+GivesFault refusals.Memory wanted = Unit {0}
+GivesFault (refusals.At f n) wanted = wanted ≡ Err (f, n)
 
 -- the answer is this script, or this fault at this line, or want of memory
 abbrev pub GivesReading : Result Script ScriptRefusal → Result Script (ScriptFault × ℕ) → Type 0
 GivesReading (Ok s) wanted = wanted ≡ Ok s
-GivesReading (Err e) wanted = Refuses e wanted
+GivesReading (Err e) wanted = GivesFault e wanted

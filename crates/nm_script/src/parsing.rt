@@ -4,7 +4,7 @@ ghost use Rattle.std.specs.Prelude.{◌≡◌, ℕ, List, ◌≤◌, ◌<◌, �
 ghost use Rattle.nm_text.specs.Fields.{lines_of};
 ghost use Rattle.nm_script.specs.Script.{IsScript};
 ghost use Rattle.nm_script.specs.Grammar.{IsScriptText};
-ghost use Rattle.nm_script.specs.Faults.{IsFirstFault, IsTextRefusal, IsOfText, HasOneReading, HasOneText, Refuses, GivesReading};
+ghost use Rattle.nm_script.specs.Faults.{IsFirstFault, IsTextRefusal, IsOfText, HasOneReading, HasOneText, GivesFault, GivesReading};
 ghost use Rattle.nm_script.specs.Plain as script;
 ghost use Rattle.nm_script.specs.Told.{nothing};
 ghost use Rattle.nm_script.specs.Holds.{IsToldSoFar};
@@ -74,7 +74,7 @@ fn read_lines(alloc: Global, bytes: &[u8]) -> Result<(Draft, u32), ScriptRefusal
     ensures read { IfOk result (λ p. told_after nothing 1 (lines_of bytes.now) ≡ Ok p.0) }
     ensures told { IfOk result (λ p. IsToldSoFar p.0) }
     ensures count { IfOk result (λ p. (p.1 ≡ length (lines_of bytes.now)) × (p.1 ≤ length bytes.now)) }
-    ensures fault { IfErr result (λ e. Refuses e (told_after nothing 1 (lines_of bytes.now))) }
+    ensures fault { IfErr result (λ e. GivesFault e (told_after nothing 1 (lines_of bytes.now))) }
 {
     let mut draft = Draft::new(alloc);
     let mut rest = bytes;
