@@ -8,12 +8,10 @@ use Rattle.nm_text.specs.Cuts.{Lacks, strip_of}
 use Rattle.nm_text.proofs.NumberLemmas.{number_of-decimal, decimal-lacks}
 use Rattle.nm_text.proofs.KindLemmas.{kind-again}
 use Rattle.nm_text.proofs.FieldLemmas.{one_of-again, two_of-again, three_of-again}
-use Rattle.nm_text.proofs.CutLemmas.{cut_of-again, cut_of-lacks, strip_of-again, Lacks-append}
+use Rattle.nm_text.proofs.CutLemmas.{cut_of-again, strip_of-again, Lacks-append}
 use Rattle.nm_base.specs.declared.geometry.VPage.{VPage}
 use Rattle.nm_base.specs.Geometry.{IsPageSize}
 use Rattle.nm_base.proofs.Pages.{page_size}
-use Rattle.nm_action.specs.declared.kind.ActionKind.{ActionKind}
-use Rattle.nm_action.specs.declared.kind.ActionKind.TheVariants as kinds
 use Rattle.nm_tiers.specs.declared.nodes.Node.{Node}
 use Rattle.nm_script.specs.declared.script.Line.{Line}
 use Rattle.nm_script.specs.declared.script.Line.TheVariants.{Load, Store, Add, Await}
@@ -22,8 +20,7 @@ use Rattle.nm_script.specs.declared.item.Item.TheVariants as items
 use Rattle.nm_text.specs.Kinds.{kind_text}
 use Rattle.nm_script.specs.Items.{actor_text, right_text, place_text, access_text}
 use Rattle.nm_script.specs.Script.{IsPlanItem}
-use Rattle.nm_text.specs.Fields.{unspaced_of, one_of, two_of, three_of}
-use Rattle.nm_text.specs.Kinds.{all_kinds, kind_among}
+use Rattle.nm_text.specs.Fields.{one_of, two_of, three_of}
 use Rattle.nm_script.specs.LineFaults.{page_word_of}
 use Rattle.nm_script.specs.Fields.{shuffle_of, right_of, map_of, is_actor, go_of}
 use Rattle.nm_script.specs.Told.{Told}

@@ -16,8 +16,7 @@ use Rattle.nm_text.proofs.CutLemmas.{cut_of-some, strip_of-some}
 use Rattle.nm_action.specs.declared.kind.ActionKind.{ActionKind}
 use Rattle.nm_text.specs.Kinds.{kind_text}
 use Rattle.nm_script.specs.Items.{actor_text, right_text, place_text}
-use Rattle.nm_text.specs.Fields.{uncut, unspaced_of, one_of, two_of, three_of}
-use Rattle.nm_text.specs.Kinds.{all_kinds, kind_among}
+use Rattle.nm_text.specs.Kinds.{all_kinds}
 use Rattle.nm_script.specs.LineFaults.{dotted, page_word_of}
 use Rattle.nm_script.specs.Fields.{shuffle_of, right_of, map_of, is_actor, go_of}
 use Rattle.nm_script.specs.Reading.{◌>>=◌, either_of, or_bad, number_in, ranged_in, below_in, cpu_after, actor_in, place_in}

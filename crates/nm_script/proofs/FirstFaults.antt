@@ -13,7 +13,8 @@ use Rattle.nm_script.specs.Following.{AreLines}
 use Rattle.nm_script.specs.LineFaults.{IsLineFault}
 use Rattle.nm_script.specs.Faults.{IsFaultAt, IsFirstFault, IsTextRefusal}
 use Rattle.nm_script.specs.Holds.{IsToldSoFar}
-use Rattle.nm_script.specs.Reading.{◌>>=◌, GivesReading, told_with, at_line, told_after, ended, script_in, reading}
+use Rattle.nm_script.specs.Reading.{◌>>=◌, told_with, at_line, told_after, ended, script_in, reading}
+use Rattle.nm_script.specs.Faults.{GivesReading}
 use Rattle.nm_script.proofs.Tellings.{told-step}
 use Rattle.nm_script.proofs.Steps.{step-again}
 use Rattle.nm_script.proofs.Texts.{step-some, lines-found}

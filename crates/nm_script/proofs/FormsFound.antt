@@ -6,8 +6,8 @@ use Rattle.std.specs.Str.{bytes_eq}
 use Rattle.std.proofs.lemmas.Bool.{and_parts, or_cases, ltb-true, eqb-true, eqb-false}
 use Rattle.std.proofs.lemmas.Option.{none-some, same_Some, cond_some}
 use Rattle.std.proofs.lemmas.Slice.Eq.{bytes_eq-Decides}
-use Rattle.nm_text.specs.Cuts.{Lacks, cut_of, strip_of}
-use Rattle.nm_text.proofs.CutLemmas.{cut_of-some, cut_of-none, strip_of-some}
+use Rattle.nm_text.specs.Cuts.{Lacks, strip_of}
+use Rattle.nm_text.proofs.CutLemmas.{strip_of-some}
 use Rattle.nm_action.specs.declared.kind.ActionKind.{ActionKind}
 use Rattle.nm_script.specs.declared.fault.ScriptFault.{ScriptFault}
 use Rattle.nm_script.specs.declared.item.Item.{Item}
@@ -15,7 +15,7 @@ use Rattle.nm_script.specs.declared.item.Place.{Place}
 use Rattle.nm_script.specs.declared.item.Place.TheVariants as places
 use Rattle.nm_text.specs.Kinds.{kind_text}
 use Rattle.nm_script.specs.Items.{right_text}
-use Rattle.nm_text.specs.Fields.{uncut, unspaced_of, one_of, two_of, three_of}
+use Rattle.nm_text.specs.Fields.{one_of, two_of, three_of}
 use Rattle.nm_text.specs.Kinds.{all_kinds}
 use Rattle.nm_script.specs.Fields.{shuffle_of, map_of, is_actor, go_of}
 use Rattle.nm_script.specs.Told.{Told}

@@ -1,12 +1,11 @@
 -- Virtual pages, and one more that is mapped.
-use Rattle.std.proofs.Common.{◌≡◌, ℕ, zero, suc, ◌+◌, ◌-◌, ◌≤◌, max, List, [], ◌∷◌, ◌++◌, length, replicate, Option, Some, None, refl, sym, ap, ◌∙◌, subst, inl, inr, append_assoc, arith}
-use Rattle.std.proofs.lemmas.List.{append-nil, length-append, length-replicate}
+use Rattle.std.proofs.Common.{◌≡◌, ℕ, zero, suc, ◌+◌, ◌-◌, ◌≤◌, max, List, [], ◌∷◌, length, Option, Some, None, refl, sym, ap, subst, inl, inr, arith}
+use Rattle.std.proofs.lemmas.List.{append-nil}
 use Rattle.nm_base.specs.declared.geometry.VPage.{VPage}
 use Rattle.nm_base.specs.Geometry.{pages_of}
 use Rattle.nm_script.specs.Script.{IsTrimmed}
-use Rattle.nm_script.specs.Told.{with_places, with_page}
+use Rattle.nm_script.specs.Told.{with_page}
 use Rattle.nm_script.specs.Holds.{AreMaps}
-use Rattle.nm_script.proofs.Memory.{replicate-more}
 
 -- the same by recursion
 unfoldable pub put : List (Option VPage) → ℕ → VPage → List (Option VPage)

@@ -5,7 +5,7 @@ use Rattle.std.specs.Prelude.{slice_index_or, sum_by, Contains}
 use Rattle.std.specs.List.Sorted.{IsPermutation}
 use Rattle.std.proofs.lemmas.Bool.{cases_eq, eq-eqb, ne_eqb}
 use Rattle.std.proofs.lemmas.List.{append-nil}
-use Rattle.std.proofs.lemmas.List.Elements.{Contains-append_left, Contains-append_right, Contains-append_cases}
+use Rattle.std.proofs.lemmas.List.Elements.{Contains-append_right, Contains-append_cases}
 use Rattle.std.proofs.lemmas.List.Sums.{sum_by-append, sum_by-cons}
 use Rattle.std.proofs.lemmas.List.Sorted.{IsPermutation-refl, IsPermutation-sym, IsPermutation-trans, IsPermutation-middle, IsPermutation-append_left, IsPermutation-append_right, Contains-permutation, sum_by-IsPermutation}
 use Rattle.nm_base.specs.declared.geometry.VPage.{VPage}
@@ -37,8 +37,8 @@ put-moved k (o ∷ vs) (suc v) p free =
     let later = put-moved (k + 1) vs v p free in
     let i : Item = items.Map (k + 1 + v) p in
     rw next (IsPermutation-trans (i ∷ (map_item k o ++ map_items (k + 1) vs)) (map_item k o ++ i ∷ map_items (k + 1) vs) (map_item k o ++ map_items (k + 1) (put vs v p))
-      (IsPermutation-sym (map_item k o ++ i ∷ map_items (k + 1) vs) (i ∷ (map_item k o ++ map_items (k + 1) vs)) (IsPermutation-middle (map_item k o) i (map_items (k + 1) vs)))
-      (IsPermutation-append_right (map_item k o) (i ∷ map_items (k + 1) vs) (map_items (k + 1) (put vs v p)) later))
+    (IsPermutation-sym (map_item k o ++ i ∷ map_items (k + 1) vs) (i ∷ (map_item k o ++ map_items (k + 1) vs)) (IsPermutation-middle (map_item k o) i (map_items (k + 1) vs)))
+    (IsPermutation-append_right (map_item k o) (i ∷ map_items (k + 1) vs) (map_items (k + 1) (put vs v p)) later))
 
 -- with one page more there is its line more
 pub page-moved : (vs : List (Option VPage)) (v : ℕ) (p : VPage) → slice_index_or vs v None ≡ None → IsPermutation (items.Map v p ∷ map_items 0 vs) (map_items 0 (with_page vs v p))

@@ -1,13 +1,12 @@
 -- Every text is that of a script or has a first fault, which is never that it is too long.
-use Rattle.std.proofs.Common.{◌≡◌, ◌≢◌, ℕ, ◌⊎◌, Bool, true, false, List, [], ◌∷◌, ◌++◌, Result, Ok, Err, IfErr, refl, sym, ap, ◌∙◌, subst, inl, inr}
+use Rattle.std.proofs.Common.{◌≡◌, ◌≢◌, ℕ, ◌⊎◌, false, List, [], ◌∷◌, ◌++◌, Result, Ok, Err, IfErr, refl, sym, ap, ◌∙◌, subst, inl, inr}
 use Rattle.std.specs.List.{AllByRecursion}
-use Rattle.nm_text.specs.Fields.{lines_of}
 use Rattle.nm_script.specs.declared.fault.ScriptFault.{ScriptFault}
 use Rattle.nm_script.specs.declared.fault.ScriptFault.TheVariants as faults
 use Rattle.nm_script.specs.declared.fault.ScriptRefusal.{ScriptRefusal}
 use Rattle.nm_script.specs.declared.fault.ScriptRefusal.TheVariants as refusals
 use Rattle.nm_script.specs.Plain.{Script}
-use Rattle.nm_script.specs.Script.{IsScript, script_text}
+use Rattle.nm_script.specs.Script.{IsScript}
 use Rattle.nm_script.specs.Told.{Told}
 use Rattle.nm_script.specs.Grammar.{IsScriptText}
 use Rattle.nm_script.specs.LineFaults as forms

@@ -2,10 +2,8 @@
 use Rattle.std.proofs.Common.{◌≡◌, ℕ, ◌+◌, ◌<◌, ◌≤◌, List, [], ◌∷◌, ◌++◌, map, length, Option, Some, None, refl, sym, ap, ◌∙◌, subst, inl, inr, append_assoc, arith, length-append}
 use Rattle.std.specs.List.{AllByRecursion}
 use Rattle.std.specs.Prelude.{IfSome}
-use Rattle.std.proofs.lemmas.List.{append-nil, get_or_past}
+use Rattle.std.proofs.lemmas.List.{append-nil}
 use Rattle.std.proofs.lemmas.List.Sums.{sum_by-append}
-use Rattle.nm_base.specs.declared.geometry.VPage.{VPage}
-use Rattle.nm_base.specs.Geometry.{pages_of}
 use Rattle.nm_tiers.specs.declared.nodes.Node.{Node}
 use Rattle.nm_tiers.specs.Tiers.{frames_of, tiers_of, tier_count}
 use Rattle.nm_script.specs.declared.limits.TheConstants.{MOST_TURNS}
@@ -20,7 +18,7 @@ use Rattle.nm_script.specs.declared.item.Place.TheVariants as places
 use Rattle.nm_script.specs.declared.item.Order.{Order}
 use Rattle.nm_script.specs.declared.item.Order.TheVariants as orders
 use Rattle.nm_script.specs.Script.{IsNode, IsPlanItem, IsSchedule, retry_items, schedule_items, cpu_items, program_items}
-use Rattle.nm_script.specs.Told.{Told, with_item, with_line, with_places}
+use Rattle.nm_script.specs.Told.{Told, with_item, with_line}
 use Rattle.nm_script.specs.Following.{IsOneOf, IsReach, MayFollow}
 use Rattle.nm_script.proofs.MoreTiers.{tier_count-more}
 use Rattle.nm_script.proofs.Spelled.{AreItems, AreItems-append}

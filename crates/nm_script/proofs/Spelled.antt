@@ -6,8 +6,6 @@ use Rattle.nm_text.proofs.NumberLemmas.{decimal-lacks}
 use Rattle.nm_text.proofs.CutLemmas.{Lacks-append}
 use Rattle.nm_base.specs.declared.geometry.VPage.{VPage}
 use Rattle.nm_base.proofs.Pages.{page_size}
-use Rattle.nm_action.specs.declared.kind.ActionKind.{ActionKind}
-use Rattle.nm_action.specs.declared.kind.ActionKind.TheVariants as kinds
 use Rattle.nm_script.specs.declared.script.Line.{Line}
 use Rattle.nm_script.specs.declared.script.Line.TheVariants.{Load, Store, Add, Await}
 use Rattle.nm_script.specs.declared.schedule.PlanItem.{PlanItem}

@@ -16,7 +16,8 @@ use Rattle.nm_script.specs.Told.{Told, nothing, with_item, is_whole, script_of}
 use Rattle.nm_script.specs.Following.{before_of, IsOneOf, MayFollow, AreLines}
 use Rattle.nm_script.specs.Grammar.{IsScriptText}
 use Rattle.nm_script.specs.Holds.{IsToldSoFar}
-use Rattle.nm_script.specs.Reading.{◌>>=◌, GivesReading, ruled, told_with, at_line, told_after, ended, script_in, reading}
+use Rattle.nm_script.specs.Reading.{◌>>=◌, ruled, told_with, at_line, told_after, ended, script_in, reading}
+use Rattle.nm_script.specs.Faults.{GivesReading}
 use Rattle.nm_script.proofs.FieldLemmas.{chained, tested, refused}
 use Rattle.nm_script.proofs.Says.{Ranged}
 use Rattle.nm_script.proofs.Tellings.{opened, item-follows, told-step}
@@ -119,10 +120,6 @@ pub text-of : (r : Result Script ScriptRefusal) (bytes : List ℕ) → GivesRead
 text-of (Ok s) bytes exact = text-found bytes s exact
 text-of (Err e) bytes exact = tt
 
--- the canonical text of a script is read as that script
-pub printed-read : (s : Script) → IsScript s → reading (script_text s) ≡ Ok s
-printed-read s h = text-read (script_text s) s (printed-text s h)
-
--- and it is a text of no other
+-- the canonical text of a script is a text of no other
 pub printed-only : (s t : Script) → IsScript s → IsScriptText (script_text s) t → t ≡ s
 printed-only s t h k = text-once (script_text s) t s k (printed-text s h)

@@ -1,5 +1,5 @@
 -- The lines that a text of a script may have follow one another, and tell the script.
-use Rattle.std.proofs.Common.{◌≡◌, ℕ, ◌+◌, ◌<◌, ◌≤◌, ◌⊎◌, true, List, [], ◌∷◌, ◌++◌, map, length, sum, Option, Some, None, Ok, IsSomeAnd, refl, sym, ap, ◌∙◌, subst, inl, inr, arith}
+use Rattle.std.proofs.Common.{◌≡◌, ℕ, ◌+◌, ◌<◌, ◌≤◌, ◌⊎◌, true, List, [], ◌∷◌, ◌++◌, map, length, sum, Option, Some, None, IsSomeAnd, refl, sym, ap, ◌∙◌, subst, inl, inr, arith}
 use Rattle.std.specs.List.{AllByRecursion}
 use Rattle.std.specs.Prelude.{slice_index_or, IsSome, IfSome}
 use Rattle.std.proofs.lemmas.Bool.{cases_lt, eq-eqb, ne_eqb}
@@ -22,7 +22,6 @@ use Rattle.nm_script.specs.declared.item.Place.{Place}
 use Rattle.nm_script.specs.declared.item.Place.TheVariants as places
 use Rattle.nm_script.specs.declared.item.Order.TheVariants as orders
 use Rattle.nm_script.specs.Plain.{Script}
-use Rattle.nm_script.specs.Items.{item_text}
 use Rattle.nm_script.specs.Script.{IsAccess, AreNodes, IsScript, tier_items, retry_items, schedule_items, map_items, program_items, head_with, items_of, script_text}
 use Rattle.nm_script.specs.Told.{Told, nothing, with_item, is_whole, schedule_of, script_of}
 use Rattle.nm_script.specs.Following.{IsOneOf, IsReach, AreLines}

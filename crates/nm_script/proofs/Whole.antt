@@ -9,7 +9,8 @@ use Rattle.nm_script.specs.declared.fault.ScriptRefusal.{ScriptRefusal}
 use Rattle.nm_script.specs.declared.fault.ScriptRefusal.TheVariants as refusals
 use Rattle.nm_text.specs.Fields.{first_byte, lines_of}
 use Rattle.nm_script.specs.Told.{Told, nothing, is_whole, script_of}
-use Rattle.nm_script.specs.Reading.{◌>>=◌, Fails, Refuses, refusal_of, told_with, at_line, told_after, ended, script_in, reading}
+use Rattle.nm_script.specs.Reading.{◌>>=◌, Fails, refusal_of, told_with, at_line, told_after, ended, script_in, reading}
+use Rattle.nm_script.specs.Faults.{GivesFault}
 
 -- one line was taken
 pub goes_on : (s t : Told) (n : ℕ) (line : List ℕ) (rest lines : List (List ℕ)) (total : Result Told (ScriptFault × ℕ)) → told_with s line ≡ Ok t → lines ≡ line ∷ rest → told_after s n lines ≡ total → told_after t (n + 1) rest ≡ total
@@ -17,7 +18,7 @@ goes_on s t n line rest lines total e is h =
     sym (ap (λ r. at_line n r >>= λ u. told_after u (n + 1) rest) e) ∙ sym (ap (told_after s n) is) ∙ h
 
 -- one line was refused
-pub stops : (e : ReadError) (s : Told) (n : ℕ) (line : List ℕ) (rest lines : List (List ℕ)) (total : Result Told (ScriptFault × ℕ)) → Fails e (told_with s line) → lines ≡ line ∷ rest → told_after s n lines ≡ total → Refuses (refusal_of e n) total
+pub stops : (e : ReadError) (s : Told) (n : ℕ) (line : List ℕ) (rest lines : List (List ℕ)) (total : Result Told (ScriptFault × ℕ)) → Fails e (told_with s line) → lines ≡ line ∷ rest → told_after s n lines ≡ total → GivesFault (refusal_of e n) total
 stops errors.Memory s n line rest lines total f is h = tt
 stops (errors.Fault g) s n line rest lines total f is h =
     sym h ∙ ap (told_after s n) is ∙ ap (λ r. at_line n r >>= λ u. told_after u (n + 1) rest) f
@@ -44,7 +45,7 @@ reading-some : (bytes : List ℕ) → bytes ≢ [] → reading bytes ≡ (told_a
 reading-some bytes h = script_in-some (lines_of bytes) (lines-some bytes h)
 
 -- a text whose lines were refused
-pub reading-refused : (e : ScriptRefusal) (bytes : List ℕ) → bytes ≢ [] → Refuses e (told_after nothing 1 (lines_of bytes)) → Refuses e (reading bytes)
+pub reading-refused : (e : ScriptRefusal) (bytes : List ℕ) → bytes ≢ [] → GivesFault e (told_after nothing 1 (lines_of bytes)) → GivesFault e (reading bytes)
 reading-refused refusals.Memory bytes some h = tt
 reading-refused (refusals.At f n) bytes some h = reading-some bytes some ∙ ap (λ r. r >>= ended (length (lines_of bytes))) h
 

@@ -1,5 +1,5 @@
 -- The lines that told something are those of it: what the lines of a text tell as a script has them as its lines.
-use Rattle.std.proofs.Common.{◌≡◌, ℕ, zero, suc, ◌+◌, ◌<◌, ◌≤◌, ◌==◌, ◌⊎◌, Bool, true, false, List, [], ◌∷◌, ◌++◌, map, length, Option, Some, None, refl, sym, ap, ◌∙◌, subst, inl, inr, append_assoc, arith}
+use Rattle.std.proofs.Common.{◌≡◌, ℕ, ◌+◌, ◌≤◌, ◌==◌, Bool, true, false, List, [], ◌∷◌, ◌++◌, map, length, Option, None, refl, sym, ap, ◌∙◌, subst, inl, inr, append_assoc, arith}
 use Rattle.std.specs.Bool.{if◌then◌else◌}
 use Rattle.std.specs.Prelude.{slice_index_or}
 use Rattle.std.specs.List.Sorted.{IsPermutation}
@@ -12,8 +12,6 @@ use Rattle.nm_text.specs.Fields.{lines_of}
 use Rattle.nm_script.specs.declared.limits.TheConstants.{MOST_TURNS}
 use Rattle.nm_script.specs.declared.script.Line.{Line}
 use Rattle.nm_script.specs.declared.schedule.PlanItem.{PlanItem}
-use Rattle.nm_script.specs.declared.schedule.Schedule.{Schedule}
-use Rattle.nm_script.specs.declared.schedule.Schedule.TheVariants as schedules
 use Rattle.nm_script.specs.declared.item.Item.{Item}
 use Rattle.nm_script.specs.declared.item.Item.TheVariants as items
 use Rattle.nm_script.specs.declared.item.Place.{Place}
@@ -22,8 +20,8 @@ use Rattle.nm_script.specs.declared.item.Order.TheVariants as orders
 use Rattle.nm_script.specs.Items.{item_text}
 use Rattle.nm_script.specs.Script.{tier_items, retry_items, schedule_items, map_items, cpu_items, program_items, head_with}
 use Rattle.nm_script.specs.Told.{Told, nothing, with_item, with_page, with_line, is_whole, schedule_of, script_of}
-use Rattle.nm_script.specs.Following.{IsOneOf, IsItemInRange, MayFollow, AreLines}
-use Rattle.nm_script.specs.Holds.{IsOpen, IsToldSoFar, Stands}
+use Rattle.nm_script.specs.Following.{IsOneOf, MayFollow, AreLines}
+use Rattle.nm_script.specs.Holds.{IsOpen, IsToldSoFar}
 use Rattle.nm_script.specs.Grammar.{MayLack, AreItemsOf, IsScriptText}
 use Rattle.nm_script.proofs.Finished.{program_place, told-script}
 use Rattle.nm_script.proofs.Maps.{page-moved}
@@ -145,22 +143,27 @@ start_nodes s is o v one h =
 
 cpus_line : (s : Told) (is : List Item) (p : ℕ) → IsStart s (tier_items (script_of s)) is → IsHead (with_item s (items.Cpus p)) (is ++ items.Cpus p ∷ []) × (s.retry ≡ None) × IsFresh (with_item s (items.Cpus p))
 cpus_line s is p h =
-    let front : List Item = (items.Version s.version ∷ h.page) ++ tier_items (script_of s) in
-    (record {
-      page = h.page;
-      are = ap (λ js. js ++ items.Cpus p ∷ []) h.are ∙ ap (λ (r : Option ℕ). front ++ items.Cpus p ∷ retry_items r) (sym h.retry);
-      page_lacks = h.page_lacks;
-    }, h.retry, record { order = h.fresh.order; plan = h.fresh.plan; vpages = h.fresh.vpages; programs = h.fresh.programs })
+    let front : List Item = (items.Version s.version ∷ h.page) ++ tier_items (script_of s) in (
+      record {
+        page = h.page;
+        are = ap (λ js. js ++ items.Cpus p ∷ []) h.are ∙ ap (λ (r : Option ℕ). front ++ items.Cpus p ∷ retry_items r) (sym h.retry);
+        page_lacks = h.page_lacks;
+      },
+      h.retry,
+      record { order = h.fresh.order; plan = h.fresh.plan; vpages = h.fresh.vpages; programs = h.fresh.programs },
+    )
 
 retry_line : (s : Told) (is : List Item) (r : ℕ) → IsHead s is × (s.retry ≡ None) × IsFresh s → IsHead (with_item s (items.Retry r)) (is ++ items.Retry r ∷ []) × IsFresh (with_item s (items.Retry r))
 retry_line s is r h =
     let front : List Item = (items.Version s.version ∷ h.0.page) ++ tier_items (script_of s) in
-    let was : is ≡ front ++ items.Cpus s.cpus ∷ [] = h.0.are ∙ ap (λ (o : Option ℕ). front ++ items.Cpus s.cpus ∷ retry_items o) h.1 in
-    (record {
-      page = h.0.page;
-      are = ap (λ js. js ++ items.Retry r ∷ []) was ∙ append_assoc front (items.Cpus s.cpus ∷ []) (items.Retry r ∷ []);
-      page_lacks = h.0.page_lacks;
-    }, record { order = h.2.order; plan = h.2.plan; vpages = h.2.vpages; programs = h.2.programs })
+    let was : is ≡ front ++ items.Cpus s.cpus ∷ [] = h.0.are ∙ ap (λ (o : Option ℕ). front ++ items.Cpus s.cpus ∷ retry_items o) h.1 in (
+      record {
+        page = h.0.page;
+        are = ap (λ js. js ++ items.Retry r ∷ []) was ∙ append_assoc front (items.Cpus s.cpus ∷ []) (items.Retry r ∷ []);
+        page_lacks = h.0.page_lacks;
+      },
+      record { order = h.2.order; plan = h.2.plan; vpages = h.2.vpages; programs = h.2.programs },
+    )
 
 -- ---- the schedule
 
@@ -241,19 +244,21 @@ map_line s is v p free h =
     let all : front ++ (a.maps ++ line) ++ program_items 0 s.programs ≡ front ++ (a.maps ++ line) = ap (λ js. front ++ (a.maps ++ line) ++ js) none ∙ append-nil (front ++ (a.maps ++ line)) in
     let moved : IsPermutation (map_items 0 (with_page s.vpages v p)) (a.maps ++ line) =
     IsPermutation-trans (map_items 0 (with_page s.vpages v p)) (items.Map v p ∷ map_items 0 s.vpages) (a.maps ++ line)
-      (IsPermutation-sym (items.Map v p ∷ map_items 0 s.vpages) (map_items 0 (with_page s.vpages v p)) (page-moved s.vpages v p free))
-      (IsPermutation-trans (items.Map v p ∷ map_items 0 s.vpages) (items.Map v p ∷ a.maps) (a.maps ++ line)
-        (IsPermutation-cons (items.Map v p) (map_items 0 s.vpages) a.maps a.any_order)
-        (IsPermutation-sym (a.maps ++ line) (items.Map v p ∷ a.maps) (IsPermutation-to_front a.maps (items.Map v p)))) in
-    (record {
-      page = a.page;
-      schedule = a.schedule;
-      maps = a.maps ++ line;
-      are = ap (λ js. js ++ line) was ∙ append_assoc front a.maps line ∙ sym all;
-      page_lacks = a.page_lacks;
-      schedule_lacks = a.schedule_lacks;
-      any_order = moved;
-    }, h.1)
+    (IsPermutation-sym (items.Map v p ∷ map_items 0 s.vpages) (map_items 0 (with_page s.vpages v p)) (page-moved s.vpages v p free))
+    (IsPermutation-trans (items.Map v p ∷ map_items 0 s.vpages) (items.Map v p ∷ a.maps) (a.maps ++ line)
+    (IsPermutation-cons (items.Map v p) (map_items 0 s.vpages) a.maps a.any_order)
+    (IsPermutation-sym (a.maps ++ line) (items.Map v p ∷ a.maps) (IsPermutation-to_front a.maps (items.Map v p)))) in (
+      record {
+        page = a.page;
+        schedule = a.schedule;
+        maps = a.maps ++ line;
+        are = ap (λ js. js ++ line) was ∙ append_assoc front a.maps line ∙ sym all;
+        page_lacks = a.page_lacks;
+        schedule_lacks = a.schedule_lacks;
+        any_order = moved;
+      },
+      h.1,
+    )
 
 -- ---- programs
 

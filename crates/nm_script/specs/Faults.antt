@@ -1,5 +1,5 @@
 -- The first fault of a text, and its line.
-use Rattle.std.specs.Prelude.{◌≡◌, ◌≢◌, ℕ, ◌+◌, ◌⊎◌, false, List, [], ◌∷◌, ◌++◌, length}
+use Rattle.std.specs.Prelude.{◌≡◌, ◌≢◌, ℕ, ◌+◌, ◌⊎◌, false, List, [], ◌∷◌, ◌++◌, length, Result, Ok, Err}
 use Rattle.nm_script.specs.declared.fault.ScriptFault.{ScriptFault}
 use Rattle.nm_script.specs.declared.fault.ScriptFault.TheVariants as faults
 use Rattle.nm_script.specs.declared.fault.ScriptRefusal.{ScriptRefusal}
@@ -49,3 +49,15 @@ pub record HasOneReading (bytes : List ℕ) : Type 0 where
 pub record HasOneText (s : Script) : Type 0 where
   pub again : IsScriptText (script_text s) s
   pub only : (t : Script) → IsScript t → script_text t ≡ script_text s → t ≡ s
+
+-- ---- what is answered to a text
+
+-- the refusal is this fault at this line, or want of memory
+abbrev pub GivesFault : {A : Type 0} → ScriptRefusal → Result A (ScriptFault × ℕ) → Type 0
+GivesFault refusals.Memory wanted = Unit {0}
+GivesFault (refusals.At f n) wanted = wanted ≡ Err (f, n)
+
+-- the answer is this script, or this fault at this line, or want of memory
+abbrev pub GivesReading : Result Script ScriptRefusal → Result Script (ScriptFault × ℕ) → Type 0
+GivesReading (Ok s) wanted = wanted ≡ Ok s
+GivesReading (Err e) wanted = GivesFault e wanted

@@ -1,5 +1,5 @@
 -- Mirrors the reader: how it cuts the lines of a script into fields.
-use Rattle.std.specs.Prelude.{ℕ, if◌then◌else◌, Bool, true, false, ◌||◌, List, [], ◌∷◌, Option, Some, None, is_some, codes}
+use Rattle.std.specs.Prelude.{ℕ, if◌then◌else◌, Bool, true, false, ◌||◌, List, Option, Some, None, is_some, codes}
 use Rattle.std.specs.Str.{bytes_eq}
 use Rattle.nm_text.specs.Cuts.{strip_of}
 use Rattle.nm_text.specs.Fields.{◌>>=◌, three_of}

@@ -1,5 +1,5 @@
 -- Mirrors the reader: what a line says after the lines before it, or its first fault, as a function.
-use Rattle.std.specs.Prelude.{◌≡◌, ℕ, ◌<◌, ◌+◌, ◌==◌, nat_lt, nat_le, ◌&&◌, ◌||◌, if◌then◌else◌, Bool, true, false, List, [], ◌∷◌, ◌++◌, length, Option, Some, None, option_map, is_some, slice_index_or, Result, Ok, Err, codes}
+use Rattle.std.specs.Prelude.{◌≡◌, ℕ, ◌<◌, ◌+◌, ◌==◌, nat_lt, nat_le, ◌&&◌, if◌then◌else◌, Bool, true, false, List, [], ◌∷◌, ◌++◌, length, Option, Some, None, option_map, is_some, slice_index_or, Result, Ok, Err, codes}
 use Rattle.std.specs.Str.{bytes_eq}
 use Rattle.nm_text.specs.Numbers.{number_of}
 use Rattle.nm_text.specs.Cuts.{strip_of}
@@ -301,13 +301,3 @@ AreMany nodes (errors.Fault f) = (f ≡ faults.TooManyTiers) × (4 < tier_count 
 abbrev pub refusal_of : ReadError → ℕ → ScriptRefusal
 refusal_of errors.Memory n = refusals.Memory
 refusal_of (errors.Fault f) n = refusals.At f n
-
--- the refusal is the fault of the reading and its line; want of memory says nothing of it
-abbrev pub Refuses : {A : Type 0} → ScriptRefusal → Result A (ScriptFault × ℕ) → Type 0
-Refuses refusals.Memory read = Unit {0}
-Refuses (refusals.At f n) read = read ≡ Err (f, n)
-
--- a script that was read, or a refusal, is what the reading gives
-abbrev pub GivesReading : Result Script ScriptRefusal → Result Script (ScriptFault × ℕ) → Type 0
-GivesReading (Ok s) read = read ≡ Ok s
-GivesReading (Err e) read = Refuses e read

@@ -4,11 +4,11 @@ ghost use Rattle.std.specs.Prelude.{◌≡◌, ℕ, List, ◌≤◌, ◌<◌, �
 ghost use Rattle.nm_text.specs.Fields.{lines_of};
 ghost use Rattle.nm_script.specs.Script.{IsScript};
 ghost use Rattle.nm_script.specs.Grammar.{IsScriptText};
-ghost use Rattle.nm_script.specs.Faults.{IsFirstFault, IsTextRefusal, IsOfText, HasOneReading, HasOneText};
+ghost use Rattle.nm_script.specs.Faults.{IsFirstFault, IsTextRefusal, IsOfText, HasOneReading, HasOneText, GivesFault, GivesReading};
 ghost use Rattle.nm_script.specs.Plain as script;
 ghost use Rattle.nm_script.specs.Told.{nothing};
 ghost use Rattle.nm_script.specs.Holds.{IsToldSoFar};
-ghost use Rattle.nm_script.specs.Reading.{told_after, reading, refusal_of, Refuses, GivesReading};
+ghost use Rattle.nm_script.specs.Reading.{told_after, reading, refusal_of};
 
 use crate::draft::Draft;
 use crate::fault::{ReadError, ScriptFault, ScriptRefusal};
@@ -31,8 +31,6 @@ pub fn parse(alloc: Global, bytes: &[u8]) -> Result<Script, ScriptRefusal>
     ensures first { (f : _) (n : _) → IsFirstFault bytes.now f n → GivesReading result (Err (f, n)) }
     // No text is too long for the grammar.
     ensures of_text { IfErr result IsOfText }
-    // The same, by a function of the bytes.
-    ensures exact { GivesReading result (reading bytes.now) }
     ensures script { IfOk result IsScript }
 {
     read_script(alloc, bytes)
@@ -76,7 +74,7 @@ fn read_lines(alloc: Global, bytes: &[u8]) -> Result<(Draft, u32), ScriptRefusal
     ensures read { IfOk result (λ p. told_after nothing 1 (lines_of bytes.now) ≡ Ok p.0) }
     ensures told { IfOk result (λ p. IsToldSoFar p.0) }
     ensures count { IfOk result (λ p. (p.1 ≡ length (lines_of bytes.now)) × (p.1 ≤ length bytes.now)) }
-    ensures fault { IfErr result (λ e. Refuses e (told_after nothing 1 (lines_of bytes.now))) }
+    ensures fault { IfErr result (λ e. GivesFault e (told_after nothing 1 (lines_of bytes.now))) }
 {
     let mut draft = Draft::new(alloc);
     let mut rest = bytes;

@@ -5,7 +5,6 @@ ghost use Rattle.std.specs.Fmt.{decimal};
 ghost use Rattle.nm_script.specs.Items.{line, item_text, access_text, actor_text, right_text, place_text, lines_text};
 ghost use Rattle.nm_script.specs.Script.{IsScript, script_text, head_items, tier_items, retry_items, schedule_items, map_item, map_items, cpu_items, program_items};
 ghost use Rattle.nm_script.specs.Grammar.{IsScriptText};
-ghost use Rattle.nm_script.specs.Reading.{reading};
 
 use crate::item::Item;
 use crate::schedule::{PlanItem, Schedule};
@@ -23,8 +22,6 @@ pub fn print(alloc: Global, script: &Script) -> Result<Vec<u8>, AllocError>
     // By the grammar the bytes are a text of this script, and of no other.
     ensures again { IfOk result (λ v. IsScriptText v.items script.now) }
     ensures only { IfOk result (λ v. (s : _) → IsScriptText v.items s → s ≡ script.now) }
-    // So they are read as this script.
-    ensures read { IfOk result (λ v. reading v.items ≡ Ok script.now) }
 {
     let mut out = Vec::new(alloc);
     push_head(&mut out, script)?;
@@ -174,7 +171,12 @@ fn push_text(out: &mut Vec<u8>, cpus: u32, item: Item) -> Result<(), AllocError>
         Item::Version(version) => push_field(out, b"nomad ", u64::from(version)),
         Item::Page(words) => push_field(out, b"page ", u64::from(words)),
         Item::Tiers(fast, slow) => push_fields(out, b"tiers ", u64::from(fast), u64::from(slow)),
-        Item::Node(node) => push_fields(out, b"node ", u64::from(node.distance), u64::from(node.frames)),
+        Item::Node(node) => push_fields(
+            out,
+            b"node ",
+            u64::from(node.distance),
+            u64::from(node.frames),
+        ),
         Item::Cpus(cpus) => push_field(out, b"cpus ", u64::from(cpus)),
         Item::Retry(retry) => push_field(out, b"retry ", u64::from(retry)),
         Item::Serial(turns) => push_field(out, b"serial turns ", u64::from(turns)),

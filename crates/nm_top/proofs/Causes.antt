@@ -9,8 +9,8 @@ use Rattle.nm_script.specs.declared.fault.ScriptFault.{ScriptFault}
 use Rattle.nm_script.specs.declared.fault.ScriptRefusal.{ScriptRefusal}
 use Rattle.nm_script.specs.declared.fault.ScriptRefusal.TheVariants as refusals
 use Rattle.nm_script.specs.Plain as plain
+use Rattle.nm_script.specs.Faults.{GivesReading, GivesFault}
 use Rattle.nm_script.specs.Script.{script_text}
-use Rattle.nm_script.specs.Reading.{GivesReading, Refuses}
 use Rattle.nm_script.specs.Grammar.{IsScriptText}
 use Rattle.nm_script.specs.Faults as script_faults
 use Rattle.nm_script.specs.Faults.{IsFirstFault}
@@ -45,11 +45,11 @@ read_status (Ok s) = Memory
 read_status (Err p) = Script p.0 p.1
 
 -- a text that was refused, where it has this fault, and where it has none
-refused_first : (e : ScriptRefusal) (f : ScriptFault) (n : ℕ) → Refuses {A = plain.Script} e (Err (f, n)) → IsOrMemory (status_of_text e) (Script f n)
+refused_first : (e : ScriptRefusal) (f : ScriptFault) (n : ℕ) → GivesFault {A = plain.Script} e (Err (f, n)) → IsOrMemory (status_of_text e) (Script f n)
 refused_first refusals.Memory f n h = inr refl
 refused_first (refusals.At g k) f n h = inl (sym (ap read_status h))
 
-refused_none : (e : ScriptRefusal) (s : plain.Script) → Refuses e (Ok s) → status_of_text e ≡ Memory
+refused_none : (e : ScriptRefusal) (s : plain.Script) → GivesFault e (Ok s) → status_of_text e ≡ Memory
 refused_none refusals.Memory s h = refl
 refused_none (refusals.At g k) s h = absurd (ok-err (Ok s) s (g, k) refl h)
 
@@ -95,8 +95,8 @@ refused_cause m old new bytes (refusals.At f n) h fault =
 
 -- the bytes are no script, or memory is wanting
 pub IsReading-refused : {S : Type 0} (m : SourceTells S) (old new : S) (bytes : List ℕ) (e : ScriptRefusal) → HasRead m old new bytes
-    → script_faults.IsTextRefusal bytes e → ((t : plain.Script) → IsScriptText bytes t → Refuses e (Ok t))
-    → ((f : ScriptFault) (n : ℕ) → IsFirstFault bytes f n → Refuses {A = plain.Script} e (Err (f, n))) → IsReading m old new (Err (status_of_text e))
+    → script_faults.IsTextRefusal bytes e → ((t : plain.Script) → IsScriptText bytes t → GivesFault e (Ok t))
+    → ((f : ScriptFault) (n : ℕ) → IsFirstFault bytes f n → GivesFault {A = plain.Script} e (Err (f, n))) → IsReading m old new (Err (status_of_text e))
 IsReading-refused m old new bytes e h fault only first = record {
   cause = refused_cause m old new bytes e h fault;
   answers = λ _. left_all _ _ bytes (λ b. ReadAnswers b (Err (status_of_text e))) h.all (record {

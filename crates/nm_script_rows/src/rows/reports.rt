@@ -11,7 +11,8 @@ use nm_action::Tally;
 use nm_base::{Geometry, VPage};
 use nm_flat::{Access, AccessKind};
 use nm_report::{
-    EndWords, LineResult, Report, Role, counts_filters, counts_sum, follows_fits, print, print_cpu, summary,
+    EndWords, LineResult, Report, Role, counts_filters, counts_sum, follows_fits, print, print_cpu,
+    summary,
 };
 use nm_script::{Line, Schedule, Script};
 use std::alloc::Global;

@@ -10,6 +10,6 @@ returns-in-Err-TooManyTiers-clause-fault c =
 pub returns-in-Err-Memory-clause-many : goal.returns-in-Err-Memory-clause-many
 returns-in-Err-Memory-clause-many c =
     λ h.
-      let many = (c.in-Err-Memory.ensures.too_many (tier_count c.args.nodes.now)).1 (refl, h) in
-      let memory = c.in-Err-Memory.field-0-is in
-      absurd (cc)
+    let many = (c.in-Err-Memory.ensures.too_many (tier_count c.args.nodes.now)).1 (refl, h) in
+    let memory = c.in-Err-Memory.field-0-is in
+    absurd (cc)
