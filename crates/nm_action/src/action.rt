@@ -239,26 +239,3 @@ pub struct Event {
     /// What it was answered.
     pub reply: Reply,
 }
-
-#[cfg(test)]
-mod tests {
-    use super::*;
-
-    #[test]
-    fn tells_kinds(rt: HostRuntime) {
-        for (action, kind) in [
-            (Action::Load { vpage: 1, word: 2 }, ActionKind::Load),
-            (Action::Poll, ActionKind::Poll),
-            (Action::Ack { to: AckTo::Off }, ActionKind::Ack),
-            (
-                Action::Read {
-                    page: 0,
-                    cell: Cell::Home(0),
-                },
-                ActionKind::Read,
-            ),
-        ] {
-            assert_eq!(rt; action.kind(), kind);
-        }
-    }
-}

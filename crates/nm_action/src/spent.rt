@@ -29,18 +29,3 @@ impl Spent {
         }
     }
 }
-
-#[cfg(test)]
-mod tests {
-    use super::*;
-
-    #[test]
-    fn counts_bumps_and_raises(rt: HostRuntime) {
-        let mut spent = Spent::default();
-        spent.count(Action::Bump);
-        spent.count(Action::Raise { vpage: 3 });
-        spent.count(Action::Bump);
-        spent.count(Action::Poll);
-        assert_eq!(rt; (spent.bumps, spent.raises), (2, 1));
-    }
-}

@@ -78,27 +78,3 @@ fn capped_sum(a: u64, b: u64) -> u64
 {
     a.saturating_add(b)
 }
-
-#[cfg(test)]
-mod tests {
-    use super::*;
-
-    #[test]
-    fn adds_tallies(rt: HostRuntime) {
-        let one = Tally {
-            demand: 3,
-            words: 2,
-            reclaimed: u64::MAX,
-            ..Tally::default()
-        };
-        let other = Tally {
-            demand: 4,
-            flushes: 5,
-            reclaimed: 1,
-            ..Tally::default()
-        };
-        let sum = one.plus(other);
-        assert_eq!(rt; (sum.demand, sum.words, sum.flushes), (7, 2, 5));
-        assert_eq!(rt; (sum.reclaimed, sum.alias), (u64::MAX, 0));
-    }
-}

@@ -1,3 +1,5 @@
 pub mod Pages
+pub mod ShadowWords
+pub mod TableWords
 pub mod Tiers
 pub mod Words

@@ -1,5 +1,5 @@
 -- Page words: the 64-bit words of the page table.
-use Rattle.std.specs.Prelude.{◌≡◌, ℕ, ◌+◌, ◌*◌, ◌/◌, ◌≤◌, ◌<◌, ◌^◌, ◌==◌, ◌⊎◌, Bool, true, false, if◌then◌else◌}
+use Rattle.std.specs.Prelude.{◌≡◌, ℕ, ◌+◌, ◌-◌, ◌*◌, ◌/◌, ◌%◌, ◌≤◌, ◌<◌, ◌^◌, ◌==◌, ◌⊎◌, Bool, true, false, if◌then◌else◌, bit_or, bit_xor}
 use Rattle.std.specs.Int.{bit_at}
 use Rattle.nm_base.specs.declared.page_word.PageWord.{PageWord}
 use Rattle.nm_base.specs.declared.page_word.PageWord.TheVariants.{Absent, Present}
@@ -23,9 +23,49 @@ is_accessed word = bit_at word 4 == 1
 abbrev pub is_saved : ℕ → Bool
 is_saved word = bit_at word 5 == 1
 
--- the frame number, from bit 12 on
+-- the frame number: bits 12 to 43 alone
 abbrev pub frame_of : ℕ → ℕ
-frame_of word = word / 4096
+frame_of word = (word / 4096) % 2 ^ 32
+
+-- the flags as masks
+abbrev pub present_mask : ℕ
+present_mask = 1
+
+abbrev pub hint_mask : ℕ
+hint_mask = 2
+
+abbrev pub writable_mask : ℕ
+writable_mask = 4
+
+abbrev pub dirty_mask : ℕ
+dirty_mask = 8
+
+abbrev pub accessed_mask : ℕ
+accessed_mask = 16
+
+abbrev pub saved_mask : ℕ
+saved_mask = 32
+
+-- every bit of a word but those of a mask
+abbrev pub all_but : ℕ → ℕ
+all_but mask = 2 ^ 64 - 1 - mask
+
+-- what a walk sets: accessed, and dirty for a write
+abbrev pub walk_mask : Bool → ℕ
+walk_mask true = accessed_mask + dirty_mask
+walk_mask false = accessed_mask
+
+-- a table word after a walk went through it
+abbrev pub walked_word : ℕ → Bool → ℕ
+walked_word word write = bit_or word (walk_mask write)
+
+-- what a grant turns: the right to write and the saved one
+abbrev pub grant_mask : ℕ
+grant_mask = writable_mask + saved_mask
+
+-- a table word whose saved right to write is made the right to write
+abbrev pub granted_word : ℕ → ℕ
+granted_word word = bit_xor word grant_mask
 
 -- a bit that stands for something: the six flags, and 32 bits of the frame number
 abbrev pub IsLayoutBit : ℕ → Type 0

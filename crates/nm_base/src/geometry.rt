@@ -1,7 +1,8 @@
 //! The geometry of a machine: its tiers of frames, its processors and its virtual pages.
 
 ghost use Rattle.std.specs.Prelude.{◌≡◌, ◌≢◌, ℕ, ◌^◌, ◌<◌, ◌≤◌, ◌↔◌, length, sum, All, IsTrue, IfOk, IfErr, IfSome, IfNone, Some, Err, MatchOption, option_map};
-ghost use Rattle.nm_base.specs.Geometry.{IsGeometry, HasRanges, IsFirstOutside, IsCrowded, AreTiers, AreVPages, made, IsPageSize, page_count, frame_count, pages_of, page_end, tier_of, tier_among, first_frame, backing_page, backing_among, IsInTier, IsNextVPage};
+ghost use Rattle.nm_base.specs.Geometry.{IsGeometry, HasRanges, IsFirstOutside, IsCrowded, AreTiers, AreVPages, made, IsPageSize, page_count, frame_count, pages_of, page_end, tier_of, tier_among, first_frame, backing_page, backing_among, IsInTier, IsNextVPage, IsWritable};
+ghost use Rattle.nm_base.specs.Ranges.{IsVPage, IsTier};
 
 use std::alloc::{AllocError, Global};
 use std::marker::Model;
@@ -150,6 +151,46 @@ impl Geometry {
         ensures { result ≡ first_frame self.now tier }
     {
         count_frames(&self.tiers[..tier as usize])
+    }
+
+    /// The backing page of a virtual page, if it is mapped.
+    pub fn backing(&self, vpage: u32) -> Option<u32>
+        ensures { result ≡ backing_page self.now vpage }
+    {
+        if !self.is_vpage(vpage) {
+            return None;
+        }
+        match self.vpages[vpage as usize] {
+            Some(mapped) => Some(mapped.page),
+            None => None,
+        }
+    }
+
+    /// Whether a virtual page is mapped and may be written.
+    pub fn may_be_written(&self, vpage: u32) -> bool
+        ensures { IsTrue result ↔ IsWritable self.now vpage }
+    {
+        if !self.is_vpage(vpage) {
+            return false;
+        }
+        match self.vpages[vpage as usize] {
+            Some(mapped) => mapped.writable,
+            None => false,
+        }
+    }
+
+    /// Whether there is such a virtual page, mapped or not.
+    pub fn is_vpage(&self, vpage: u32) -> bool
+        ensures { IsTrue result ↔ IsVPage self.now vpage }
+    {
+        (vpage as usize) < self.vpages.len()
+    }
+
+    /// Whether there is such a tier.
+    pub fn is_tier(&self, tier: u32) -> bool
+        ensures { IsTrue result ↔ IsTier self.now tier }
+    {
+        (tier as usize) < self.tiers.len()
     }
 
     /// The least virtual page of a backing page that is at least `from`. None exactly where there is none.
@@ -304,66 +345,4 @@ fn copied<T: Copy>(alloc: Global, items: &[T]) -> Result<Vec<T>, GeometryRefusal
     ensures memory { IfErr result (λ e. e ≡ GeometryRefusal.Memory) }
 {
     Vec::from_slice(alloc, items).map_err(|_| GeometryRefusal::Memory)
-}
-
-#[cfg(test)]
-mod tests {
-    use super::*;
-    use std::test::Fail;
-
-    const MAPPED: Option<VPage> = Some(VPage {
-        page: 1,
-        writable: true,
-    });
-
-    #[test]
-    fn reads_a_geometry(rt: HostRuntime) -> Result<(), Fail> {
-        let g = Geometry::new(rt.alloc(), 4, &[4, 8], 1, &[MAPPED, None, MAPPED])?;
-        assert_eq!(rt;
-            (g.words, g.cpus, g.tiers.len(), g.vpages.len()),
-            (4, 1, 2, 3)
-        );
-        assert_eq!(rt; (g.pages(), g.frames()), (2, 12));
-        assert_eq!(rt; (g.first_frame(0), g.first_frame(1)), (0, 4));
-        assert_eq!(rt;
-            (g.tier_of(0), g.tier_of(3), g.tier_of(4), g.tier_of(11)),
-            (0, 0, 1, 1)
-        );
-        assert_eq!(rt;
-            (g.next_vpage(1, 0), g.next_vpage(1, 1)),
-            (Some(0), Some(2))
-        );
-        assert_eq!(rt; (g.next_vpage(1, 3), g.next_vpage(0, 0)), (None, None));
-        Ok(())
-    }
-
-    #[test]
-    fn refuses_a_geometry(rt: HostRuntime) {
-        let far = Some(VPage {
-            page: 4096,
-            writable: true,
-        });
-        let last = Some(VPage {
-            page: 2,
-            writable: false,
-        });
-        for (words, tiers, cpus, vpage, want) in [
-            (3, [4, 8], 1, MAPPED, "OutOfRange"),
-            (1024, [4, 8], 1, MAPPED, "OutOfRange"),
-            (4, [0, 8], 1, MAPPED, "OutOfRange"),
-            (4, [4000, 4000], 1, MAPPED, "OutOfRange"),
-            (4, [4, 8], 17, MAPPED, "OutOfRange"),
-            (4, [4, 8], 1, None, "OutOfRange"),
-            (4, [4, 8], 1, far, "OutOfRange"),
-            (4, [4, 8], 1, last, "TooManyPages"),
-        ] {
-            let answer = match Geometry::new(rt.alloc(), words, &tiers, cpus, &[vpage]) {
-                Ok(_) => "Ok",
-                Err(GeometryRefusal::OutOfRange(_)) => "OutOfRange",
-                Err(GeometryRefusal::TooManyPages(_)) => "TooManyPages",
-                Err(GeometryRefusal::Memory) => "Memory",
-            };
-            assert_eq!(rt; answer, want, "{words} {cpus}");
-        }
-    }
 }

@@ -1,8 +1,12 @@
 //! Page words: the 64-bit words of the page table.
 
 ghost use Rattle.std.specs.Prelude.{◌≡◌, ◌↔◌, ◌<◌, ◌*◌, ◌==◌, IsTrue, IsSome, IfSome, Some};
-ghost use Rattle.std.specs.Int.{bit_at};
 ghost use Rattle.nm_base.specs.PageWord.{IsPageWord, IsPresentWord, IsNarrow, fields_of, word_of, flag};
+
+use crate::table_word::{
+    ACCESSED, DIRTY, HINT, PRESENT, SAVED, WRITABLE, frame_of, has_hint, is_accessed, is_dirty,
+    is_present, is_saved, is_writable,
+};
 
 /// What a table word says of a virtual page: that it is not mapped, or the frame that it maps and the flags.
 ///
@@ -29,8 +33,8 @@ pub enum PageWord {
     },
 }
 
-/// The distance of the frame number from bit 0.
-const FRAME_SHIFT: u32 = 12;
+/// The value of the frame number's lowest bit.
+const FRAME_UNIT: u64 = 4096;
 
 /// The first bit above the frame number.
 const FRAME_END: u32 = 44;
@@ -54,12 +58,12 @@ impl PageWord {
             return None;
         }
         Some(PageWord::Present {
-            frame: (word >> FRAME_SHIFT) as u32,
-            hint: is_set(word, 1),
-            writable: is_set(word, 2),
-            dirty: is_set(word, 3),
-            accessed: is_set(word, 4),
-            saved: is_set(word, 5),
+            frame: frame_of(word),
+            hint: has_hint(word),
+            writable: is_writable(word),
+            dirty: is_dirty(word),
+            accessed: is_accessed(word),
+            saved: is_saved(word),
         })
     }
 
@@ -77,12 +81,13 @@ impl PageWord {
                 accessed,
                 saved,
             } => {
-                1 + flag_at(hint, 2)
-                    + flag_at(writable, 4)
-                    + flag_at(dirty, 8)
-                    + flag_at(accessed, 16)
-                    + flag_at(saved, 32)
-                    + u64::from(frame) * 4096
+                PRESENT
+                    + flag_at(hint, HINT)
+                    + flag_at(writable, WRITABLE)
+                    + flag_at(dirty, DIRTY)
+                    + flag_at(accessed, ACCESSED)
+                    + flag_at(saved, SAVED)
+                    + u64::from(frame) * FRAME_UNIT
             }
         }
     }
@@ -92,7 +97,7 @@ impl PageWord {
 fn is_mapping(word: u64) -> bool
     ensures { IsTrue result ↔ IsPresentWord word }
 {
-    if !is_set(word, 0) {
+    if !is_present(word) {
         return false;
     }
     if word & GAP != 0 {
@@ -101,45 +106,10 @@ fn is_mapping(word: u64) -> bool
     word >> FRAME_END == 0
 }
 
-/// Whether a bit of a word is set.
-fn is_set(word: u64, bit: u32) -> bool
-    requires { bit < 64 }
-    ensures { result ≡ (bit_at word bit == 1) }
-{
-    (word >> bit) & 1 == 1
-}
-
 /// A flag at the place of `value`.
 fn flag_at(set: bool, value: u64) -> u64
     requires { value < 64 }
     ensures { result ≡ value * flag set }
 {
     if set { value } else { 0 }
-}
-
-#[cfg(test)]
-mod tests {
-    use super::*;
-    use std::test::Fail;
-
-    #[test]
-    fn reads_and_writes_words(rt: HostRuntime) -> Result<(), Fail> {
-        let word = PageWord::of_word(0x5015).ok_or("0x5015 is a page word")?;
-        let expected = PageWord::Present {
-            frame: 5,
-            hint: false,
-            writable: true,
-            dirty: false,
-            accessed: true,
-            saved: false,
-        };
-        assert_eq!(rt; word, expected);
-        assert_eq!(rt; word.to_word(), 0x5015);
-        assert_eq!(rt; PageWord::of_word(0), Some(PageWord::Absent));
-        assert_eq!(rt; PageWord::Absent.to_word(), 0);
-        for stray in [0x40, 0x5014, 0x1000_0000_0001, 0x8000_0000_0000_0001] {
-            assert_eq!(rt; PageWord::of_word(stray), None, "{stray:x}");
-        }
-        Ok(())
-    }
 }

@@ -14,7 +14,7 @@ use Rattle.nm_event.specs.Fitting.{IsReplyOf, most_bumps, most_raises}
 use Rattle.nm_shape.specs.Ranged.{IsInRangeReply, IsNarrowWalk}
 use Rattle.nm_words.specs.Exchanges.{told}
 use Rattle.nm_words.specs.Ranged.{IsRanged}
-use Rattle.nm_step.specs.Replies.{IsNamed}
+use Rattle.nm_core.specs.Replies.{IsNamed}
 use Rattle.nm_step.specs.Table.{where_of, change_of, reply_of}
 
 -- what holds of both replies holds of the one that is given

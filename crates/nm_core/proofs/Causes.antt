@@ -16,7 +16,7 @@ use Rattle.nm_words.specs.Names.{free_place, mem_place}
 use Rattle.nm_words.specs.Words.{Words, word_at, with_word}
 use Rattle.nm_step.specs.Table.{walked_word}
 use Rattle.nm_core.specs.State.{State, state_of, view_of, word_found, reply_to, step}
-use Rattle.nm_core.specs.Causes.{IsBusyWith, IsLostTo, IsRefusal}
+use Rattle.nm_core.specs.Causes.{IsBusyWith, IsLostTo, Refuses}
 
 -- a word that is written again leaves the words
 with_word-same : (g : Geometry) (w : Words) (c : Where) → with_word g w c (word_at g w c) ≡ w
@@ -81,13 +81,13 @@ same_state : (s : State) (actor : ℕ) (c : Where) → state_of s.geometry (with
 same_state s actor c =
     ap (λ w. state_of s.geometry w (set s.views actor (view_of s actor))) (with_word-same s.geometry s.words c) ∙ ap (λ vs. state_of s.geometry s.words vs) (set-get_or s.views actor (opening s.geometry actor))
 
-refused_go : (s : State) (actor : ℕ) (c : Where) (x : ℕ) (b : Bool) (done refused : Reply) (after : Reply → View) → (IsRefusal done → ⊥) → after refused ≡ view_of s actor → IsRefusal (if b then done else refused) → state_of s.geometry (with_word s.geometry s.words c (if b then x else word_at s.geometry s.words c)) (set s.views actor (after (if b then done else refused))) ≡ s
+refused_go : (s : State) (actor : ℕ) (c : Where) (x : ℕ) (b : Bool) (done refused : Reply) (after : Reply → View) → (Refuses done → ⊥) → after refused ≡ view_of s actor → Refuses (if b then done else refused) → state_of s.geometry (with_word s.geometry s.words c (if b then x else word_at s.geometry s.words c)) (set s.views actor (after (if b then done else refused))) ≡ s
 refused_go s actor c x true made refused after not_done same h = absurd (not_done h)
 refused_go s actor c x false made refused after not_done same h =
     ap (λ v. state_of s.geometry (with_word s.geometry s.words c (word_at s.geometry s.words c)) (set s.views actor v)) same ∙ same_state s actor c
 
 -- a refused action changes nothing
-pub refused_same : (s : State) (actor : ℕ) (a : Action) → IsRefusal (reply_to s actor a) → step s actor a ≡ s
+pub refused_same : (s : State) (actor : ℕ) (a : Action) → Refuses (reply_to s actor a) → step s actor a ≡ s
 refused_same s actor (Walk v e write) h =
     refused_go s actor (names.Pte v) (walked_word e write) (word_found s actor (Walk v e write) == e) Done (Lost (word_found s actor (Walk v e write))) (after_of s.geometry (view_of s actor) (Walk v e write)) (λ done. done) refl h
 refused_same s actor (Mark b old new) h =

@@ -10,7 +10,7 @@ use Rattle.nm_event.specs.After.{after_of}
 use Rattle.nm_event.specs.Fitting.{IsReplyOf}
 use Rattle.nm_permit.specs.Permitted.{Allowed}
 use Rattle.nm_words.specs.declared.names.Where.TheVariants.{Req}
-use Rattle.nm_step.specs.Drawn.{bumps_after, raises_after}
+use Rattle.nm_core.specs.Drawn.{bumps_after, raises_after}
 use Rattle.nm_step.specs.Table.{where_of}
 
 -- the bumps and raises of the actor after a step

@@ -1,8 +1,10 @@
 pub mod Answers
 pub mod Causes
 pub mod Counts
+pub mod InPlace
+pub mod InRange
+pub mod Keyed
+pub mod Naming
 pub mod Readers
-pub mod Sound
 pub mod Starts
 pub mod Steps
-pub mod Words

@@ -4,7 +4,7 @@ use Rattle.nm_base.specs.Ranges.{IsPage, IsFrame}
 use Rattle.nm_words.specs.declared.names.Where.TheVariants.{Home}
 use Rattle.nm_words.specs.Names.{IsPlace}
 use Rattle.nm_step.specs.Table.{free_word_of}
-use Rattle.nm_step.proofs.InPlace.{IsPlace-free_word_of}
+use Rattle.nm_core.proofs.InPlace.{IsPlace-free_word_of}
 use Rattle.nm_core.specs.State.{State}
 use Rattle.nm_core.specs.Kept.{IsKept}
 

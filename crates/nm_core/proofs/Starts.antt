@@ -14,7 +14,7 @@ use Rattle.nm_shape.proofs.Laws.{keyed_opening}
 use Rattle.nm_words.specs.Words.{Words, opening_words}
 use Rattle.nm_words.proofs.Groups.{HasSizes-opening}
 use Rattle.nm_words.proofs.Standing.{AreRanged-opening}
-use Rattle.nm_step.specs.Named.{OpNamesFrames}
+use Rattle.nm_core.specs.Named.{OpNamesFrames}
 use Rattle.nm_core.specs.State.{state_of, view_of, start, actor_count}
 use Rattle.nm_core.specs.Kept.{IsViewKept, IsKept, bumps_of, raises_of}
 

@@ -20,13 +20,13 @@ use Rattle.nm_words.specs.Words.{Words, exchanged}
 use Rattle.nm_words.specs.Ranged.{IsRanged, AreRanged}
 use Rattle.nm_words.proofs.Groups.{HasSizes-with_word}
 use Rattle.nm_words.proofs.Standing.{AreRanged-with_word}
-use Rattle.nm_step.specs.Drawn.{bumps_after, raises_after}
-use Rattle.nm_step.specs.Replies.{IsNamed}
+use Rattle.nm_core.specs.Drawn.{bumps_after, raises_after}
+use Rattle.nm_core.specs.Replies.{IsNamed}
 use Rattle.nm_step.specs.Table.{where_of, change_of}
-use Rattle.nm_step.proofs.InPlace.{IsPlace-where_of}
-use Rattle.nm_step.proofs.InRange.{IsRanged-changed}
-use Rattle.nm_step.proofs.Naming.{NamesFrames-after, number-after}
-use Rattle.nm_core.specs.State.{State, state_of, view_of, place_of, word_found, exchange_of, told_by, reply_by, reply_to, step}
+use Rattle.nm_core.proofs.InPlace.{IsPlace-where_of}
+use Rattle.nm_core.proofs.InRange.{IsRanged-changed}
+use Rattle.nm_core.proofs.Naming.{NamesFrames-after, number-after}
+use Rattle.nm_core.specs.State.{State, state_of, view_of, place_found, word_found, change_made, told_by, reply_by, reply_to, step}
 use Rattle.nm_core.specs.Kept.{IsViewKept, IsKept, bumps_of, raises_of}
 use Rattle.nm_core.proofs.Counts.{counts-after, bumps-few, raises-few, bumps-sum, raises-sum, raises-more, bumps-elsewhere}
 use Rattle.nm_core.proofs.Answers.{IsReplyOf-reply_of, IsNamed-reply_of, IsNarrowWalk-reply_of, IsInRangeReply-reply_of}
@@ -48,11 +48,11 @@ some_frame : (g : Geometry) → IsGeometry g → 0 < frame_count g
 some_frame g h = omega (arith, h.room)
 
 -- the machine has the word of a permitted action, and it is what it can be
-pub place_there : (s : State) (actor : ℕ) (a : Action) → IsKept s → actor < length s.views → Allowed s.geometry (view_of s actor) a → IsPlace s.geometry (place_of s actor a)
+pub place_there : (s : State) (actor : ℕ) (a : Action) → IsKept s → actor < length s.views → Allowed s.geometry (view_of s actor) a → IsPlace s.geometry (place_found s actor a)
 place_there s actor a k there may = IsPlace-where_of s.geometry (view_of s actor) a (k.views actor there).names may
 
-pub found_ranged : (s : State) (actor : ℕ) (a : Action) → IsKept s → actor < length s.views → Allowed s.geometry (view_of s actor) a → IsRanged s.geometry (bumps_of s) (raises_of s) (place_of s actor a) (word_found s actor a)
-found_ranged s actor a k there may = k.ranged (place_of s actor a) (place_there s actor a k there may)
+pub found_ranged : (s : State) (actor : ℕ) (a : Action) → IsKept s → actor < length s.views → Allowed s.geometry (view_of s actor) a → IsRanged s.geometry (bumps_of s) (raises_of s) (place_found s actor a) (word_found s actor a)
+found_ranged s actor a k there may = k.ranged (place_found s actor a) (place_there s actor a k there may)
 
 -- the view of the actor after the step
 view_kept : (g : Geometry) (actor : ℕ) (view : View) (a : Action) (r : Reply) → IsReplyOf a r → Allowed g view a → IsNamed g a r → IsKeyed g (after_of g view a r) → IsViewKept g actor view → IsViewKept g actor (after_of g view a r)
@@ -67,7 +67,7 @@ view_kept g actor view a r kind may named keyed k =
     }
 
 reply_kind : (s : State) (actor : ℕ) (a : Action) → IsReplyOf a (reply_to s actor a)
-reply_kind s actor a = IsReplyOf-reply_of a (told (exchange_of s actor a) (word_found s actor a))
+reply_kind s actor a = IsReplyOf-reply_of a (told (change_made s actor a) (word_found s actor a))
 
 -- what all actors have made after the step
 bumps_step : (s : State) (actor : ℕ) (a : Action) → actor < length s.views → bumps_of (step s actor a) ≡ bumps_after a (bumps_of s)
@@ -88,7 +88,7 @@ ranged_step s actor a k there may =
     let view : View = view_of s actor in
     let found = found_ranged s actor a k there may in
     let new = IsRanged-changed g view a (bumps_of s) (raises_of s) (word_found s actor a) (k.views actor there).names may (some_frame g k.geometry) (omega (arith, few_bumps s k)) found in
-    AreRanged-with_word g (bumps_of s) (raises_of s) (bumps_after a (bumps_of s)) (raises_after a (raises_of s)) s.words (place_of s actor a) (changed (exchange_of s actor a) (word_found s actor a)) k.sizes (place_there s actor a k there may) (raises-more a (raises_of s)) (bumps-elsewhere g view a (bumps_of s)) new k.ranged
+    AreRanged-with_word g (bumps_of s) (raises_of s) (bumps_after a (bumps_of s)) (raises_after a (raises_of s)) s.words (place_found s actor a) (changed (change_made s actor a) (word_found s actor a)) k.sizes (place_there s actor a k there may) (raises-more a (raises_of s)) (bumps-elsewhere g view a (bumps_of s)) new k.ranged
 
 -- a permitted step keeps what every step keeps, where it leaves the view keyed
 pub IsKept-step : (s : State) (actor : ℕ) (a : Action) → IsKept s → actor < length s.views → Allowed s.geometry (view_of s actor) a → IsKeyed s.geometry (after_of s.geometry (view_of s actor) a (reply_to s actor a)) → IsKept (step s actor a)
@@ -100,7 +100,7 @@ IsKept-step s actor a k there may keyed =
     let kept : IsViewKept g actor new = view_kept g actor (view_of s actor) a (reply_to s actor a) (reply_kind s actor a) may named keyed (k.views actor there) in
     record {
       geometry = k.geometry;
-      sizes = HasSizes-with_word g s.words (place_of s actor a) (changed (exchange_of s actor a) (word_found s actor a)) k.sizes;
+      sizes = HasSizes-with_word g s.words (place_found s actor a) (changed (change_made s actor a) (word_found s actor a)) k.sizes;
       ranged = rw (bumps_step s actor a there, raises_step s actor a there) (ranged_step s actor a k there may);
       actors = size ∙ k.actors;
       views = λ other within. elim (cases_eq other actor) [

@@ -30,8 +30,8 @@ pub record IsLostTo (s : State) (actor : ℕ) (action : Action) (word : ℕ) : T
   pub other : IsSomeAnd (expected_of action) (λ expected. word ≢ expected)
 
 -- a reply that refuses
-abbrev pub IsRefusal : Reply → Type 0
-IsRefusal Done = ⊥
-IsRefusal (Word _) = ⊥
-IsRefusal (Busy _) = Unit {0}
-IsRefusal (Lost _) = Unit {0}
+abbrev pub Refuses : Reply → Type 0
+Refuses Done = ⊥
+Refuses (Word _) = ⊥
+Refuses (Busy _) = Unit {0}
+Refuses (Lost _) = Unit {0}

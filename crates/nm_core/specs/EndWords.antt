@@ -27,7 +27,7 @@ empty_end g = record {
 }
 
 -- a home and a mark for each backing page, a shadow word and a role for each frame
-pub record HasRoom (g : Geometry) (e : EndWords) : Type 0 where
+pub record HasEndRoom (g : Geometry) (e : EndWords) : Type 0 where
   pub homes : length e.homes ≡ page_count g
   pub shadows : length e.shadows ≡ frame_count g
   pub marks : length e.marks ≡ page_count g

@@ -1,8 +1,9 @@
 pub mod Causes
+pub mod Drawn
 pub mod EndWords
-pub mod Inside
 pub mod Kept
+pub mod Named
+pub mod Replies
 pub mod Roles
 pub mod Runs
 pub mod State
-pub mod Still

@@ -9,7 +9,6 @@ use Rattle.nm_view.specs.Opening.{opening}
 use Rattle.nm_event.specs.After.{after_of}
 use Rattle.nm_words.specs.declared.names.Where.{Where}
 use Rattle.nm_words.specs.declared.exchanges.Change.{Change}
-use Rattle.nm_words.specs.Exchanges.{told}
 use Rattle.nm_words.specs.Words.{Words, word_at, exchanged, opening_words}
 use Rattle.nm_step.specs.Table.{where_of, change_of, reply_of}
 
@@ -28,24 +27,20 @@ abbrev pub view_of : State → ℕ → View
 view_of s actor = slice_index_or s.views actor (opening s.geometry actor)
 
 -- the word on which an action of an actor is an exchange
-abbrev pub place_of : State → ℕ → Action → Where
-place_of s actor action = where_of s.geometry (view_of s actor) action
+abbrev pub place_found : State → ℕ → Action → Where
+place_found s actor action = where_of s.geometry (view_of s actor) action
 
 -- what this word is before the exchange
 abbrev pub word_found : State → ℕ → Action → ℕ
-word_found s actor action = word_at s.geometry s.words (place_of s actor action)
+word_found s actor action = word_at s.geometry s.words (place_found s actor action)
 
 -- the exchange
-abbrev pub exchange_of : State → ℕ → Action → Change
-exchange_of s actor action = change_of s.geometry (view_of s actor) action
-
--- what the exchange of an action by a view tells
-abbrev pub told_by : Geometry → Words → View → Action → ℕ
-told_by g words view action = told (change_of g view action) (word_at g words (where_of g view action))
+abbrev pub change_made : State → ℕ → Action → Change
+change_made s actor action = change_of s.geometry (view_of s actor) action
 
 -- the reply to an action by a view
 abbrev pub reply_by : Geometry → Words → View → Action → Reply
-reply_by g words view action = reply_of action (told_by g words view action)
+reply_by g words view action = reply_of (change_of g view action) (word_at g words (where_of g view action))
 
 -- the reply
 abbrev pub reply_to : State → ℕ → Action → Reply
@@ -56,7 +51,7 @@ reply_to s actor action = reply_by s.geometry s.words (view_of s actor) action
 abbrev pub step : State → ℕ → Action → State
 step s actor action = record {
   geometry = s.geometry;
-  words = exchanged s.geometry (place_of s actor action) (exchange_of s actor action) s.words;
+  words = exchanged s.geometry (place_found s actor action) (change_made s actor action) s.words;
   views = slice_set s.views actor (after_of s.geometry (view_of s actor) action (reply_to s actor action));
 }
 

@@ -1,13 +1,11 @@
-//! The machine: its memory, as programs read and write it through virtual pages.
+//! The machine: its words, the views of its actors, one step, and what a report reads of it.
 #![tactic(auto)]
 
 pub mod ends;
-pub mod machine;
 mod reading;
 pub mod state;
 #[cfg(test)]
 mod tests;
 
 pub use ends::{EndWords, Role};
-pub use machine::Still;
 pub use state::State;

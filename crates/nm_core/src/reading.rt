@@ -8,7 +8,7 @@ ghost use Rattle.nm_view.specs.Views.{View, end_word};
 ghost use Rattle.nm_view.specs.Opening.{IsActor};
 ghost use Rattle.nm_core.specs.State.{view_of};
 ghost use Rattle.nm_core.specs.Roles.{is_free, is_mapped, is_shadow, is_held, names_shadow, owns, role_of, all_frames, IsSettled};
-ghost use Rattle.nm_core.specs.EndWords.{HasRoom, home_of, shadow_at, named_home, named_shadow, IsEndOf};
+ghost use Rattle.nm_core.specs.EndWords.{HasEndRoom, home_of, shadow_at, named_home, named_shadow, IsEndOf};
 
 use crate::ends::{EndWords, Role};
 use crate::state::State;
@@ -175,7 +175,7 @@ impl State {
     /// Writes the end words of this state: the home and the mark of each backing page, the shadow word and the role of
     /// each frame, and whether the machine is settled. It takes no memory. `into` was made for the same geometry.
     pub fn end_words(&self, into: &mut EndWords)
-        requires { HasRoom self.now.geometry into.old }
+        requires { HasEndRoom self.now.geometry into.old }
         ensures { IsEndOf self.now into.new }
     {
         self.write_homes(&mut into.homes);

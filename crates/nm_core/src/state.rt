@@ -14,7 +14,7 @@ ghost use Rattle.nm_words.specs.Words.{exchanged, HasSizes};
 ghost use Rattle.nm_step.specs.Table.{where_of, change_of};
 ghost use Rattle.nm_core.specs.State.{state_of, view_of, told_by, reply_by, reply_to, step, start, actor_count};
 ghost use Rattle.nm_core.specs.Kept.{IsKept};
-ghost use Rattle.nm_core.specs.Causes.{IsBusyWith, IsLostTo, IsRefusal};
+ghost use Rattle.nm_core.specs.Causes.{IsBusyWith, IsLostTo, Refuses};
 
 use nm_action::{Action, Reply};
 use nm_base::Geometry;
@@ -147,7 +147,7 @@ impl State {
         ensures reply { result ≡ reply_to self.old actor action }
         ensures busy { (w : ℕ) → (result ≡ Reply.Busy w) ↔ IsBusyWith self.old actor action w }
         ensures lost { (w : ℕ) → (result ≡ Reply.Lost w) ↔ IsLostTo self.old actor action w }
-        ensures refused { IsRefusal result → self.new ≡ self.old }
+        ensures refused { Refuses result → self.new ≡ self.old }
         ensures before { IsKept self.old }
         ensures after { IsKept self.new }
     {

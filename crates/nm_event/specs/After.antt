@@ -1,9 +1,10 @@
 -- What a step changes in the view of its actor.
-use Rattle.std.specs.Prelude.{ℕ, ◌+◌, ◌-◌, ◌*◌, ◌^◌, ◌==◌, ◌&&◌, ◌||◌, not, nat_le, bit_or, bit_xor, count_ones, if◌then◌else◌, Bool, true, false, List, [], ◌∷◌, ◌++◌, map, Option, Some, None}
+use Rattle.std.specs.Prelude.{ℕ, ◌+◌, ◌-◌, ◌^◌, ◌==◌, ◌&&◌, ◌||◌, not, nat_le, bit_or, count_ones, if◌then◌else◌, Bool, true, false, List, [], ◌∷◌, ◌++◌, map, Option, Some, None}
 use Rattle.std.specs.List.{filter}
-use Rattle.std.specs.Int.{w64, trailing_zeros}
-use Rattle.nm_base.specs.Geometry.{Geometry, backing_page, first_frame}
-use Rattle.nm_base.specs.PageWord.{is_writable, is_dirty, frame_of}
+use Rattle.nm_base.specs.Geometry.{Geometry, backing_page}
+use Rattle.nm_base.specs.PageWord.{is_writable, is_dirty, frame_of, granted_word}
+use Rattle.nm_base.specs.HomeWord.{home_word}
+use Rattle.nm_base.specs.FreeWords.{free_base, least_frame}
 use Rattle.nm_view.specs.declared.view.CacheEntry.{CacheEntry}
 use Rattle.nm_view.specs.declared.view.Peeked.{Peeked}
 use Rattle.nm_view.specs.declared.view.Phase.{Phase}
@@ -22,10 +23,11 @@ use Rattle.nm_action.specs.declared.action.Reply.TheVariants.{Done, Word}
 use Rattle.nm_action.specs.declared.action.Action.{Action}
 use Rattle.nm_action.specs.declared.action.Action.TheVariants.{Look, Walk, Peek, Poll, Ack, Lock, Unlock, Bump, SeeAck, Raise, ClearDirty, Unmap, Map, Grant, CopyLoad, CopyStore, SetHome, SetShadow, TakeTurn, Scan, GiveFrame, PutFrame, ReleaseTurn, Read}
 use Rattle.nm_view.specs.Lists.{find, edit, erase, put, first, itself}
-use Rattle.nm_view.specs.Views.{Op, View, off_word, end_word}
+use Rattle.nm_view.specs.Views.{Op, View}
 use Rattle.nm_view.specs.Opening.{opened, unscanned}
 use Rattle.nm_base.specs.ShadowWord.{shadow_word, shadow_frame}
 use Rattle.nm_view.specs.Operations.{page_of, cached_page, peeked_page, owned_frame, op_on, known_home, is_flush_ended}
+use Rattle.nm_step.specs.Table.{acked_word}
 
 -- Translations.
 
@@ -55,12 +57,6 @@ is_confirmed peeked e = is_fresh_at e.stamp (find peeked_page e.vpage peeked)
 -- a peek after a Poll
 abbrev pub stale : Peeked → Peeked
 stale p = record p { fresh = false }
-
--- what an acknowledgement says
-abbrev pub acked_word : View → AckTo → ℕ
-acked_word view Seen = view.req_seen
-acked_word view Off = off_word
-acked_word view End = end_word
 
 -- what an acknowledgement keeps of the cache
 abbrev pub kept_entries : View → AckTo → List CacheEntry
@@ -147,7 +143,7 @@ copied_one o = record o {
 -- after a SetHome
 abbrev pub homed_at : ℕ → Op → Op
 homed_at frame o = record o {
-  home = Some (frame + 1);
+  home = Some (home_word frame);
   shadow = Some 0;
   moved = true;
 }
@@ -169,10 +165,6 @@ mapped_at v word o = record o {
   cleared = o.cleared && has_some (erase first v o.taken);
   last = None;
 }
-
--- a word whose saved right to write, bit 5, is made the right to write, bit 2: both bits are turned
-abbrev pub granted_word : ℕ → ℕ
-granted_word word = bit_xor word 36
 
 -- after a Grant of v whose word was this
 abbrev pub granted_at : ℕ → ℕ → Op → Op
@@ -250,14 +242,10 @@ stored_fill (Some page) n = Copied page n
 
 -- Scans.
 
--- the number of the least set bit of a word that is not 0
-unfoldable pub least_bit : ℕ → ℕ
-least_bit word = trailing_zeros w64 word
-
 -- the least frame found so far
 abbrev pub least_with : Option ℕ → ℕ → ℕ → Option ℕ
 least_with (Some f) base word = Some f
-least_with None base word = if word == 0 then None else Some (base + least_bit word)
+least_with None base word = least_frame base word
 
 -- after a Scan of a word whose bit 0 stands for the frame `base`
 abbrev pub scanned_word : ℕ → ℕ → Scanned → Scanned
@@ -290,7 +278,7 @@ after_of g view (CopyStore b f i _) Done = record view { ops = edit_under b copi
 after_of g view (SetHome b f) Done = record view { ops = edit page_of b (homed_at f) view.ops; owned = let_go b (known_home (op_on view b)) (erase owned_frame f view.owned) }
 after_of g view (SetShadow b _ s) Done = record view { ops = edit page_of b (shaded b s) view.ops; owned = shading g b (op_on view b) s view.owned }
 after_of g view (TakeTurn t) Done = record view { turn = Some t; scan = unscanned }
-after_of g view (Scan t k) (Word n) = record view { scan = scanned_word (first_frame g t + 64 * k) n view.scan }
+after_of g view (Scan t k) (Word n) = record view { scan = scanned_word (free_base g t k) n view.scan }
 after_of g view (GiveFrame f) (Word _) = record view { owned = owning f Raw view.owned; scan = unscanned }
 after_of g view (PutFrame f) (Word _) = record view { owned = erase owned_frame f view.owned }
 after_of g view (ReleaseTurn _) Done = record view { turn = None; scan = unscanned }

@@ -1,16 +1,17 @@
 //! How a step changes the view of its actor.
 
-ghost use Rattle.std.specs.Prelude.{◌≡◌, ◌+◌, ◌*◌, ◌<◌, ◌≤◌, ◌^◌, Some, IfSome, count_ones, length, option_map};
-ghost use Rattle.nm_base.specs.Geometry.{first_frame};
-ghost use Rattle.nm_base.specs.PageWord.{frame_of};
-ghost use Rattle.nm_base.specs.FreeWords.{free_words};
-ghost use Rattle.nm_base.specs.ShadowWord.{shadow_frame};
-ghost use Rattle.nm_view.specs.Operations.{op_on, known_home};
-ghost use Rattle.nm_base.specs.Ranges.{IsTier};
-ghost use Rattle.nm_permit.specs.Permitted.{Allowed};
-ghost use Rattle.nm_event.specs.After.{after_of, walked, let_go, unshaded, unshaded_fill, is_quiet};
-ghost use Rattle.nm_event.specs.Fitting.{IsReplyOf};
-ghost use Rattle.nm_event.specs.Room.{HasRoom, NumbersFit};
+ghost use Rattle.std.specs.Prelude.{◌≡◌, ◌+◌, ◌*◌, ◌<◌, ◌≤◌, ◌^◌, ◌∷◌, ◌++◌, Some, None, true, [], All, IfSome, IsTrue, map, length, count_ones, option_map};
+ghost use Rattle.nm_base.specs.Geometry.{backing_page};
+ghost use Rattle.nm_view.specs.Lists.{edit, erase, put};
+ghost use Rattle.nm_view.specs.Opening.{unscanned};
+ghost use Rattle.nm_view.specs.Operations.{page_of, cached_page, peeked_page, owned_frame, op_on, known_home};
+ghost use Rattle.nm_permit.specs.Permitted.{Allowed, IsFreeWordAt};
+ghost use Rattle.nm_base.specs.FreeWords.{free_base};
+ghost use Rattle.nm_view.specs.Views.{own_bumps, own_raises};
+ghost use Rattle.nm_event.specs.Changes.{op_changed};
+ghost use Rattle.nm_step.specs.Table.{acked_word};
+ghost use Rattle.nm_event.specs.After.{after_of, walked, kept_entries, edit_of, edit_under, let_go, shading, unshaded, unshaded_fill, unshading, is_quiet, mapped_at, granted_at, copied_one, homed_at, shaded, stored_fill, filled, spoiled, spoiled_under, stale, owning, bumped_to, raised_to, scanned_word};
+ghost use Rattle.nm_event.specs.Room.{HasRoom, IsOpWithin};
 
 use crate::change::{OpChange, bump_all, see_all};
 use crate::frames::{
@@ -19,14 +20,13 @@ use crate::frames::{
 };
 use nm_action::{AckTo, Action, Reply};
 use nm_base::Geometry;
+use nm_base::shadow_word::shadow_frame;
+use nm_base::table_word::{frame_of, is_dirty, is_writable};
 use nm_view::keyed::{look_up, put};
-use nm_view::opening::{close_op, open_op};
-use nm_view::reading::{has_bit, op_on};
 use nm_view::{ActorView, CacheEntry, END, Fill, OFF, Peeked, UNSCANNED};
 
 /// What a walk caches.
 fn walked(view: &ActorView, vpage: u32, expect: u64, write: bool) -> CacheEntry
-    requires { frame_of expect < 2 ^ 32 }
     ensures { result ≡ walked view.now vpage expect write }
 {
     let stamp = match look_up(&view.peeked, vpage) {
@@ -35,25 +35,112 @@ fn walked(view: &ActorView, vpage: u32, expect: u64, write: bool) -> CacheEntry
     };
     CacheEntry {
         vpage,
-        frame: (expect >> 12) as u32,
-        dirty: has_bit(expect, 2) && (write || has_bit(expect, 3)),
+        frame: frame_of(expect),
+        dirty: is_writable(expect) && (write || is_dirty(expect)),
         stamp,
     }
 }
 
-/// After a Walk that was done.
-fn after_walk(_g: &Geometry, view: &mut ActorView, vpage: u32, expect: u64, write: bool)
-    requires room { HasRoom _g.now view.old (Action.Walk vpage expect write) Reply.Done }
-    requires frame { frame_of expect < 2 ^ 32 }
-    ensures { view.new ≡ after_of _g.now view.old (Action.Walk vpage expect write) Reply.Done }
+/// Caches what a walk leads to.
+fn cache_walk(view: &mut ActorView, vpage: u32, expect: u64, write: bool)
+    requires { length (put cached_page (walked view.old vpage expect write) view.old.cache) ≤ view.old.room.vpages }
+    ensures { view.new ≡ record view.old { cache = put cached_page (walked view.old vpage expect write) view.old.cache } }
 {
     let entry = walked(view, vpage, expect, write);
     put(&mut view.cache, entry);
 }
 
-/// After an Ack.
-fn after_ack(_g: &Geometry, view: &mut ActorView, to: AckTo)
-    ensures { view.new ≡ after_of _g.now view.old (Action.Ack to) Reply.Done }
+/// Notes a peek.
+fn note_peek(view: &mut ActorView, vpage: u32, stamp: u64)
+    requires { length (put peeked_page (record { vpage = vpage; stamp = stamp; fresh = true }) view.old.peeked) ≤ view.old.room.vpages }
+    ensures { view.new ≡ record view.old { peeked = put peeked_page (record { vpage = vpage; stamp = stamp; fresh = true }) view.old.peeked } }
+{
+    let peek = Peeked {
+        vpage,
+        stamp,
+        fresh: true,
+    };
+    put(&mut view.peeked, peek);
+}
+
+/// Notes a poll.
+fn note_poll(view: &mut ActorView, bumps: u64)
+    ensures { view.new ≡ record view.old { req_seen = bumps; peeked = map stale view.old.peeked } }
+{
+    view.req_seen = bumps;
+    stale_peeks(view);
+}
+
+/// Notes a bump, whose number before it was `old`.
+fn note_bump(view: &mut ActorView, old: u64)
+    requires bumps { view.old.bumps < own_bumps }
+    requires due { All (λ o. IsTrue o.due → old + 1 < 2 ^ 64) view.old.ops }
+    ensures { view.new ≡ record view.old { bumps = view.old.bumps + 1; ops = map (bumped_to (old + 1)) view.old.ops } }
+{
+    view.bumps += 1;
+    bump_all(&mut view.ops, old);
+}
+
+/// Notes a raise, whose number before it was `old`.
+fn note_raise(g: &Geometry, view: &mut ActorView, vpage: u32, old: u64)
+    requires raises { view.old.raises < own_raises }
+    requires number { old + 1 < 2 ^ 64 }
+    requires ops { All (IsOpWithin view.old.room.aliases) (edit_of g.now vpage (raised_to vpage (old + 1)) view.old.ops) }
+    ensures { view.new ≡ record view.old { raises = view.old.raises + 1; ops = edit_of g.now vpage (raised_to vpage (old + 1)) view.old.ops } }
+{
+    change_op_of(g, view, vpage, OpChange::RaisedTo(vpage, old + 1));
+    view.raises += 1;
+}
+
+/// Notes a word of a tier's free frames.
+fn note_scan(g: &Geometry, view: &mut ActorView, tier: u32, index: u32, word: u64)
+    requires place { IsFreeWordAt g.now tier index }
+    requires next { index ≡ view.old.scan.words }
+    requires sum { view.old.scan.sum + count_ones word < 2 ^ 32 }
+    ensures { view.new ≡ record view.old { scan = scanned_word (free_base g.now tier index) word view.old.scan } }
+{
+    let base = g.free_base(tier, index);
+    view.scan = scanned_word(base, word, view.scan);
+}
+
+/// Takes a turn, or releases it. Nothing is scanned then.
+fn set_turn(view: &mut ActorView, turn: Option<u32>)
+    ensures { view.new ≡ record view.old { turn = turn; scan = unscanned } }
+{
+    view.turn = turn;
+    view.scan = UNSCANNED;
+}
+
+/// Owns a frame that was free. Nothing is scanned then.
+fn take_frame(view: &mut ActorView, frame: u32)
+    requires { length (owning frame Fill.Raw view.old.owned) ≤ view.old.room.frames }
+    ensures { view.new ≡ record view.old { owned = owning frame Fill.Raw view.old.owned; scan = unscanned } }
+{
+    own(view, frame, Fill::Raw);
+    view.scan = UNSCANNED;
+}
+
+/// Closes the operation on a page, and forgets what the frames have of the page.
+fn close(view: &mut ActorView, page: u32)
+    requires { All (λ o. o.room ≡ view.old.room.aliases) view.old.ops }
+    ensures { view.new ≡ record view.old { ops = erase page_of page view.old.ops; owned = spoiled page view.old.owned } }
+{
+    view.close_op(page);
+    spoil_page(view, page);
+}
+
+/// Changes the operation on the backing page of a virtual page, and forgets what the frames have of the page.
+fn change_word(g: &Geometry, view: &mut ActorView, vpage: u32, change: OpChange)
+    requires { All (IsOpWithin view.old.room.aliases) (edit_of g.now vpage (op_changed change) view.old.ops) }
+    ensures { view.new ≡ record view.old { ops = edit_of g.now vpage (op_changed change) view.old.ops; owned = spoiled_under (backing_page g.now vpage) view.old.owned } }
+{
+    change_op_of(g, view, vpage, change);
+    spoil_of(g, view, vpage);
+}
+
+/// Notes an acknowledgement, and drops what it does not keep of the cache.
+fn acknowledge(view: &mut ActorView, to: AckTo)
+    ensures { view.new ≡ record view.old { acked = acked_word view.old to; cache = kept_entries view.old to } }
 {
     match to {
         AckTo::Seen => {
@@ -71,68 +158,7 @@ fn after_ack(_g: &Geometry, view: &mut ActorView, to: AckTo)
     }
 }
 
-/// After an Unlock.
-fn after_unlock(_g: &Geometry, view: &mut ActorView, page: u32)
-    requires room { HasRoom _g.now view.old (Action.Unlock page) Reply.Done }
-    ensures { view.new ≡ after_of _g.now view.old (Action.Unlock page) Reply.Done }
-{
-    close_op(view, page);
-    spoil_page(view, page);
-}
-
-/// After a Map.
-fn after_map(g: &Geometry, view: &mut ActorView, vpage: u32, word: u64)
-    requires room { HasRoom g.now view.old (Action.Map vpage word) Reply.Done }
-    ensures { view.new ≡ after_of g.now view.old (Action.Map vpage word) Reply.Done }
-{
-    change_op_of(g, view, vpage, OpChange::MappedAt(vpage, word));
-    spoil_of(g, view, vpage);
-}
-
-/// After a Grant of a word.
-fn after_grant(g: &Geometry, view: &mut ActorView, vpage: u32, word: u64)
-    requires room { HasRoom g.now view.old (Action.Grant vpage) (Reply.Word word) }
-    ensures { view.new ≡ after_of g.now view.old (Action.Grant vpage) (Reply.Word word) }
-{
-    change_op_of(g, view, vpage, OpChange::GrantedAt(vpage, word));
-    spoil_of(g, view, vpage);
-}
-
-/// After a CopyStore.
-fn after_copy_store(
-    g: &Geometry,
-    view: &mut ActorView,
-    page: Option<u32>,
-    frame: u32,
-    index: u32,
-    value: u64,
-)
-    requires room { HasRoom g.now view.old (Action.CopyStore page frame index value) Reply.Done }
-    requires index { index < g.now.words }
-    ensures { view.new ≡ after_of g.now view.old (Action.CopyStore page frame index value) Reply.Done }
-{
-    prove!(index < g.words);
-    match page {
-        Some(page) => {
-            change_op(view, page, OpChange::CopiedOne);
-            refill(view, frame, Fill::Copied(page, index + 1));
-        }
-        None => refill(view, frame, Fill::Zeroed(index + 1)),
-    }
-    let _value = value;
-}
-
-/// The home word that the operation on a page knows.
-fn known_home(view: &ActorView, page: u32) -> Option<u64>
-    ensures { result ≡ known_home (op_on view.now page) }
-{
-    match op_on(view, page) {
-        Some(op) => op.home,
-        None => None,
-    }
-}
-
-/// Owns the old home of a page.
+/// Owns the old home of a page, if there is one.
 fn let_go(view: &mut ActorView, page: u32, home: Option<u64>)
     requires room { length (let_go page home view.old.owned) ≤ view.old.room.frames }
     requires frame { IfSome home (λ h. h ≤ 2 ^ 32) }
@@ -145,23 +171,34 @@ fn let_go(view: &mut ActorView, page: u32, home: Option<u64>)
     }
 }
 
-/// After a SetHome.
-fn after_set_home(_g: &Geometry, view: &mut ActorView, page: u32, frame: u32)
-    requires room { HasRoom _g.now view.old (Action.SetHome page frame) Reply.Done }
-    requires frame { IfSome (known_home (op_on view.old page)) (λ h. h ≤ 2 ^ 32) }
-    ensures { view.new ≡ after_of _g.now view.old (Action.SetHome page frame) Reply.Done }
+/// Notes a new home, and owns the old one in place of the new.
+fn set_home(view: &mut ActorView, page: u32, frame: u32)
+    requires ops { All (IsOpWithin view.old.room.aliases) (edit page_of page (homed_at frame) view.old.ops) }
+    requires owned { length (let_go page (known_home (op_on view.old page)) (erase owned_frame frame view.old.owned)) ≤ view.old.room.frames }
+    requires home { IfSome (known_home (op_on view.old page)) (λ h. h ≤ 2 ^ 32) }
+    ensures { view.new ≡ record view.old { ops = edit page_of page (homed_at frame) view.old.ops; owned = let_go page (known_home (op_on view.old page)) (erase owned_frame frame view.old.owned) } }
 {
-    let home = known_home(view, page);
+    let home = view.known_home(page);
     change_op(view, page, OpChange::HomedAt(frame));
     disown(view, frame);
     let_go(view, page, home);
 }
 
-/// The shadow that a shadow word names.
-fn shadow_frame(word: u64) -> u32
-    ensures { result ≡ shadow_frame word }
+/// The fill that the shadow of a page gets where it is taken away, and the shadow word that is known.
+fn unshaded_as(g: &Geometry, view: &ActorView, page: u32) -> Option<(Fill, Option<u64>)>
+    ensures { result ≡ option_map (λ o. (unshaded_fill (is_quiet g.now o) page, o.shadow)) (op_on view.now page) }
 {
-    ((word % (1 << 32)) as u32).saturating_sub(1)
+    match view.op_on(page) {
+        Some(op) => {
+            let fill = if is_quiet(g, op) {
+                Fill::Equal(page)
+            } else {
+                Fill::Raw
+            };
+            Some((fill, op.shadow))
+        }
+        None => None,
+    }
 }
 
 /// Owns the shadow that the operation on a page knows.
@@ -175,267 +212,102 @@ fn unshade(g: &Geometry, view: &mut ActorView, page: u32)
     own(view, shadow_frame(word), fill);
 }
 
-/// The fill that the shadow of a page gets where it is taken away, and the shadow word that is known.
-fn unshaded_as(g: &Geometry, view: &ActorView, page: u32) -> Option<(Fill, Option<u64>)>
-    ensures { result ≡ option_map (λ o. (unshaded_fill (is_quiet g.now o) page, o.shadow)) (op_on view.now page) }
-{
-    match op_on(view, page) {
-        Some(op) => {
-            let fill = if is_quiet(g, op) {
-                Fill::Equal(page)
-            } else {
-                Fill::Raw
-            };
-            Some((fill, op.shadow))
-        }
-        None => None,
-    }
-}
-
-/// After a SetShadow.
-fn after_set_shadow(g: &Geometry, view: &mut ActorView, page: u32, master: u32, shadow: Option<u32>)
-    requires room { HasRoom g.now view.old (Action.SetShadow page master shadow) Reply.Done }
-    ensures { view.new ≡ after_of g.now view.old (Action.SetShadow page master shadow) Reply.Done }
+/// Notes a shadow that is given, which is owned no more, or taken away, which is owned.
+fn set_shadow(g: &Geometry, view: &mut ActorView, page: u32, shadow: Option<u32>)
+    requires ops { All (IsOpWithin view.old.room.aliases) (edit page_of page (shaded page shadow) view.old.ops) }
+    requires owned { length (shading g.now page (op_on view.old page) shadow view.old.owned) ≤ view.old.room.frames }
+    ensures { view.new ≡ record view.old { ops = edit page_of page (shaded page shadow) view.old.ops; owned = shading g.now page (op_on view.old page) shadow view.old.owned } }
 {
     match shadow {
         Some(frame) => disown(view, frame),
         None => unshade(g, view, page),
     }
     change_op(view, page, OpChange::Shaded(page, shadow));
-    let _master = master;
 }
 
-/// After a TakeTurn that was done.
-fn after_take_turn(_g: &Geometry, view: &mut ActorView, tier: u32)
-    ensures { view.new ≡ after_of _g.now view.old (Action.TakeTurn tier) Reply.Done }
+/// Notes a word that was stored into an owned frame: a 0, or one that was copied of a page.
+fn store_copy(view: &mut ActorView, page: Option<u32>, frame: u32, index: u32)
+    requires ops { All (IsOpWithin view.old.room.aliases) (edit_under page copied_one view.old.ops) }
+    requires index { index + 1 < 2 ^ 32 }
+    ensures { view.new ≡ record view.old { ops = edit_under page copied_one view.old.ops; owned = edit owned_frame frame (filled (stored_fill page (index + 1))) view.old.owned } }
 {
-    view.turn = Some(tier);
-    view.scan = UNSCANNED;
+    match page {
+        Some(page) => {
+            change_op(view, page, OpChange::CopiedOne);
+            refill(view, frame, Fill::Copied(page, index + 1));
+        }
+        None => refill(view, frame, Fill::Zeroed(index + 1)),
+    }
 }
 
-/// After a ReleaseTurn.
-fn after_release_turn(_g: &Geometry, view: &mut ActorView, tier: u32)
-    ensures { view.new ≡ after_of _g.now view.old (Action.ReleaseTurn tier) Reply.Done }
-{
-    let _tier = tier;
-    view.turn = None;
-    view.scan = UNSCANNED;
-}
-
-/// After a Peek of a number.
-fn after_peek(_g: &Geometry, view: &mut ActorView, vpage: u32, stamp: u64)
-    requires room { HasRoom _g.now view.old (Action.Peek vpage) (Reply.Word stamp) }
-    ensures { view.new ≡ after_of _g.now view.old (Action.Peek vpage) (Reply.Word stamp) }
-{
-    let peek = Peeked {
-        vpage,
-        stamp,
-        fresh: true,
-    };
-    put(&mut view.peeked, peek);
-}
-
-/// After a Poll of a number.
-fn after_poll(_g: &Geometry, view: &mut ActorView, bumps: u64)
-    ensures { view.new ≡ after_of _g.now view.old Action.Poll (Reply.Word bumps) }
-{
-    view.req_seen = bumps;
-    stale_peeks(view);
-}
-
-/// After a Bump of a number.
-fn after_bump(_g: &Geometry, view: &mut ActorView, old: u64)
-    requires bumps { view.old.bumps < 2 ^ 56 }
-    requires old { old + 1 < 2 ^ 64 }
-    ensures { view.new ≡ after_of _g.now view.old Action.Bump (Reply.Word old) }
-{
-    view.bumps += 1;
-    bump_all(&mut view.ops, old + 1);
-}
-
-/// After a SeeAck of a processor's word.
-fn after_see_ack(g: &Geometry, view: &mut ActorView, cpu: u32, word: u64)
-    requires cpu { cpu < g.now.cpus }
-    ensures { view.new ≡ after_of g.now view.old (Action.SeeAck cpu) (Reply.Word word) }
-{
-    prove!(cpu < g.cpus);
-    see_all(&mut view.ops, cpu, word);
-}
-
-/// After a Raise of a number.
-fn after_raise(g: &Geometry, view: &mut ActorView, vpage: u32, old: u64)
-    requires room { HasRoom g.now view.old (Action.Raise vpage) (Reply.Word old) }
-    requires raises { view.old.raises < 2 ^ 59 }
-    requires old { old + 1 < 2 ^ 64 }
-    ensures { view.new ≡ after_of g.now view.old (Action.Raise vpage) (Reply.Word old) }
-{
-    view.raises += 1;
-    change_op_of(g, view, vpage, OpChange::RaisedTo(vpage, old + 1));
-}
-
-/// The frame for which bit 0 of a word of a tier's free frames stands.
-fn scan_base(g: &Geometry, tier: u32, index: u32) -> u32
-    requires tier { IsTier g.now tier }
-    requires index { index < free_words g.now tier }
-    ensures value { result ≡ first_frame g.now tier + 64 * index }
-    ensures bound { result + 64 < 2 ^ 32 }
-{
-    prove!(g.tiers[tier as usize] < 4096);
-    g.first_frame(tier) + 64 * index
-}
-
-/// After a Scan of a word.
-fn after_scan(g: &Geometry, view: &mut ActorView, tier: u32, index: u32, word: u64)
-    requires tier { IsTier g.now tier }
-    requires index { index < free_words g.now tier }
-    requires next { index ≡ view.old.scan.words }
-    requires sum { view.old.scan.sum + count_ones word < 2 ^ 32 }
-    ensures { view.new ≡ after_of g.now view.old (Action.Scan tier index) (Reply.Word word) }
-{
-    let base = scan_base(g, tier, index);
-    view.scan = scanned_word(base, word, view.scan);
-}
-
-/// After a GiveFrame.
-fn after_give(_g: &Geometry, view: &mut ActorView, frame: u32, word: u64)
-    requires room { HasRoom _g.now view.old (Action.GiveFrame frame) (Reply.Word word) }
-    ensures { view.new ≡ after_of _g.now view.old (Action.GiveFrame frame) (Reply.Word word) }
-{
-    own(view, frame, Fill::Raw);
-    view.scan = UNSCANNED;
-    let _word = word;
-}
-
-/// After an action that was done.
+/// After an action that was done. One that never is done changes nothing.
 fn after_done(g: &Geometry, view: &mut ActorView, action: Action)
     requires allowed { Allowed g.now view.old action }
     requires room { HasRoom g.now view.old action Reply.Done }
-    requires numbers { NumbersFit view.old action Reply.Done }
     ensures { view.new ≡ after_of g.now view.old action Reply.Done }
 {
+    // What a geometry keeps bounds the numbers of an action that is in range.
+    prove!(g.cpus <= 16);
     match action {
-        Action::Load { .. } => {}
-        Action::Store { .. } => {}
-        Action::Add { .. } => {}
-        Action::Look { .. } => {}
         Action::Walk {
             vpage,
             expect,
             write,
-        } => after_walk(g, view, vpage, expect, write),
-        Action::Peek { .. } => {}
-        Action::Poll => {}
-        Action::Ack { to } => after_ack(g, view, to),
-        Action::Lock { page } => open_op(view, page),
-        Action::Unlock { page } => after_unlock(g, view, page),
-        Action::Bump => {}
-        Action::SeeAck { .. } => {}
-        Action::Raise { .. } => {}
-        Action::Soften { .. } => {}
-        Action::Arm { .. } => {}
-        Action::ClearDirty { .. } => {}
-        Action::Unmap { .. } => {}
-        Action::Map { vpage, word } => after_map(g, view, vpage, word),
-        Action::Grant { .. } => {}
-        Action::CopyLoad { .. } => {}
+        } => cache_walk(view, vpage, expect, write),
+        Action::Ack { to } => acknowledge(view, to),
+        Action::Lock { page } => view.open_op(page),
+        Action::Unlock { page } => close(view, page),
+        Action::Map { vpage, word } => change_word(g, view, vpage, OpChange::MappedAt(vpage, word)),
         Action::CopyStore {
             page,
             frame,
             index,
-            value,
-        } => after_copy_store(g, view, page, frame, index, value),
-        Action::SetHome { page, frame } => after_set_home(g, view, page, frame),
-        Action::SetShadow {
-            page,
-            master,
-            shadow,
-        } => after_set_shadow(g, view, page, master, shadow),
-        Action::TakeTurn { tier } => after_take_turn(g, view, tier),
-        Action::Scan { .. } => {}
-        Action::GiveFrame { .. } => {}
-        Action::PutFrame { .. } => {}
-        Action::ReleaseTurn { tier } => after_release_turn(g, view, tier),
-        Action::Mark { .. } => {}
-        Action::Read { .. } => {}
+            ..
+        } => store_copy(view, page, frame, index),
+        Action::SetHome { page, frame } => set_home(view, page, frame),
+        Action::SetShadow { page, shadow, .. } => set_shadow(g, view, page, shadow),
+        Action::TakeTurn { tier } => set_turn(view, Some(tier)),
+        Action::ReleaseTurn { .. } => set_turn(view, None),
+        _ => {}
     }
 }
 
-/// After an action that gave a word.
+/// After an action that gave a word. One that never gives a word changes nothing.
 fn after_word(g: &Geometry, view: &mut ActorView, action: Action, word: u64)
     requires allowed { Allowed g.now view.old action }
     requires room { HasRoom g.now view.old action (Reply.Word word) }
-    requires numbers { NumbersFit view.old action (Reply.Word word) }
     ensures { view.new ≡ after_of g.now view.old action (Reply.Word word) }
 {
+    // What a geometry keeps bounds the numbers of an action that is in range.
+    prove!(g.cpus <= 16);
     match action {
-        Action::Load { .. } => {}
-        Action::Store { .. } => {}
-        Action::Add { .. } => {}
         Action::Look { vpage } => change_op_of(g, view, vpage, OpChange::LookedAt(vpage, word)),
-        Action::Walk { .. } => {}
-        Action::Peek { vpage } => after_peek(g, view, vpage, word),
-        Action::Poll => after_poll(g, view, word),
-        Action::Ack { .. } => {}
-        Action::Lock { .. } => {}
-        Action::Unlock { .. } => {}
-        Action::Bump => after_bump(g, view, word),
-        Action::SeeAck { cpu } => after_see_ack(g, view, cpu, word),
-        Action::Raise { vpage } => after_raise(g, view, vpage, word),
-        Action::Soften { .. } => {}
-        Action::Arm { .. } => {}
+        Action::Peek { vpage } => note_peek(view, vpage, word),
+        Action::Poll => note_poll(view, word),
+        Action::Bump => note_bump(view, word),
+        Action::SeeAck { cpu } => see_all(&mut view.ops, cpu, word),
+        Action::Raise { vpage } => note_raise(g, view, vpage, word),
         Action::ClearDirty { vpage } => change_op_of(g, view, vpage, OpChange::ClearedAt(vpage)),
         Action::Unmap { vpage } => change_op_of(g, view, vpage, OpChange::TakenAt(vpage, word)),
-        Action::Map { .. } => {}
-        Action::Grant { vpage } => after_grant(g, view, vpage, word),
+        Action::Grant { vpage } => change_word(g, view, vpage, OpChange::GrantedAt(vpage, word)),
         Action::CopyLoad { page, .. } => change_op(view, page, OpChange::Loaded(word)),
-        Action::CopyStore { .. } => {}
-        Action::SetHome { .. } => {}
-        Action::SetShadow { .. } => {}
-        Action::TakeTurn { .. } => {}
-        Action::Scan { tier, index } => after_scan(g, view, tier, index, word),
-        Action::GiveFrame { frame } => after_give(g, view, frame, word),
+        Action::Scan { tier, index } => note_scan(g, view, tier, index, word),
+        Action::GiveFrame { frame } => take_frame(view, frame),
         Action::PutFrame { frame } => disown(view, frame),
-        Action::ReleaseTurn { .. } => {}
-        Action::Mark { .. } => {}
         Action::Read { page, cell } => change_op(view, page, OpChange::ReadCell(cell, word)),
+        _ => {}
     }
 }
 
 /// Changes the view of an actor as its action and the reply say. It takes no memory.
 pub fn after(g: &Geometry, view: &mut ActorView, action: Action, reply: Reply)
     requires allowed { Allowed g.now view.old action }
-    requires kind { IsReplyOf action reply }
     requires room { HasRoom g.now view.old action reply }
-    requires numbers { NumbersFit view.old action reply }
     ensures { view.new ≡ after_of g.now view.old action reply }
 {
     match reply {
         Reply::Done => after_done(g, view, action),
         Reply::Word(word) => after_word(g, view, action, word),
-        Reply::Busy(_) => {}
-        Reply::Lost(_) => {}
-    }
-}
-
-#[cfg(test)]
-mod tests {
-    use super::*;
-    use nm_base::VPage;
-    use nm_permit::allowed;
-    use std::test::Fail;
-
-    #[test]
-    fn a_poll_changes_the_view(rt: HostRuntime) -> Result<(), Fail> {
-        let vpage = Some(VPage {
-            page: 0,
-            writable: true,
-        });
-        let g = Geometry::new(rt.alloc(), 4, &[4, 8], 1, &[vpage, vpage])?;
-        let mut view = ActorView::start(rt.alloc(), &g, 0)?;
-        if allowed(&g, &view, Action::Poll) {
-            after(&g, &mut view, Action::Poll, Reply::Word(7));
-        }
-        assert_eq!(rt; (view.req_seen, view.bumps), (7, 0));
-        Ok(())
+        Reply::Busy(_) | Reply::Lost(_) => {}
     }
 }

@@ -1,13 +1,15 @@
 //! How an operation changes.
 
-ghost use Rattle.std.specs.Prelude.{◌≡◌, ◌<◌, ◌≤◌, ◌^◌, map};
+ghost use Rattle.std.specs.Prelude.{◌≡◌, ◌+◌, ◌<◌, ◌≤◌, ◌^◌, All, IsTrue, map};
 ghost use Rattle.nm_view.specs.Views.{Op};
-ghost use Rattle.nm_event.specs.After.{looked_at, read_cell, cleared_at, taken_at, raised_to, loaded, copied_one, homed_at, shaded, mapped_at, granted_at, granted_word, bumped_to, seen_at};
-ghost use Rattle.nm_base.specs.ShadowWord.{shadow_word};
+ghost use Rattle.nm_event.specs.After.{looked_at, read_cell, cleared_at, taken_at, raised_to, loaded, copied_one, homed_at, shaded, mapped_at, granted_at, bumped_to, seen_at};
 ghost use Rattle.nm_event.specs.Changes.{op_changed};
 ghost use Rattle.nm_event.specs.Room.{IsOpWithin};
 
 use nm_action::Cell;
+use nm_base::home_word::home_word;
+use nm_base::shadow_word::shadow_word;
+use nm_base::table_word::granted_word;
 use nm_view::keyed::{erase, put};
 use nm_view::{OpenOp, Phase};
 
@@ -36,24 +38,6 @@ pub(crate) enum OpChange {
     MappedAt(u32, u64),
     /// A Grant of this virtual page, whose word was this.
     GrantedAt(u32, u64),
-}
-
-/// The shadow word of a frame.
-fn shadow_word(page: u32, shadow: Option<u32>) -> u64
-    requires { shadow_word page shadow < 2 ^ 64 }
-    ensures { result ≡ shadow_word page shadow }
-{
-    match shadow {
-        Some(shadow) => (u64::from(page) + 1) * (1 << 32) + u64::from(shadow) + 1,
-        None => 0,
-    }
-}
-
-/// A word whose saved right to write is made the right to write.
-fn granted_word(word: u64) -> u64
-    ensures { result ≡ granted_word word }
-{
-    word ^ 36
 }
 
 /// Notes a word that was looked at.
@@ -129,7 +113,7 @@ fn copy_one(op: &mut OpenOp)
 fn home_at(op: &mut OpenOp, frame: u32)
     ensures { op.new ≡ homed_at frame op.old }
 {
-    op.home = Some(u64::from(frame) + 1);
+    op.home = Some(home_word(frame));
     op.shadow = Some(0);
     op.moved = true;
 }
@@ -182,13 +166,14 @@ pub(crate) fn make_change(op: &mut OpenOp, change: OpChange)
     }
 }
 
-/// Notes a bump.
-fn bump_to(op: &mut OpenOp, number: u64)
-    ensures { op.new ≡ bumped_to number op.old }
+/// Notes a bump, whose number before it was `old`.
+fn bump_to(op: &mut OpenOp, old: u64)
+    requires { IsTrue op.old.due → old + 1 < 2 ^ 64 }
+    ensures { op.new ≡ bumped_to (old + 1) op.old }
 {
     if op.due {
         op.due = false;
-        op.flush = Some(number);
+        op.flush = Some(old + 1);
         op.seen = 0;
     }
 }
@@ -205,13 +190,14 @@ fn see_at(op: &mut OpenOp, cpu: u32, word: u64)
     }
 }
 
-/// Notes a bump in every operation.
+/// Notes a bump in every operation, whose number before it was `old`.
 #[tactic(auto, using(std::proofs::lemmas::List::Edits::map_over_more))]
-pub(crate) fn bump_all(ops: &mut [OpenOp], number: u64)
-    ensures { ops.new ≡ map (bumped_to number) ops.old }
+pub(crate) fn bump_all(ops: &mut [OpenOp], old: u64)
+    requires { All (λ o. IsTrue o.due → old + 1 < 2 ^ 64) ops.old }
+    ensures { ops.new ≡ map (bumped_to (old + 1)) ops.old }
 {
     for i in 0..ops.len() {
-        bump_to(&mut ops[i], number);
+        bump_to(&mut ops[i], old);
     }
 }
 

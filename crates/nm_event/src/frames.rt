@@ -5,15 +5,15 @@ ghost use Rattle.std.specs.List.{filter};
 ghost use Rattle.nm_view.specs.Lists.{find, edit, erase, put};
 ghost use Rattle.nm_view.specs.Views.{Op, View, most_ops};
 ghost use Rattle.nm_view.specs.Operations.{page_of, owned_frame, peeked_page, is_flush_ended};
-ghost use Rattle.nm_event.specs.After.{edit_of, owning, filled, spoiled, spoiled_frame, spoiled_fill, spoiled_under, is_fresh_at, is_confirmed, stale, is_quiet, scanned_word, least_with, least_bit};
+ghost use Rattle.nm_event.specs.After.{edit_of, owning, filled, spoiled, spoiled_frame, spoiled_fill, spoiled_under, is_fresh_at, is_confirmed, stale, is_quiet, scanned_word, least_with};
 ghost use Rattle.nm_event.specs.Changes.{op_changed};
 ghost use Rattle.nm_event.specs.Room.{IsOpWithin};
 ghost use Rattle.nm_base.specs.Geometry.{backing_page};
 
 use crate::change::{OpChange, make_change};
 use nm_base::Geometry;
+use nm_base::free_words::least_frame;
 use nm_view::keyed::{erase, look_up, place, put};
-use nm_view::reading::{backing, flush_ended};
 use nm_view::{ActorView, CacheEntry, Fill, OpenOp, Owned, Peeked, Phase, Scanned};
 
 /// Changes the operation on a page, among operations.
@@ -28,8 +28,7 @@ fn change_in(ops: &mut [OpenOp], page: u32, change: OpChange)
 
 /// Changes the operation on a page.
 pub(crate) fn change_op(view: &mut ActorView, page: u32, change: OpChange)
-    requires before { All (IsOpWithin view.old.room.aliases) view.old.ops }
-    requires after { All (IsOpWithin view.old.room.aliases) (edit page_of page (op_changed change) view.old.ops) }
+    requires { All (IsOpWithin view.old.room.aliases) (edit page_of page (op_changed change) view.old.ops) }
     ensures { view.new ≡ record view.old { ops = edit page_of page (op_changed change) view.old.ops } }
 {
     change_in(&mut view.ops, page, change);
@@ -37,11 +36,10 @@ pub(crate) fn change_op(view: &mut ActorView, page: u32, change: OpChange)
 
 /// Changes the operation on the backing page of a virtual page.
 pub(crate) fn change_op_of(g: &Geometry, view: &mut ActorView, vpage: u32, change: OpChange)
-    requires before { All (IsOpWithin view.old.room.aliases) view.old.ops }
-    requires after { All (IsOpWithin view.old.room.aliases) (edit_of g.now vpage (op_changed change) view.old.ops) }
+    requires { All (IsOpWithin view.old.room.aliases) (edit_of g.now vpage (op_changed change) view.old.ops) }
     ensures { view.new ≡ record view.old { ops = edit_of g.now vpage (op_changed change) view.old.ops } }
 {
-    if let Some(page) = backing(g, vpage) {
+    if let Some(page) = g.backing(vpage) {
         change_op(view, page, change);
     }
 }
@@ -88,7 +86,7 @@ pub(crate) fn spoil_page(view: &mut ActorView, page: u32)
 pub(crate) fn spoil_of(g: &Geometry, view: &mut ActorView, vpage: u32)
     ensures { view.new ≡ record view.old { owned = spoiled_under (backing_page g.now vpage) view.old.owned } }
 {
-    if let Some(page) = backing(g, vpage) {
+    if let Some(page) = g.backing(vpage) {
         spoil_page(view, page);
     }
 }
@@ -175,21 +173,12 @@ pub(crate) fn is_quiet(g: &Geometry, op: &OpenOp) -> bool
     match op.phase {
         Phase::Held => false,
         Phase::Cleared => false,
-        Phase::Taken => !op.cleared && flush_ended(g, op),
+        Phase::Taken => !op.cleared && op.flush_ended(g),
     }
 }
 
-/// The number of the least set bit of a word.
-#[tactic(auto, unfolding(crate::specs::After::least_bit))]
-fn least_bit(word: u64) -> u32
-    ensures value { result ≡ least_bit word }
-    ensures bound { result ≤ 64 }
-{
-    word.trailing_zeros()
-}
-
 /// What was scanned, after a word whose bit 0 stands for the frame `base`.
-pub(crate) fn scanned_word(base: u32, word: u64, scan: Scanned) -> Scanned
+pub fn scanned_word(base: u32, word: u64, scan: Scanned) -> Scanned
     requires base { base + 64 < 2 ^ 32 }
     requires words { scan.words + 1 < 2 ^ 32 }
     requires sum { scan.sum + count_ones word < 2 ^ 32 }
@@ -209,10 +198,6 @@ fn least_with(least: Option<u32>, base: u32, word: u64) -> Option<u32>
 {
     match least {
         Some(frame) => Some(frame),
-        None => if word == 0 {
-            None
-        } else {
-            Some(base + least_bit(word))
-        },
+        None => least_frame(base, word),
     }
 }

@@ -7,6 +7,7 @@ mod change;
 mod frames;
 
 pub use answered::after;
+pub use frames::scanned_word;
 pub use nm_action::{
     AckTo, Action, ActionKind, Bit, Cell, Event, Full, Heard, Lane, Reply, Spent, Step, Tally, Turn,
 };

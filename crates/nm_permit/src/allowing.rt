@@ -1,44 +1,43 @@
 //! Whether an action is permitted.
 
 ghost use Rattle.std.specs.Prelude.{◌↔◌, IfSome, IsTrue};
-ghost use Rattle.nm_base.specs.Ranges.{IsVPage, IsPage, IsFrame, IsTier, IsIndex};
-ghost use Rattle.nm_permit.specs.Permitted.{Allowed, InRange, Permitted, IsCell, MayCopyStore};
+ghost use Rattle.nm_base.specs.Ranges.{IsPage, IsFrame};
+ghost use Rattle.nm_permit.specs.Permitted.{Allowed, InRange, Permitted, IsCell, MayCopyStore, MayRaise};
 
 use crate::permitted::{
-    MOST_RAISES, has_turn, is_cached_dirty, is_looked_mapped, is_mark_done, is_mark_step, may_ack,
+    has_turn, is_cached_dirty, is_looked_mapped, is_mark_done, is_mark_step, is_polled_for,
     may_bump, may_clear, may_copy, may_copy_load, may_give, may_grant, may_lock, may_map, may_put,
     may_read, may_scan, may_set_home, may_set_shadow, may_unlock, may_unmap, may_walk, may_zero,
 };
 use nm_action::{Action, Cell};
 use nm_base::Geometry;
-use nm_view::ActorView;
 use nm_view::keyed::is_among;
-use nm_view::reading::{fill_of, free_words, op_of, op_on};
+use nm_view::{ActorView, OWN_RAISES};
 
 /// Whether the numbers of an action are in range.
 fn in_range(g: &Geometry, action: Action) -> bool
     ensures { IsTrue result ↔ InRange g.now action }
 {
     match action {
-        Action::Load { vpage, word } => is_vpage(g, vpage) && word < g.words,
-        Action::Store { vpage, word, .. } => is_vpage(g, vpage) && word < g.words,
-        Action::Add { vpage, word, .. } => is_vpage(g, vpage) && word < g.words,
-        Action::Look { vpage } => is_vpage(g, vpage),
-        Action::Walk { vpage, .. } => is_vpage(g, vpage),
-        Action::Peek { vpage } => is_vpage(g, vpage),
+        Action::Load { vpage, word } => g.is_vpage(vpage) && word < g.words,
+        Action::Store { vpage, word, .. } => g.is_vpage(vpage) && word < g.words,
+        Action::Add { vpage, word, .. } => g.is_vpage(vpage) && word < g.words,
+        Action::Look { vpage } => g.is_vpage(vpage),
+        Action::Walk { vpage, .. } => g.is_vpage(vpage),
+        Action::Peek { vpage } => g.is_vpage(vpage),
         Action::Poll => true,
         Action::Ack { .. } => true,
         Action::Lock { page } => page < g.pages(),
         Action::Unlock { page } => page < g.pages(),
         Action::Bump => true,
         Action::SeeAck { cpu } => cpu < g.cpus,
-        Action::Raise { vpage } => is_vpage(g, vpage),
-        Action::Soften { vpage, .. } => is_vpage(g, vpage),
-        Action::Arm { vpage } => is_vpage(g, vpage),
-        Action::ClearDirty { vpage } => is_vpage(g, vpage),
-        Action::Unmap { vpage } => is_vpage(g, vpage),
-        Action::Map { vpage, .. } => is_vpage(g, vpage),
-        Action::Grant { vpage } => is_vpage(g, vpage),
+        Action::Raise { vpage } => g.is_vpage(vpage),
+        Action::Soften { vpage, .. } => g.is_vpage(vpage),
+        Action::Arm { vpage } => g.is_vpage(vpage),
+        Action::ClearDirty { vpage } => g.is_vpage(vpage),
+        Action::Unmap { vpage } => g.is_vpage(vpage),
+        Action::Map { vpage, .. } => g.is_vpage(vpage),
+        Action::Grant { vpage } => g.is_vpage(vpage),
         Action::CopyLoad { page, index } => page < g.pages() && index < g.words,
         Action::CopyStore {
             page,
@@ -52,28 +51,14 @@ fn in_range(g: &Geometry, action: Action) -> bool
             master,
             shadow,
         } => { page < g.pages() && master < g.frames() && is_frame_if_any(g, shadow) }
-        Action::TakeTurn { tier } => is_tier(g, tier),
-        Action::Scan { tier, index } => is_tier(g, tier) && index < free_words(g, tier),
+        Action::TakeTurn { tier } => g.is_tier(tier),
+        Action::Scan { tier, index } => g.is_tier(tier) && index < g.free_words(tier),
         Action::GiveFrame { frame } => frame < g.frames(),
         Action::PutFrame { frame } => frame < g.frames(),
-        Action::ReleaseTurn { tier } => is_tier(g, tier),
+        Action::ReleaseTurn { tier } => g.is_tier(tier),
         Action::Mark { page, .. } => page < g.pages(),
         Action::Read { page, cell } => page < g.pages() && is_cell(g, page, cell),
     }
-}
-
-/// Whether there is such a virtual page.
-fn is_vpage(g: &Geometry, vpage: u32) -> bool
-    ensures { IsTrue result ↔ IsVPage g.now vpage }
-{
-    (vpage as usize) < g.vpages.len()
-}
-
-/// Whether there is such a tier.
-fn is_tier(g: &Geometry, tier: u32) -> bool
-    ensures { IsTrue result ↔ IsTier g.now tier }
-{
-    (tier as usize) < g.tiers.len()
 }
 
 /// Whether there is such a backing page, where one is named.
@@ -108,12 +93,12 @@ fn is_cell(g: &Geometry, page: u32, cell: Cell) -> bool
 
 /// Whether a Raise is permitted.
 fn may_raise(g: &Geometry, view: &ActorView, vpage: u32) -> bool
-    ensures { IsTrue result ↔ Permitted g.now view.now (Action.Raise vpage) }
+    ensures { IsTrue result ↔ MayRaise g.now view.now vpage }
 {
-    if view.raises >= MOST_RAISES {
+    if view.raises >= OWN_RAISES {
         return false;
     }
-    match op_of(g, view, vpage) {
+    match view.op_of(g, vpage) {
         Some(op) => is_among(&op.wet, vpage),
         None => false,
     }
@@ -146,27 +131,29 @@ fn permits(g: &Geometry, view: &ActorView, action: Action) -> bool
         } => may_walk(g, view, vpage, expect, write),
         Action::Peek { .. } => view.number < g.cpus,
         Action::Poll => view.number < g.cpus,
-        Action::Ack { to } => view.number < g.cpus && may_ack(view, to),
+        Action::Ack { to } => view.number < g.cpus && is_polled_for(view, to),
         Action::Lock { page } => may_lock(view, page),
-        Action::Unlock { page } => op_on(view, page).is_some_and(|op| may_unlock(g, op)),
+        Action::Unlock { page } => view.op_on(page).is_some_and(|op| may_unlock(g, op)),
         Action::Bump => may_bump(view),
         Action::SeeAck { .. } => true,
         Action::Raise { vpage } => may_raise(g, view, vpage),
         Action::Soften { .. } => true,
-        Action::Arm { vpage } => op_of(g, view, vpage).is_some_and(|op| is_looked_mapped(
-            op, vpage,
-        )),
-        Action::ClearDirty { vpage } => op_of(g, view, vpage).is_some_and(|op| may_clear(
-            g, op, vpage,
-        )),
-        Action::Unmap { vpage } => op_of(g, view, vpage).is_some_and(|op| may_unmap(g, op, vpage)),
-        Action::Map { vpage, word } => op_of(g, view, vpage).is_some_and(|op| may_map(
-            g, op, vpage, word,
-        )),
-        Action::Grant { vpage } => op_of(g, view, vpage).is_some_and(|op| may_grant(op, vpage)),
-        Action::CopyLoad { page, index } => op_on(view, page).is_some_and(|op| may_copy_load(
-            g, op, index,
-        )),
+        Action::Arm { vpage } => view
+            .op_of(g, vpage)
+            .is_some_and(|op| is_looked_mapped(op, vpage)),
+        Action::ClearDirty { vpage } => view
+            .op_of(g, vpage)
+            .is_some_and(|op| may_clear(g, op, vpage)),
+        Action::Unmap { vpage } => view
+            .op_of(g, vpage)
+            .is_some_and(|op| may_unmap(g, op, vpage)),
+        Action::Map { vpage, word } => view
+            .op_of(g, vpage)
+            .is_some_and(|op| may_map(g, op, vpage, word)),
+        Action::Grant { vpage } => view.op_of(g, vpage).is_some_and(|op| may_grant(op, vpage)),
+        Action::CopyLoad { page, index } => view
+            .op_on(page)
+            .is_some_and(|op| may_copy_load(g, op, index)),
         Action::CopyStore {
             page,
             frame,
@@ -174,14 +161,17 @@ fn permits(g: &Geometry, view: &ActorView, action: Action) -> bool
             value,
         } => may_copy_store(view, page, frame, index, value),
         Action::SetHome { page, frame } => {
-            let fill = fill_of(view, frame);
-            op_on(view, page).is_some_and(|op| may_set_home(g, op, fill))
+            let fill = view.fill_of(frame);
+            view.op_on(page).is_some_and(|op| may_set_home(g, op, fill))
         }
         Action::SetShadow {
             page,
             master,
             shadow,
-        } => { op_on(view, page).is_some_and(|op| may_set_shadow(g, view, op, master, shadow)) }
+        } => {
+            view.op_on(page)
+                .is_some_and(|op| may_set_shadow(g, view, op, master, shadow))
+        }
         Action::TakeTurn { .. } => view.turn.is_none(),
         Action::Scan { tier, index } => may_scan(view, tier, index),
         Action::GiveFrame { frame } => may_give(g, view, frame),
@@ -189,7 +179,7 @@ fn permits(g: &Geometry, view: &ActorView, action: Action) -> bool
         Action::ReleaseTurn { tier } => has_turn(view, tier),
         Action::Mark { page, from, to } => is_mark_step(from, to)
             || is_mark_done(view, page, from, to),
-        Action::Read { page, cell } => op_on(view, page).is_some_and(|op| may_read(op, cell)),
+        Action::Read { page, cell } => view.op_on(page).is_some_and(|op| may_read(op, cell)),
     }
 }
 
@@ -198,57 +188,4 @@ pub fn allowed(g: &Geometry, view: &ActorView, action: Action) -> bool
     ensures { IsTrue result ↔ Allowed g.now view.now action }
 {
     in_range(g, action) && permits(g, view, action)
-}
-
-#[cfg(test)]
-mod tests {
-    use super::*;
-    use nm_action::AckTo;
-    use nm_base::VPage;
-    use std::test::Fail;
-
-    #[test]
-    fn an_opening_view_permits_little(rt: HostRuntime) -> Result<(), Fail> {
-        let vpage = Some(VPage {
-            page: 0,
-            writable: true,
-        });
-        let g = Geometry::new(rt.alloc(), 4, &[4, 8], 1, &[vpage])?;
-        let cpu = ActorView::start(rt.alloc(), &g, 0)?;
-        let migrator = ActorView::start(rt.alloc(), &g, 1)?;
-        for (action, by_cpu, by_migrator) in [
-            (Action::Poll, true, false),
-            (Action::Load { vpage: 0, word: 0 }, false, false),
-            (Action::Ack { to: AckTo::Seen }, false, false),
-            (Action::Ack { to: AckTo::End }, true, false),
-            (Action::Lock { page: 0 }, true, true),
-            (Action::Lock { page: 1 }, false, false),
-            (Action::Unlock { page: 0 }, false, false),
-            (Action::Bump, true, true),
-            (Action::TakeTurn { tier: 1 }, true, true),
-            (Action::Scan { tier: 1, index: 0 }, false, false),
-            (
-                Action::Mark {
-                    page: 0,
-                    from: 0,
-                    to: 1,
-                },
-                true,
-                true,
-            ),
-            (
-                Action::Mark {
-                    page: 0,
-                    from: 2,
-                    to: 0,
-                },
-                false,
-                false,
-            ),
-        ] {
-            assert_eq!(rt; allowed(&g, &cpu, action), by_cpu);
-            assert_eq!(rt; allowed(&g, &migrator, action), by_migrator);
-        }
-        Ok(())
-    }
 }

@@ -7,33 +7,17 @@ ghost use Rattle.nm_base.specs.Geometry.{backing_page, IsWritable};
 ghost use Rattle.nm_base.specs.PageWord.{IsPresentWord, is_present, has_hint, is_writable, is_dirty, is_saved, frame_of};
 ghost use Rattle.nm_view.specs.Lists.{find, first, itself};
 ghost use Rattle.nm_base.specs.FreeWords.{free_words};
+ghost use Rattle.nm_base.specs.HomeWord.{home_word};
 ghost use Rattle.nm_view.specs.Operations.{op_on, op_of, page_of, fill_of, is_answered, are_seen, is_flush_ended, IsFlushEnded, IsTaken, IsLookedMapped, IsLookedAbsent, IsLookedOver, IsAllTaken, IsTakenOnly, IsUnmapped, IsInLastTier, IsProcessor};
 ghost use Rattle.nm_base.specs.Ranges.{IsVPage, IsFrame};
-ghost use Rattle.nm_permit.specs.Permitted.{Allowed, InRange, Permitted, MayWalk, MayAck, MayLock, MayUnlock, MayBump, AreDueDry, IsWet, MayClear, IsTakingPhase, MayUnmap, IsWordBack, IsVacant, IsWordNew, HasMappedWord, MayMap, MayGrant, IsSavedWord, IsCopyingPhase, MayCopyLoad, IsZeroedTo, IsCopiedTo, IsLoaded, MayCopyStore, IsTakenClean, IsFreeOfShadow, IsHomeDemanded, IsHomeCommitted, IsHomeMoved, HasNewHome, MaySetHome, IsWhole, MayShade, MayUnshade, MaySetShadow, MayScan, MayGive, MayPut, IsMarkStep, IsMarkDone, MayRead, IsCell, IsCachedDirty};
+ghost use Rattle.nm_permit.specs.Permitted.{Allowed, InRange, Permitted, MayWalk, IsPolledFor, MayLock, MayUnlock, MayBump, AreDueDry, IsWet, MayClear, IsTakingPhase, MayUnmap, IsWordBack, IsVacant, IsTakenMoved, IsWordNew, HasMappedWord, MayMap, MayGrant, IsSavedWord, IsCopyingPhase, IsUnmappedUnmoved, MayCopyLoad, IsZeroedTo, IsCopiedTo, IsLoaded, MayZero, MayCopy, IsTakenClean, IsFreeOfShadow, IsHomeDemanded, IsHomeCommitted, IsHomeMoved, HasNewHome, MaySetHome, IsWhole, MayShade, MayUnshade, MaySetShadow, MayScan, MayGive, MayPut, IsMarkStep, IsMarkDone, MayRead, IsCell, IsCachedDirty};
 
 use nm_action::{AckTo, Action, Cell};
+use nm_base::home_word::home_word;
+use nm_base::table_word::{frame_of, has_hint, is_dirty, is_present, is_saved, is_writable};
 use nm_base::{Geometry, PageWord};
 use nm_view::keyed::{is_among, look_up};
-use nm_view::reading::{backing, fill_of, flush_ended, free_words, has_bit, op_on};
-use nm_view::{ActorView, END, Fill, MOST_OPS, OFF, OpenOp, Phase};
-
-/// An actor makes at most so many bumps.
-const MOST_BUMPS: u64 = 1 << 56;
-/// An actor makes at most so many raises.
-pub(crate) const MOST_RAISES: u64 = 1 << 59;
-
-/// Whether a virtual page is mapped and may be written.
-fn may_be_written(g: &Geometry, vpage: u32) -> bool
-    ensures { IsTrue result ↔ IsWritable g.now vpage }
-{
-    if vpage as usize >= g.vpages.len() {
-        return false;
-    }
-    match g.vpages[vpage as usize] {
-        Some(mapped) => mapped.writable,
-        None => false,
-    }
-}
+use nm_view::{ActorView, END, Fill, MOST_OPS, OFF, OWN_BUMPS, OpenOp, Phase};
 
 /// Whether two phases are the same.
 fn is_phase(one: Phase, other: Phase) -> bool
@@ -44,7 +28,7 @@ fn is_phase(one: Phase, other: Phase) -> bool
 
 /// Whether a virtual page was looked at as not 0, and was not taken.
 pub(crate) fn is_looked_mapped(op: &OpenOp, vpage: u32) -> bool
-    ensures { IsTrue result ↔ IsLookedMapped op.now vpage }
+    ensures { IsTrue result ↔ IsLookedMapped op.now.looked op.now.taken vpage }
 {
     if is_among(&op.taken, vpage) {
         return false;
@@ -57,7 +41,7 @@ pub(crate) fn is_looked_mapped(op: &OpenOp, vpage: u32) -> bool
 
 /// Whether a virtual page was looked at as 0, and was not taken.
 fn is_looked_absent(op: &OpenOp, vpage: u32) -> bool
-    ensures { IsTrue result ↔ IsLookedAbsent op.now vpage }
+    ensures { IsTrue result ↔ IsLookedAbsent op.now.looked op.now.taken vpage }
 {
     if is_among(&op.taken, vpage) {
         return false;
@@ -71,10 +55,10 @@ fn is_looked_absent(op: &OpenOp, vpage: u32) -> bool
 /// Whether every virtual page of the page was looked at.
 #[tactic(auto, using(crate::proofs::Known::backing_past))]
 fn is_looked_over(g: &Geometry, op: &OpenOp) -> bool
-    ensures { IsTrue result ↔ IsLookedOver g.now op.now }
+    ensures { IsTrue result ↔ IsLookedOver g.now op.now.page op.now.looked }
 {
     for vpage in 0..g.vpages.len() as u32 {
-        if backing(g, vpage) == Some(op.page) && !is_among(&op.looked, vpage) {
+        if g.backing(vpage) == Some(op.page) && !is_among(&op.looked, vpage) {
             return false;
         }
     }
@@ -83,7 +67,7 @@ fn is_looked_over(g: &Geometry, op: &OpenOp) -> bool
 
 /// Whether every word that was looked at as not 0 was taken.
 fn is_all_taken(op: &OpenOp) -> bool
-    ensures { IsTrue result ↔ IsAllTaken op.now }
+    ensures { IsTrue result ↔ IsAllTaken op.now.looked op.now.taken }
 {
     for (vpage, word) in &op.looked {
         if *word != 0 && !is_among(&op.taken, *vpage) {
@@ -95,7 +79,7 @@ fn is_all_taken(op: &OpenOp) -> bool
 
 /// Whether the phase is Taken, and no dirty bit was cleared.
 fn is_taken_only(op: &OpenOp) -> bool
-    ensures { IsTrue result ↔ IsTakenOnly op.now }
+    ensures { IsTrue result ↔ IsTakenOnly op.now.phase op.now.cleared }
 {
     is_phase(op.phase, Phase::Taken) && !op.cleared
 }
@@ -104,7 +88,7 @@ fn is_taken_only(op: &OpenOp) -> bool
 fn is_unmapped(g: &Geometry, op: &OpenOp) -> bool
     ensures { IsTrue result ↔ IsUnmapped g.now op.now }
 {
-    is_taken_only(op) && is_all_taken(op) && flush_ended(g, op) && is_looked_over(g, op)
+    is_taken_only(op) && is_all_taken(op) && op.flush_ended(g) && is_looked_over(g, op)
 }
 
 /// Whether a Walk is permitted.
@@ -114,10 +98,10 @@ pub(crate) fn may_walk(g: &Geometry, view: &ActorView, vpage: u32, expect: u64, 
     if view.number >= g.cpus || view.acked == OFF || view.acked == END {
         return false;
     }
-    if !has_bit(expect, 0) || has_bit(expect, 1) {
+    if !is_present(expect) || has_hint(expect) {
         return false;
     }
-    if write && !has_bit(expect, 2) {
+    if write && !is_writable(expect) {
         return false;
     }
     is_among(&view.peeked, vpage)
@@ -133,9 +117,9 @@ pub(crate) fn is_cached_dirty(view: &ActorView, vpage: u32) -> bool
     }
 }
 
-/// Whether an acknowledgement is permitted to a processor.
-pub(crate) fn may_ack(view: &ActorView, to: AckTo) -> bool
-    ensures { IsTrue result ↔ MayAck view.now to }
+/// Whether what an acknowledgement says was polled.
+pub(crate) fn is_polled_for(view: &ActorView, to: AckTo) -> bool
+    ensures { IsTrue result ↔ IsPolledFor view.now to }
 {
     match to {
         AckTo::Seen => view.req_seen != OFF,
@@ -151,7 +135,7 @@ pub(crate) fn may_lock(view: &ActorView, page: u32) -> bool
     if view.ops.len() >= MOST_OPS {
         return false;
     }
-    match op_on(view, page) {
+    match view.op_on(page) {
         Some(_) => false,
         None => true,
     }
@@ -161,7 +145,7 @@ pub(crate) fn may_lock(view: &ActorView, page: u32) -> bool
 pub(crate) fn may_unlock(g: &Geometry, op: &OpenOp) -> bool
     ensures { IsTrue result ↔ MayUnlock g.now op.now }
 {
-    op.taken.is_empty() && flush_ended(g, op) && !is_phase(op.phase, Phase::Cleared)
+    op.taken.is_empty() && op.flush_ended(g) && !is_phase(op.phase, Phase::Cleared)
 }
 
 /// Whether no due operation has a wet page.
@@ -180,7 +164,7 @@ fn are_due_dry(ops: &[OpenOp]) -> bool
 pub(crate) fn may_bump(view: &ActorView) -> bool
     ensures { IsTrue result ↔ MayBump view.now }
 {
-    view.bumps < MOST_BUMPS && are_due_dry(&view.ops)
+    view.bumps < OWN_BUMPS && are_due_dry(&view.ops)
 }
 
 /// Whether no other virtual page was looked at as not 0.
@@ -216,7 +200,7 @@ fn is_taking_phase(g: &Geometry, op: &OpenOp) -> bool
 {
     match op.phase {
         Phase::Held => true,
-        Phase::Cleared => flush_ended(g, op),
+        Phase::Cleared => op.flush_ended(g),
         Phase::Taken => !op.cleared,
     }
 }
@@ -243,7 +227,7 @@ fn is_word_back(op: &OpenOp, vpage: u32, word: u64) -> bool
 
 /// Whether a virtual page has no word now.
 fn is_vacant(op: &OpenOp, vpage: u32) -> bool
-    ensures { IsTrue result ↔ IsVacant op.now vpage }
+    ensures { IsTrue result ↔ IsVacant vpage op.now }
 {
     if is_among(&op.taken, vpage) && op.moved {
         return true;
@@ -264,9 +248,9 @@ fn is_present_word(word: u64) -> bool
 
 /// Whether the known home is the frame of a word.
 fn is_home_of(op: &OpenOp, word: u64) -> bool
-    ensures { IsTrue result ↔ (op.now.home ≡ Some (frame_of word + 1)) }
+    ensures { IsTrue result ↔ (op.now.home ≡ Some (home_word (frame_of word))) }
 {
-    op.home == Some((word >> 12) + 1)
+    op.home == Some(home_word(frame_of(word)))
 }
 
 /// Whether the shadow of the home is known as none.
@@ -283,13 +267,13 @@ fn is_word_new(g: &Geometry, op: &OpenOp, vpage: u32, word: u64) -> bool
     if !is_present_word(word) || !is_home_of(op, word) || !is_vacant(op, vpage) {
         return false;
     }
-    if has_bit(word, 2) && !(may_be_written(g, vpage) && is_unshadowed(op)) {
+    if is_writable(word) && !(g.may_be_written(vpage) && is_unshadowed(op)) {
         return false;
     }
-    if has_bit(word, 5) && !may_be_written(g, vpage) {
+    if is_saved(word) && !g.may_be_written(vpage) {
         return false;
     }
-    !has_bit(word, 3) || is_among(&op.taken, vpage)
+    !is_dirty(word) || is_among(&op.taken, vpage)
 }
 
 /// Whether a mapped word fits.
@@ -303,10 +287,10 @@ fn has_mapped_word(g: &Geometry, op: &OpenOp, vpage: u32, word: u64) -> bool
 pub(crate) fn may_map(g: &Geometry, op: &OpenOp, vpage: u32, word: u64) -> bool
     ensures { IsTrue result ↔ MayMap g.now vpage word op.now }
 {
-    if is_phase(op.phase, Phase::Cleared) || !flush_ended(g, op) {
+    if is_phase(op.phase, Phase::Cleared) || !op.flush_ended(g) {
         return false;
     }
-    if op.cleared && !op.moved && !(is_word_back(op, vpage, word) && has_bit(word, 3)) {
+    if op.cleared && !op.moved && !(is_word_back(op, vpage, word) && is_dirty(word)) {
         return false;
     }
     has_mapped_word(g, op, vpage, word)
@@ -316,7 +300,7 @@ pub(crate) fn may_map(g: &Geometry, op: &OpenOp, vpage: u32, word: u64) -> bool
 fn is_saved_word(word: u64) -> bool
     ensures { IsTrue result ↔ IsSavedWord word }
 {
-    has_bit(word, 5) && !has_bit(word, 2)
+    is_saved(word) && !is_writable(word)
 }
 
 /// Whether a virtual page was looked at with the saved right to write, and without the right to write.
@@ -364,7 +348,7 @@ fn has_home(op: &OpenOp) -> bool
 pub(crate) fn may_copy_load(g: &Geometry, op: &OpenOp, index: u32) -> bool
     ensures { IsTrue result ↔ MayCopyLoad g.now index op.now }
 {
-    has_home(op) && index == op.copied && flush_ended(g, op) && is_copying_phase(g, op)
+    has_home(op) && index == op.copied && op.flush_ended(g) && is_copying_phase(g, op)
 }
 
 /// Whether so many first words of a frame are 0, and no more is known of it.
@@ -400,9 +384,9 @@ fn is_loaded(op: &OpenOp, index: u32, value: u64) -> bool
 
 /// Whether a 0 may be stored as the next word of a frame.
 pub(crate) fn may_zero(view: &ActorView, frame: u32, index: u32, value: u64) -> bool
-    ensures { IsTrue result ↔ MayCopyStore view.now None frame index value }
+    ensures { IsTrue result ↔ MayZero view.now frame index value }
 {
-    match fill_of(view, frame) {
+    match view.fill_of(frame) {
         Some(fill) => value == 0 && is_zeroed_to(fill, index),
         None => false,
     }
@@ -410,15 +394,15 @@ pub(crate) fn may_zero(view: &ActorView, frame: u32, index: u32, value: u64) -> 
 
 /// Whether a loaded word may be stored as the next word of a copy.
 pub(crate) fn may_copy(view: &ActorView, page: u32, frame: u32, index: u32, value: u64) -> bool
-    ensures { IsTrue result ↔ MayCopyStore view.now (Some page) frame index value }
+    ensures { IsTrue result ↔ MayCopy view.now page frame index value }
 {
-    let Some(fill) = fill_of(view, frame) else {
+    let Some(fill) = view.fill_of(frame) else {
         return false;
     };
     if !is_copied_to(fill, page, index) {
         return false;
     }
-    match op_on(view, page) {
+    match view.op_on(page) {
         Some(op) => is_loaded(op, index, value),
         None => false,
     }
@@ -428,12 +412,12 @@ pub(crate) fn may_copy(view: &ActorView, page: u32, frame: u32, index: u32, valu
 fn is_clean(taken: &[(u32, u64)]) -> bool
     ensures { IsTrue result ↔ All (λ p. is_dirty p.1 ≡ false) taken.now }
 {
-    taken.iter().all(|entry| !has_bit(entry.1, 3))
+    taken.iter().all(|entry| !is_dirty(entry.1))
 }
 
 /// Whether there is a taken word, and it is clean.
 fn is_taken_clean(op: &OpenOp) -> bool
-    ensures { IsTrue result ↔ IsTakenClean op.now }
+    ensures { IsTrue result ↔ IsTakenClean op.now.taken }
 {
     !op.taken.is_empty() && is_clean(&op.taken)
 }
@@ -480,7 +464,7 @@ fn is_home_committed(g: &Geometry, op: &OpenOp, fill: Fill) -> bool
     if !is_phase(op.phase, Phase::Taken) || !op.cleared || !is_taken_clean(op) {
         return false;
     }
-    if !flush_ended(g, op) || !is_fill(fill, Fill::Copied(op.page, g.words)) {
+    if !op.flush_ended(g) || !is_fill(fill, Fill::Copied(op.page, g.words)) {
         return false;
     }
     is_free_of_shadow(g, op)
@@ -519,9 +503,9 @@ fn has_new_home(g: &Geometry, op: &OpenOp, fill: Fill) -> bool
 
 /// Whether a frame is the known home.
 fn is_home(op: &OpenOp, frame: u32) -> bool
-    ensures { IsTrue result ↔ (op.now.home ≡ Some (frame + 1)) }
+    ensures { IsTrue result ↔ (op.now.home ≡ Some (home_word frame)) }
 {
-    op.home == Some(u64::from(frame) + 1)
+    op.home == Some(home_word(frame))
 }
 
 /// Whether the home may be given a shadow.
@@ -535,7 +519,7 @@ fn may_shade(g: &Geometry, view: &ActorView, op: &OpenOp, master: u32, shadow: u
     if g.tier_of(master) >= g.tier_of(shadow) {
         return false;
     }
-    fill_of(view, shadow) == Some(Fill::Equal(op.page))
+    view.fill_of(shadow) == Some(Fill::Equal(op.page))
 }
 
 /// Whether the home's shadow may be taken away.
@@ -587,7 +571,7 @@ pub(crate) fn may_give(g: &Geometry, view: &ActorView, frame: u32) -> bool
     ensures { IsTrue result ↔ MayGive g.now view.now frame }
 {
     match view.turn {
-        Some(tier) => view.scan.words == free_words(g, tier) && view.scan.least == Some(frame),
+        Some(tier) => view.scan.words == g.free_words(tier) && view.scan.least == Some(frame),
         None => false,
     }
 }
@@ -614,7 +598,7 @@ pub(crate) fn is_mark_done(view: &ActorView, page: u32, old: u64, new: u64) -> b
     if old != 2 || new != 0 {
         return false;
     }
-    match op_on(view, page) {
+    match view.op_on(page) {
         Some(_) => true,
         None => false,
     }

@@ -14,7 +14,8 @@ use Rattle.nm_view.specs.Opening.{opened, unscanned}
 use Rattle.nm_base.specs.Ranges.{IsPage, IsVPage, IsFrame}
 use Rattle.nm_view.proofs.Items.{all_find, all_join}
 use Rattle.nm_permit.specs.Permitted.{Allowed, MayLock, MayCopyStore, MaySetShadow}
-use Rattle.nm_event.specs.After.{after_of, walked, is_confirmed, acked_word, kept_entries, mapped_at, copied_one, homed_at, shaded, edit_under, edit_of, let_go, shading, spoiled_under, stored_fill}
+use Rattle.nm_step.specs.Table.{acked_word}
+use Rattle.nm_event.specs.After.{after_of, walked, is_confirmed, kept_entries, mapped_at, copied_one, homed_at, shaded, edit_under, edit_of, let_go, shading, spoiled_under, stored_fill}
 use Rattle.nm_shape.specs.Keyed.{IsOpKeyed, IsScanInRange, IsKeyed}
 use Rattle.nm_shape.proofs.Keys.{none_left, all_put, all_filter, all_erase, once_put, once_filter, once_erase, once_join, length_erase}
 use Rattle.nm_shape.proofs.Ops.{keyed_opened, keyed_mapped, keyed_copied, keyed_homed, keyed_shaded}

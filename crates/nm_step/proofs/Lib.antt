@@ -1,4 +1,2 @@
-pub mod InPlace
-pub mod InRange
-pub mod Keyed
-pub mod Naming
+pub mod Cases
+pub mod Replies

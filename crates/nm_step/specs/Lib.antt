@@ -1,4 +1,1 @@
-pub mod Drawn
-pub mod Named
-pub mod Replies
 pub mod Table

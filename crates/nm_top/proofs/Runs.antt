@@ -11,7 +11,7 @@ use Rattle.nm_flat.specs.declared.access.AccessKind.TheVariants as kind
 use Rattle.nm_flat.specs.Memory.{Memory, IsMemory, IsLegal, IsTrueOf, memory_after, with_access, empty_memory, mapped_page, place, flat_size}
 use Rattle.nm_flat.proofs.Flat.{IsMemory-start, IsMemory-read, IsMemory-write}
 use Rattle.nm_flat.proofs.Legal.{IsLegal-push, memory_after-push}
-use Rattle.nm_core.specs.Still.{Still}
+use Rattle.nm_still.specs.Still.{Still}
 use Rattle.nm_script.specs.declared.script.Line.{Line}
 use Rattle.nm_script.specs.declared.script.Line.TheVariants.{Load, Store, Add}
 use Rattle.nm_script.specs.Script.{IsAccess, IsScript}

@@ -2,7 +2,7 @@
 use Rattle.std.specs.Prelude.{◌≡◌, [], ◌∷◌}
 use Rattle.nm_flat.specs.declared.access.Access.{Access}
 use Rattle.nm_flat.specs.Memory.{Memory, IsMemory, IsTrueOf, with_access}
-use Rattle.nm_core.specs.Still.{Still}
+use Rattle.nm_still.specs.Still.{Still}
 use Rattle.nm_script.specs.declared.script.Line.{Line}
 use Rattle.nm_report.specs.declared.line_result.LineResult.{LineResult}
 use Rattle.nm_report.specs.Follows.{IsPiece}

@@ -7,7 +7,7 @@ ghost use Rattle.nm_report.specs.Summary.{IsNoAwait};
 ghost use Rattle.nm_top.specs.Output.{IsSerial, IsServed, IsScriptRun};
 ghost use Rattle.nm_top.specs.Running.{Makes};
 
-use nm_core::Still;
+use nm_still::Still;
 use nm_report::LineResult;
 use nm_script::{Line, Schedule, Script};
 use std::alloc::{AllocError, Global};

@@ -1,5 +1,6 @@
 pub mod Aliases
 mod Closing
 pub mod Items
-mod Known
+pub mod Known
 pub mod Places
+pub mod Finds

@@ -1,5 +1,5 @@
 -- Views of actors, as contracts see them: the structs with plain lists.
-use Rattle.std.specs.Prelude.{ℕ, ◌^◌, ◌-◌, Bool, List, Option}
+use Rattle.std.specs.Prelude.{ℕ, ◌*◌, ◌^◌, ◌-◌, Bool, List, Option}
 use Rattle.nm_view.specs.declared.view.CacheEntry.{CacheEntry}
 use Rattle.nm_view.specs.declared.view.Peeked.{Peeked}
 use Rattle.nm_view.specs.declared.view.Phase.{Phase}
@@ -52,3 +52,21 @@ off_word = 2 ^ 64 - 2
 -- the acknowledgement of a processor that has ended
 abbrev pub end_word : ℕ
 end_word = 2 ^ 64 - 1
+
+-- an actor makes at most so many bumps, and at most so many raises
+abbrev pub own_bumps : ℕ
+own_bumps = 2 ^ 56
+
+abbrev pub own_raises : ℕ
+own_raises = 2 ^ 59
+
+-- there are at most so many actors: sixteen processors, the migrator and the reclaimer
+abbrev pub most_actors : ℕ
+most_actors = 18
+
+-- the bumps and the raises that all actors together can reach
+abbrev pub most_bumps : ℕ
+most_bumps = most_actors * own_bumps
+
+abbrev pub most_raises : ℕ
+most_raises = most_actors * own_raises

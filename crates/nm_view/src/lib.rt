@@ -9,5 +9,6 @@ pub mod view;
 
 pub use start::UNSCANNED;
 pub use view::{
-    ActorView, CacheEntry, END, Fill, MOST_OPS, OFF, OpenOp, Owned, Peeked, Phase, Room, Scanned,
+    ActorView, CacheEntry, END, Fill, MOST_OPS, OFF, OWN_BUMPS, OWN_RAISES, OpenOp, Owned, Peeked,
+    Phase, Room, Scanned,
 };

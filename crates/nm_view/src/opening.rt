@@ -63,21 +63,23 @@ fn shelve(ops: &mut Vec<OpenOp>, closed: &mut Vec<OpenOp>, page: u32, room: usiz
     }
 }
 
-/// Opens an operation on a page.
-pub fn open_op(view: &mut ActorView, page: u32)
-    requires { length view.old.ops < most_ops }
-    ensures { view.new ≡ record view.old { ops = view.old.ops ++ opened page view.old.room.aliases ∷ [] } }
-{
-    let room = view.room.aliases;
-    let op = reopened(&mut view.closed, page, room);
-    view.ops.push_reserved(op);
-}
+impl ActorView {
+    /// Opens an operation on a page.
+    pub fn open_op(&mut self, page: u32)
+        requires { length self.old.ops < most_ops }
+        ensures { self.new ≡ record self.old { ops = self.old.ops ++ opened page self.old.room.aliases ∷ [] } }
+    {
+        let room = self.room.aliases;
+        let op = reopened(&mut self.closed, page, room);
+        self.ops.push_reserved(op);
+    }
 
-/// Closes the operation on a page.
-pub fn close_op(view: &mut ActorView, page: u32)
-    requires { All (λ o. o.room ≡ view.old.room.aliases) view.old.ops }
-    ensures { view.new ≡ record view.old { ops = erase page_of page view.old.ops } }
-{
-    let room = view.room.aliases;
-    shelve(&mut view.ops, &mut view.closed, page, room);
+    /// Closes the operation on a page.
+    pub fn close_op(&mut self, page: u32)
+        requires { All (λ o. o.room ≡ self.old.room.aliases) self.old.ops }
+        ensures { self.new ≡ record self.old { ops = erase page_of page self.old.ops } }
+    {
+        let room = self.room.aliases;
+        shelve(&mut self.ops, &mut self.closed, page, room);
+    }
 }

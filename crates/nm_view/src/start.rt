@@ -5,7 +5,6 @@ ghost use Rattle.nm_view.specs.Views.{most_ops};
 ghost use Rattle.nm_view.specs.Opening.{opened, opening, counted_page, most_aliases, HasCounts, IsActor};
 ghost use Rattle.nm_base.specs.Geometry.{page_count};
 
-use crate::reading::backing;
 use crate::view::{ActorView, MOST_OPS, OFF, OpenOp, Phase, Room, Scanned};
 use nm_base::Geometry;
 use std::alloc::{AllocError, Global};
@@ -78,7 +77,7 @@ fn alias_counts(alloc: Global, g: &Geometry) -> Result<Vec<usize>, AllocError>
 {
     let mut counts = vec![in alloc; 0; g.pages() as usize]?;
     for v in 0..g.vpages.len() {
-        count_alias(&mut counts, backing(g, v as u32));
+        count_alias(&mut counts, g.backing(v as u32));
     }
     Ok(counts)
 }

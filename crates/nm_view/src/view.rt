@@ -8,6 +8,10 @@ pub const OFF: u64 = u64::MAX - 1;
 pub const END: u64 = u64::MAX;
 /// A view has at most so many open operations.
 pub const MOST_OPS: usize = 10;
+/// An actor makes at most so many bumps.
+pub const OWN_BUMPS: u64 = 1 << 56;
+/// An actor makes at most so many raises.
+pub const OWN_RAISES: u64 = 1 << 59;
 
 /// A translation that a processor has cached.
 #[derive(Clone, Copy, Debug, PartialEq, Eq)]

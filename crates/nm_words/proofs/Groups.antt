@@ -1,12 +1,15 @@
 -- How the words of a machine are read and written by name.
-use Rattle.std.proofs.Common.{◌≡◌, ◌≢◌, ℕ, ◌*◌, ◌<◌, length, refl, ap, ◌∙◌, arith}
-use Rattle.std.proofs.lemmas.List.{length-set, length-replicate, get_or-set_same, get_or-set_other}
+use Rattle.std.proofs.Common.{◌≡◌, ◌≢◌, ℕ, ◌*◌, ◌<◌, length, refl, ap, ◌∙◌, sym, arith}
+use Rattle.std.proofs.lemmas.List.{length-set, length-replicate, set-get_or, get_or-set_same, get_or-set_other}
 use Rattle.nm_base.specs.Geometry.{Geometry, page_count, frame_count}
 use Rattle.nm_view.specs.Views.{off_word}
 use Rattle.nm_words.specs.declared.names.Where.{Where}
 use Rattle.nm_words.specs.declared.names.Where.TheVariants.{Req, Pte, Stamp, Home, Shadow, Lock, Mark, Ack, Turn, Free, Mem}
 use Rattle.nm_words.specs.Names.{IsPlace, free_place, mem_place}
-use Rattle.nm_words.specs.Words.{Words, word_at, with_word, HasSizes, opening_words}
+use Rattle.nm_words.specs.declared.exchanges.Change.{Change}
+use Rattle.nm_words.specs.declared.exchanges.Change.TheVariants.{Keep}
+use Rattle.nm_words.specs.Exchanges.{changed}
+use Rattle.nm_words.specs.Words.{Words, word_at, with_word, exchanged, HasSizes, opening_words}
 use Rattle.nm_words.proofs.Places.{free_place-lt, mem_place-lt, free-same, mem-same, length-full}
 
 pub ap2 : {A B C : Type 0} (f : A → B → C) {a b : A} {c d : B} → a ≡ b → c ≡ d → f a c ≡ f b d
@@ -69,3 +72,22 @@ word_at-other g w (Turn t) x (Turn u) p q ne = get_or-set_other w.turn t u x 0 (
 word_at-other g w (Free t k) x (Free u j) p q ne = get_or-set_other w.free (free_place g t k) (free_place g u j) x 0 (λ e. let same = free-same g u j t k q.0 p.0 q.1 p.1 e in ne (ap2 Free same.0 same.1))
 word_at-other g w (Mem f i) x (Mem m j) p q ne = get_or-set_other w.mem (mem_place g f i) (mem_place g m j) x 0 (λ e. let same = mem-same g m j f i q.1 p.1 e in ne (ap2 Mem same.0 same.1))
 word_at-other g w c x d p q ne = refl
+
+-- a word that is written again leaves the words
+pub with_word-same : (g : Geometry) (w : Words) (c : Where) → with_word g w c (word_at g w c) ≡ w
+with_word-same g w Req = refl
+with_word-same g w (Pte v) = ap (λ xs. record w { pte = xs }) (set-get_or w.pte v 0)
+with_word-same g w (Stamp v) = ap (λ xs. record w { stamp = xs }) (set-get_or w.stamp v 0)
+with_word-same g w (Home b) = ap (λ xs. record w { home = xs }) (set-get_or w.home b 0)
+with_word-same g w (Shadow m) = ap (λ xs. record w { shadow = xs }) (set-get_or w.shadow m 0)
+with_word-same g w (Lock b) = ap (λ xs. record w { lock = xs }) (set-get_or w.lock b 0)
+with_word-same g w (Mark b) = ap (λ xs. record w { mark = xs }) (set-get_or w.mark b 0)
+with_word-same g w (Ack p) = ap (λ xs. record w { ack = xs }) (set-get_or w.ack p 0)
+with_word-same g w (Turn t) = ap (λ xs. record w { turn = xs }) (set-get_or w.turn t 0)
+with_word-same g w (Free t k) = ap (λ xs. record w { free = xs }) (set-get_or w.free (free_place g t k) 0)
+with_word-same g w (Mem f i) = ap (λ xs. record w { mem = xs }) (set-get_or w.mem (mem_place g f i) 0)
+
+-- each exchange, a read among them, is a write of the changed word
+pub exchanged-with_word : (g : Geometry) (w : Words) (c : Where) (change : Change) → exchanged g c change w ≡ with_word g w c (changed change (word_at g w c))
+exchanged-with_word g w c Keep = sym (with_word-same g w c)
+exchanged-with_word g w c change = refl

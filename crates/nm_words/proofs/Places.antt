@@ -11,7 +11,7 @@ use Rattle.std.proofs.lemmas.Nat.{same_from_place, mul-add-lt}
 use Rattle.std.proofs.lemmas.Nat.Bits.{ones_shr}
 use Rattle.nm_base.specs.Geometry.{Geometry, frame_count}
 use Rattle.nm_base.specs.FreeWords.{words_for}
-use Rattle.nm_words.specs.Names.{first_free, free_place, free_count, mem_place}
+use Rattle.nm_words.specs.Names.{first_free, free_place, free_word_count, mem_place}
 use Rattle.nm_words.specs.Words.{full_word, full_words}
 
 -- the words of so few tiers are few
@@ -27,7 +27,7 @@ first_free-le tiers t u lt within =
     omega (arith, sum_by_more words_for tiers t 0 within, rw (take-take (t + 1) u tiers le) at front)
 
 -- each word lies in its list
-pub free_place-lt : (g : Geometry) (t k : ℕ) → t < length g.tiers → k < words_for (get_or g.tiers t 0) → free_place g t k < free_count g
+pub free_place-lt : (g : Geometry) (t k : ℕ) → t < length g.tiers → k < words_for (get_or g.tiers t 0) → free_place g t k < free_word_count g
 free_place-lt g t k tier index = omega (arith, sum_by_more_le words_for g.tiers t 0 tier)
 
 pub mem_place-lt : (g : Geometry) (f i : ℕ) → f < frame_count g → i < g.words → mem_place g f i < frame_count g * g.words

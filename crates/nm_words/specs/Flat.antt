@@ -4,7 +4,7 @@ use Rattle.std.specs.List.{flat_map}
 use Rattle.nm_base.specs.Geometry.{Geometry, page_count, frame_count}
 use Rattle.nm_words.specs.declared.names.Where.{Where}
 use Rattle.nm_words.specs.declared.names.Where.TheVariants.{Req, Pte, Stamp, Home, Shadow, Lock, Mark, Ack, Turn, Free, Mem}
-use Rattle.nm_words.specs.Names.{free_count, free_place, mem_place}
+use Rattle.nm_words.specs.Names.{free_word_count, free_place, mem_place}
 use Rattle.nm_words.specs.Words.{Words}
 
 -- the groups, in their order
@@ -13,15 +13,15 @@ groups_of w = (w.req ∷ []) ∷ w.pte ∷ w.stamp ∷ w.home ∷ w.shadow ∷ w
 
 -- how many words each group has
 abbrev pub sizes_of : Geometry → List ℕ
-sizes_of g = 1 ∷ length g.vpages ∷ length g.vpages ∷ page_count g ∷ frame_count g ∷ page_count g ∷ page_count g ∷ g.cpus ∷ length g.tiers ∷ free_count g ∷ (frame_count g * g.words) ∷ []
+sizes_of g = 1 ∷ length g.vpages ∷ length g.vpages ∷ page_count g ∷ frame_count g ∷ page_count g ∷ page_count g ∷ g.cpus ∷ length g.tiers ∷ free_word_count g ∷ (frame_count g * g.words) ∷ []
 
 -- all words, group by group
 abbrev pub flat : Words → List ℕ
 flat w = flat_map (λ group. group) (groups_of w)
 
 -- how many words a machine has
-abbrev pub word_count : Geometry → ℕ
-word_count g = sum (sizes_of g)
+abbrev pub total_words : Geometry → ℕ
+total_words g = sum (sizes_of g)
 
 -- the number of a word's group
 abbrev pub group_of : Where → ℕ

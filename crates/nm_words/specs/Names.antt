@@ -1,5 +1,5 @@
 -- The words of a machine by name, and the places of the free frames and of the memory in their lists.
-use Rattle.std.specs.Prelude.{ℕ, ◌+◌, ◌*◌, ◌/◌, ◌<◌, take, sum_by}
+use Rattle.std.specs.Prelude.{ℕ, ◌+◌, ◌*◌, ◌<◌, take, sum_by}
 use Rattle.nm_base.specs.Geometry.{Geometry}
 use Rattle.nm_base.specs.Ranges.{IsVPage, IsPage, IsFrame, IsTier, IsIndex}
 use Rattle.nm_base.specs.FreeWords.{free_words, words_for}
@@ -11,8 +11,8 @@ abbrev pub first_free : Geometry → ℕ → ℕ
 first_free g t = sum_by words_for (take t g.tiers)
 
 -- the words of the free frames of all tiers
-abbrev pub free_count : Geometry → ℕ
-free_count g = sum_by words_for g.tiers
+abbrev pub free_word_count : Geometry → ℕ
+free_word_count g = sum_by words_for g.tiers
 
 -- the place of word k of the free frames of tier t: tier by tier
 abbrev pub free_place : Geometry → ℕ → ℕ → ℕ

@@ -6,8 +6,9 @@ use Rattle.nm_view.specs.Views.{off_word}
 use Rattle.nm_words.specs.declared.names.Where.{Where}
 use Rattle.nm_words.specs.declared.names.Where.TheVariants.{Req, Pte, Stamp, Home, Shadow, Lock, Mark, Ack, Turn, Free, Mem}
 use Rattle.nm_words.specs.declared.exchanges.Change.{Change}
+use Rattle.nm_words.specs.declared.exchanges.Change.TheVariants.{Keep}
 use Rattle.nm_base.specs.FreeWords.{words_for}
-use Rattle.nm_words.specs.Names.{free_count, free_place, mem_place}
+use Rattle.nm_words.specs.Names.{free_word_count, free_place, mem_place}
 use Rattle.nm_words.specs.Exchanges.{changed}
 
 -- the number of bumps; for each virtual page its table word and its number of raises; for each backing page its home,
@@ -54,8 +55,9 @@ with_word g w (Turn t) x = record w { turn = slice_set w.turn t x }
 with_word g w (Free t k) x = record w { free = slice_set w.free (free_place g t k) x }
 with_word g w (Mem f i) x = record w { mem = slice_set w.mem (mem_place g f i) x }
 
--- the words after an exchange on the word of a name
+-- the words after an exchange on the word of a name: a read leaves them
 abbrev pub exchanged : Geometry → Where → Change → Words → Words
+exchanged g c Keep w = w
 exchanged g c change w = with_word g w c (changed change (word_at g w c))
 
 -- each group has as many words as the geometry says
@@ -68,7 +70,7 @@ pub record HasSizes (g : Geometry) (w : Words) : Type 0 where
   pub mark : length w.mark ≡ page_count g
   pub ack : length w.ack ≡ g.cpus
   pub turn : length w.turn ≡ length g.tiers
-  pub free : length w.free ≡ free_count g
+  pub free : length w.free ≡ free_word_count g
   pub mem : length w.mem ≡ frame_count g * g.words
 
 -- word k of the free frames of a tier with so many frames, all free

