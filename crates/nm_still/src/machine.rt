@@ -45,7 +45,7 @@ impl<'a> Still<'a> {
         requires mapped { IsSome (backing_page self.old.geometry v) }
         requires within { w < self.old.geometry.words }
         ensures value { result ≡ slice_index self.old.words
-            (place self.old.geometry (page_of self.old.geometry v) w) }
+            (place self.old.geometry (mapped_page self.old.geometry v) w) }
         ensures same { self.new ≡ self.old }
     {
         self.machine.load(v, w)
@@ -56,7 +56,7 @@ impl<'a> Still<'a> {
         requires writable { IsWritable self.old.geometry v }
         requires within { w < self.old.geometry.words }
         ensures { self.new ≡ record self.old {
-          words = slice_set self.old.words (place self.old.geometry (page_of self.old.geometry v) w) x;
+          words = slice_set self.old.words (place self.old.geometry (mapped_page self.old.geometry v) w) x;
         } }
     {
         self.machine.store(v, w, x);
@@ -101,7 +101,7 @@ impl<'a> Machine<'a> {
         ensures sound { IsStillSound (parts_of self.new) }
         ensures geometry { self.new.geometry.now ≡ self.old.geometry.now }
         ensures value { result ≡ slice_index (page_words (parts_of self.old))
-            (place self.old.geometry.now (page_of self.old.geometry.now v) w) }
+            (place self.old.geometry.now (mapped_page self.old.geometry.now v) w) }
         ensures same { page_words (parts_of self.new) ≡ page_words (parts_of self.old) }
     {
         let at = self.touch(v, w);
@@ -115,7 +115,7 @@ impl<'a> Machine<'a> {
         ensures sound { IsStillSound (parts_of self.new) }
         ensures geometry { self.new.geometry.now ≡ self.old.geometry.now }
         ensures words { page_words (parts_of self.new) ≡ slice_set (page_words (parts_of self.old))
-            (place self.old.geometry.now (page_of self.old.geometry.now v) w) x }
+            (place self.old.geometry.now (mapped_page self.old.geometry.now v) w) x }
     {
         let at = self.touch(v, w);
         self.memory[at] = x;
