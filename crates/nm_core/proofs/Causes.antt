@@ -2,7 +2,6 @@
 use Rattle.std.proofs.Common.{◌≡◌, ◌≢◌, ◌↔◌, ℕ, ◌+◌, ◌==◌, if◌then◌else◌, Bool, true, false, set, refl, sym, ap, ◌∙◌, subst}
 use Rattle.std.proofs.lemmas.Bool.{eqb-true, eq-eqb}
 use Rattle.std.proofs.lemmas.List.{set-get_or}
-use Rattle.nm_base.specs.Geometry.{Geometry}
 use Rattle.nm_action.specs.declared.action.Reply.{Reply}
 use Rattle.nm_action.specs.declared.action.Reply.TheVariants.{Done, Busy, Lost}
 use Rattle.nm_action.specs.declared.action.Action.{Action}
@@ -12,25 +11,11 @@ use Rattle.nm_view.specs.Opening.{opening}
 use Rattle.nm_event.specs.After.{after_of}
 use Rattle.nm_words.specs.declared.names.Where.{Where}
 use Rattle.nm_words.specs.declared.names.Where.TheVariants as names
-use Rattle.nm_words.specs.Names.{free_place, mem_place}
-use Rattle.nm_words.specs.Words.{Words, word_at, with_word}
-use Rattle.nm_step.specs.Table.{walked_word}
+use Rattle.nm_words.specs.Words.{word_at, with_word}
+use Rattle.nm_words.proofs.Groups.{with_word-same}
+use Rattle.nm_base.specs.PageWord.{walked_word}
 use Rattle.nm_core.specs.State.{State, state_of, view_of, word_found, reply_to, step}
 use Rattle.nm_core.specs.Causes.{IsBusyWith, IsLostTo, Refuses}
-
--- a word that is written again leaves the words
-with_word-same : (g : Geometry) (w : Words) (c : Where) → with_word g w c (word_at g w c) ≡ w
-with_word-same g w names.Req = refl
-with_word-same g w (names.Pte v) = ap (λ xs. record w { pte = xs }) (set-get_or w.pte v 0)
-with_word-same g w (names.Stamp v) = ap (λ xs. record w { stamp = xs }) (set-get_or w.stamp v 0)
-with_word-same g w (names.Home b) = ap (λ xs. record w { home = xs }) (set-get_or w.home b 0)
-with_word-same g w (names.Shadow m) = ap (λ xs. record w { shadow = xs }) (set-get_or w.shadow m 0)
-with_word-same g w (names.Lock b) = ap (λ xs. record w { lock = xs }) (set-get_or w.lock b 0)
-with_word-same g w (names.Mark b) = ap (λ xs. record w { mark = xs }) (set-get_or w.mark b 0)
-with_word-same g w (names.Ack p) = ap (λ xs. record w { ack = xs }) (set-get_or w.ack p 0)
-with_word-same g w (names.Turn t) = ap (λ xs. record w { turn = xs }) (set-get_or w.turn t 0)
-with_word-same g w (names.Free t k) = ap (λ xs. record w { free = xs }) (set-get_or w.free (free_place g t k) 0)
-with_word-same g w (names.Mem f i) = ap (λ xs. record w { mem = xs }) (set-get_or w.mem (mem_place g f i) 0)
 
 -- an exchange that is made where the word is 0: its reply is Busy exactly where it is not
 busy_go : (n w : ℕ) (b : Bool) → (n == 0) ≡ b → ((if b then Done else Busy n) ≡ Busy w) ↔ ((n ≡ w) × (w ≢ 0))

@@ -3,8 +3,11 @@ pub mod Causes
 pub mod Counts
 pub mod InPlace
 pub mod InRange
+pub mod InWords
 pub mod Keyed
+pub mod Marks
 pub mod Naming
+pub mod Owns
 pub mod Readers
 pub mod Starts
 pub mod Steps

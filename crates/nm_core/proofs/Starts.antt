@@ -13,8 +13,8 @@ use Rattle.nm_view.specs.Opening.{opening, IsActor}
 use Rattle.nm_shape.proofs.Laws.{keyed_opening}
 use Rattle.nm_words.specs.Words.{Words, opening_words}
 use Rattle.nm_words.proofs.Groups.{HasSizes-opening}
-use Rattle.nm_words.proofs.Standing.{AreRanged-opening}
-use Rattle.nm_core.specs.Named.{OpNamesFrames}
+use Rattle.nm_words.proofs.Standing.{AreRanged-opening, AreWords-opening}
+use Rattle.nm_core.specs.Named.{AreTakenInRange}
 use Rattle.nm_core.specs.State.{state_of, view_of, start, actor_count}
 use Rattle.nm_core.specs.Kept.{IsViewKept, IsKept, bumps_of, raises_of}
 
@@ -29,13 +29,12 @@ view_opening : (g : Geometry) (actor : ℕ) → IsActor g actor → IsViewKept g
 view_opening g actor there = record {
   number = refl;
   keyed = keyed_opening g actor there;
-  names = record { cache = All-nil (λ (e : CacheEntry). IsFrame g e.frame); ops = All-nil (OpNamesFrames g) };
-  bumps = omega arith;
-  raises = omega arith;
+  names = record { cache = All-nil (λ (e : CacheEntry). IsFrame g e.frame); taken = All-nil (AreTakenInRange g) };
+  polled = omega arith;
 }
 
 -- the view of each actor is an opening view
-view_of-start : (g : Geometry) (actor : ℕ) → actor < actor_count g → view_of (start g) actor ≡ opening g actor
+pub view_of-start : (g : Geometry) (actor : ℕ) → actor < actor_count g → view_of (start g) actor ≡ opening g actor
 view_of-start g actor there = get_or-map-range_with_len (opening g) 0 (actor_count g) actor actor (opening g actor) there (omega arith)
 
 -- the state in which nothing was done has what every step keeps
@@ -47,6 +46,7 @@ IsKept-start g h =
     record {
       geometry = h;
       sizes = HasSizes-opening g;
+      words = AreWords-opening g;
       ranged = rw (bumps, raises) (AreRanged-opening g (omega (arith, h.room)));
       actors = size;
       views = λ actor within.

@@ -1,94 +1,116 @@
 -- That a permitted step keeps what every step keeps.
-use Rattle.std.proofs.Common.{◌≡◌, ℕ, ◌+◌, ◌^◌, ◌<◌, ◌≤◌, All, length, get_or, set, sym, ap, subst, ◌∙◌, inl, inr, arith}
+use Rattle.std.proofs.Common.{◌≡◌, ℕ, ◌+◌, ◌<◌, ◌≤◌, All, length, get_or, set, sym, ap, subst, ◌∙◌, inl, inr, arith}
 use Rattle.std.proofs.lemmas.Bool.{cases_eq}
 use Rattle.std.proofs.lemmas.List.{length-set, get_or-set_same, get_or-set_other, get_or_default}
 use Rattle.std.proofs.lemmas.List.Sums.{sum_by-set, sum_by-le}
 use Rattle.nm_base.specs.Geometry.{Geometry, IsGeometry, frame_count}
-use Rattle.nm_action.specs.declared.action.Action.{Action}
-use Rattle.nm_action.specs.declared.action.Reply.{Reply}
 use Rattle.nm_base.specs.Ranges.{IsWord}
-use Rattle.nm_view.specs.Views.{View}
+use Rattle.nm_action.specs.declared.action.Action.{Action}
+use Rattle.nm_action.specs.declared.action.Action.TheVariants.{Poll}
+use Rattle.nm_view.specs.Views.{View, own_bumps, own_raises, most_bumps, most_raises}
 use Rattle.nm_view.specs.Opening.{opening}
-use Rattle.nm_event.specs.After.{after_of}
-use Rattle.nm_event.specs.Fitting.{IsReplyOf, most_bumps, most_raises}
 use Rattle.nm_permit.specs.Permitted.{Allowed}
-use Rattle.nm_shape.specs.Keyed.{IsKeyed}
-use Rattle.nm_shape.specs.Ranged.{IsInRangeReply, IsNarrowWalk}
 use Rattle.nm_words.specs.Names.{IsPlace}
-use Rattle.nm_words.specs.Exchanges.{changed, told}
-use Rattle.nm_words.specs.Words.{Words, exchanged}
-use Rattle.nm_words.specs.Ranged.{IsRanged, AreRanged}
-use Rattle.nm_words.proofs.Groups.{HasSizes-with_word}
-use Rattle.nm_words.proofs.Standing.{AreRanged-with_word}
-use Rattle.nm_core.specs.Drawn.{bumps_after, raises_after}
-use Rattle.nm_core.specs.Replies.{IsNamed}
-use Rattle.nm_step.specs.Table.{where_of, change_of}
+use Rattle.nm_words.specs.Exchanges.{changed}
+use Rattle.nm_words.specs.Words.{Words, HasSizes, with_word, exchanged}
+use Rattle.nm_words.specs.Ranged.{IsRanged, AreRanged, AreWords}
+use Rattle.nm_words.proofs.Groups.{HasSizes-with_word, exchanged-with_word}
+use Rattle.nm_words.proofs.Standing.{AreRanged-with_word, AreWords-with_word}
+use Rattle.nm_step.specs.Table.{where_of, change_of, reply_of, IsReplyTo}
+use Rattle.nm_step.proofs.Replies.{IsReplyTo-reply_of}
+use Rattle.nm_event.specs.After.{after_of}
+use Rattle.nm_shape.specs.Keyed.{IsKeyed}
+use Rattle.nm_event.specs.Ranged.{IsInRangeReply}
+use Rattle.nm_core.specs.Drawn.{bumps_after, raises_after, polled_after}
+use Rattle.nm_core.specs.State.{State, state_of, view_of, place_found, word_found, change_made, reply_by, reply_to, step}
+use Rattle.nm_core.specs.Kept.{IsViewKept, IsKept, bumps_of, raises_of}
 use Rattle.nm_core.proofs.InPlace.{IsPlace-where_of}
 use Rattle.nm_core.proofs.InRange.{IsRanged-changed}
-use Rattle.nm_core.proofs.Naming.{NamesFrames-after, number-after}
-use Rattle.nm_core.specs.State.{State, state_of, view_of, place_found, word_found, change_made, told_by, reply_by, reply_to, step}
-use Rattle.nm_core.specs.Kept.{IsViewKept, IsKept, bumps_of, raises_of}
-use Rattle.nm_core.proofs.Counts.{counts-after, bumps-few, raises-few, bumps-sum, raises-sum, raises-more, bumps-elsewhere}
-use Rattle.nm_core.proofs.Answers.{IsReplyOf-reply_of, IsNamed-reply_of, IsNarrowWalk-reply_of, IsInRangeReply-reply_of}
+use Rattle.nm_core.proofs.InWords.{IsWord-changed}
+use Rattle.nm_core.proofs.Naming.{NamesFrames-after, HasCounted-after}
+use Rattle.nm_core.proofs.Counts.{bumps-sum, raises-sum, raises-more, bumps-elsewhere}
+use Rattle.nm_core.proofs.Answers.{IsInRangeReply-reply_of}
 
 -- the actors together have made few bumps and raises
-all_bumps : (s : State) → IsKept s → All (λ v. v.bumps ≤ 2 ^ 56) s.views
-all_bumps s k i d within = let e = get_or_default s.views i d (opening s.geometry i) within in rw e (k.views i within).bumps
+all_bumps : (s : State) → IsKept s → All (λ v. v.bumps ≤ own_bumps) s.views
+all_bumps s k i d within = let e = get_or_default s.views i d (opening s.geometry i) within in rw e (k.views i within).keyed.bumps
 
-all_raises : (s : State) → IsKept s → All (λ v. v.raises ≤ 2 ^ 59) s.views
-all_raises s k i d within = let e = get_or_default s.views i d (opening s.geometry i) within in rw e (k.views i within).raises
+all_raises : (s : State) → IsKept s → All (λ v. v.raises ≤ own_raises) s.views
+all_raises s k i d within = let e = get_or_default s.views i d (opening s.geometry i) within in rw e (k.views i within).keyed.raises
 
 pub few_bumps : (s : State) → IsKept s → bumps_of s ≤ most_bumps
-few_bumps s k = omega (arith, sum_by-le (λ v. v.bumps) (2 ^ 56) s.views (all_bumps s k), k.actors, k.geometry.ranges.2.1)
+few_bumps s k = omega (arith, sum_by-le (λ v. v.bumps) own_bumps s.views (all_bumps s k), k.actors, k.geometry.ranges.2.1)
 
 pub few_raises : (s : State) → IsKept s → raises_of s ≤ most_raises
-few_raises s k = omega (arith, sum_by-le (λ v. v.raises) (2 ^ 59) s.views (all_raises s k), k.actors, k.geometry.ranges.2.1)
+few_raises s k = omega (arith, sum_by-le (λ v. v.raises) own_raises s.views (all_raises s k), k.actors, k.geometry.ranges.2.1)
 
 some_frame : (g : Geometry) → IsGeometry g → 0 < frame_count g
 some_frame g h = omega (arith, h.room)
 
 -- the machine has the word of a permitted action, and it is what it can be
 pub place_there : (s : State) (actor : ℕ) (a : Action) → IsKept s → actor < length s.views → Allowed s.geometry (view_of s actor) a → IsPlace s.geometry (place_found s actor a)
-place_there s actor a k there may = IsPlace-where_of s.geometry (view_of s actor) a (k.views actor there).names may
+place_there s actor a k there may = IsPlace-where_of s.geometry (view_of s actor) a (k.views actor there).keyed (k.views actor there).names may
 
 pub found_ranged : (s : State) (actor : ℕ) (a : Action) → IsKept s → actor < length s.views → Allowed s.geometry (view_of s actor) a → IsRanged s.geometry (bumps_of s) (raises_of s) (place_found s actor a) (word_found s actor a)
 found_ranged s actor a k there may = k.ranged (place_found s actor a) (place_there s actor a k there may)
 
--- the view of the actor after the step
-view_kept : (g : Geometry) (actor : ℕ) (view : View) (a : Action) (r : Reply) → IsReplyOf a r → Allowed g view a → IsNamed g a r → IsKeyed g (after_of g view a r) → IsViewKept g actor view → IsViewKept g actor (after_of g view a r)
-view_kept g actor view a r kind may named keyed k =
-    let counts = counts-after g view a r kind in
-    record {
-      number = number-after g view a r ∙ k.number;
-      keyed = keyed;
-      names = NamesFrames-after g view a r may named k.names;
-      bumps = rw counts.0 (bumps-few g view a may k.bumps);
-      raises = rw counts.1 (raises-few g view a may k.raises);
-    }
+pub found_word : (s : State) (actor : ℕ) (a : Action) → IsKept s → actor < length s.views → Allowed s.geometry (view_of s actor) a → IsWord (word_found s actor a)
+found_word s actor a k there may = k.words (place_found s actor a) (place_there s actor a k there may)
 
-reply_kind : (s : State) (actor : ℕ) (a : Action) → IsReplyOf a (reply_to s actor a)
-reply_kind s actor a = IsReplyOf-reply_of a (told (change_made s actor a) (word_found s actor a))
+reply_kind : (s : State) (actor : ℕ) (a : Action) → IsReplyTo (change_made s actor a) (reply_to s actor a)
+reply_kind s actor a = IsReplyTo-reply_of (change_made s actor a) (word_found s actor a)
+
+polled_word : (g : Geometry) (view : View) (a : Action) (n seen : ℕ) → IsWord n → IsWord seen → IsWord (polled_after a (reply_of (change_of g view a) n) seen)
+polled_word g view Poll n seen word h = word
+polled_word g view a n seen word h = h
+
+-- the reply is in range
+range_there : (s : State) (actor : ℕ) (a : Action) → IsKept s → actor < length s.views → Allowed s.geometry (view_of s actor) a → IsInRangeReply s.geometry a (reply_to s actor a)
+range_there s actor a k there may =
+    IsInRangeReply-reply_of s.geometry (view_of s actor) a (bumps_of s) (raises_of s) (word_found s actor a) (few_bumps s k) (few_raises s k) (found_word s actor a k there may) (found_ranged s actor a k there may)
+
+-- the view of the actor after the step
+view_kept : (g : Geometry) (actor : ℕ) (view : View) (a : Action) (n : ℕ) → IsInRangeReply g a (reply_of (change_of g view a) n) → IsWord n → IsKeyed g (after_of g view a (reply_of (change_of g view a) n)) → IsViewKept g actor view → IsViewKept g actor (after_of g view a (reply_of (change_of g view a) n))
+view_kept g actor view a n named word keyed k =
+    let counted = HasCounted-after g view a (reply_of (change_of g view a) n) (IsReplyTo-reply_of (change_of g view a) n) in
+    record {
+      number = counted.number ∙ k.number;
+      keyed = keyed;
+      names = NamesFrames-after g view a (reply_of (change_of g view a) n) named k.names;
+      polled = rw counted.polled (polled_word g view a n view.req_seen word k.polled);
+    }
 
 -- what all actors have made after the step
 bumps_step : (s : State) (actor : ℕ) (a : Action) → actor < length s.views → bumps_of (step s actor a) ≡ bumps_after a (bumps_of s)
 bumps_step s actor a there =
     let new : View = after_of s.geometry (view_of s actor) a (reply_to s actor a) in
-    let count = counts-after s.geometry (view_of s actor) a (reply_to s actor a) (reply_kind s actor a) in
-    bumps-sum a (bumps_of s) (bumps_of (step s actor a)) (view_of s actor).bumps (sum_by-set (λ v. v.bumps) s.views actor new (opening s.geometry actor) there ∙ ap (λ n. bumps_of s + n) count.0)
+    let counted = HasCounted-after s.geometry (view_of s actor) a (reply_to s actor a) (reply_kind s actor a) in
+    bumps-sum a (bumps_of s) (bumps_of (step s actor a)) (view_of s actor).bumps (sum_by-set (λ v. v.bumps) s.views actor new (opening s.geometry actor) there ∙ ap (λ n. bumps_of s + n) counted.bumps)
 
 raises_step : (s : State) (actor : ℕ) (a : Action) → actor < length s.views → raises_of (step s actor a) ≡ raises_after a (raises_of s)
 raises_step s actor a there =
     let new : View = after_of s.geometry (view_of s actor) a (reply_to s actor a) in
-    let count = counts-after s.geometry (view_of s actor) a (reply_to s actor a) (reply_kind s actor a) in
-    raises-sum a (raises_of s) (raises_of (step s actor a)) (view_of s actor).raises (sum_by-set (λ v. v.raises) s.views actor new (opening s.geometry actor) there ∙ ap (λ n. raises_of s + n) count.1)
+    let counted = HasCounted-after s.geometry (view_of s actor) a (reply_to s actor a) (reply_kind s actor a) in
+    raises-sum a (raises_of s) (raises_of (step s actor a)) (view_of s actor).raises (sum_by-set (λ v. v.raises) s.views actor new (opening s.geometry actor) there ∙ ap (λ n. raises_of s + n) counted.raises)
+
+-- the words after the step
+after_words : (s : State) (actor : ℕ) (a : Action) → (step s actor a).words ≡ with_word s.geometry s.words (place_found s actor a) (changed (change_made s actor a) (word_found s actor a))
+after_words s actor a = exchanged-with_word s.geometry s.words (place_found s actor a) (change_made s actor a)
 
 ranged_step : (s : State) (actor : ℕ) (a : Action) → IsKept s → actor < length s.views → Allowed s.geometry (view_of s actor) a → AreRanged s.geometry (bumps_after a (bumps_of s)) (raises_after a (raises_of s)) (step s actor a).words
 ranged_step s actor a k there may =
     let g : Geometry = s.geometry in
     let view : View = view_of s actor in
     let found = found_ranged s actor a k there may in
-    let new = IsRanged-changed g view a (bumps_of s) (raises_of s) (word_found s actor a) (k.views actor there).names may (some_frame g k.geometry) (omega (arith, few_bumps s k)) found in
-    AreRanged-with_word g (bumps_of s) (raises_of s) (bumps_after a (bumps_of s)) (raises_after a (raises_of s)) s.words (place_found s actor a) (changed (change_made s actor a) (word_found s actor a)) k.sizes (place_there s actor a k there may) (raises-more a (raises_of s)) (bumps-elsewhere g view a (bumps_of s)) new k.ranged
+    let new = IsRanged-changed g view a (bumps_of s) (raises_of s) (word_found s actor a) (k.views actor there).keyed (k.views actor there).names may (some_frame g k.geometry) (omega (arith, few_bumps s k)) found in
+    subst (AreRanged g (bumps_after a (bumps_of s)) (raises_after a (raises_of s))) (sym (after_words s actor a))
+    (AreRanged-with_word g (bumps_of s) (raises_of s) (bumps_after a (bumps_of s)) (raises_after a (raises_of s)) s.words (place_found s actor a) (changed (change_made s actor a) (word_found s actor a)) k.sizes (place_there s actor a k there may) (raises-more a (raises_of s)) (bumps-elsewhere g view a (bumps_of s)) new k.ranged)
+
+words_step : (s : State) (actor : ℕ) (a : Action) → IsKept s → actor < length s.views → Allowed s.geometry (view_of s actor) a → AreWords s.geometry (step s actor a).words
+words_step s actor a k there may =
+    let new = IsWord-changed s.geometry actor (view_of s actor) a (word_found s actor a) k.geometry (k.views actor there) may (found_word s actor a k there may) in
+    subst (AreWords s.geometry) (sym (after_words s actor a))
+    (AreWords-with_word s.geometry s.words (place_found s actor a) (changed (change_made s actor a) (word_found s actor a)) k.sizes (place_there s actor a k there may) new k.words)
 
 -- a permitted step keeps what every step keeps, where it leaves the view keyed
 pub IsKept-step : (s : State) (actor : ℕ) (a : Action) → IsKept s → actor < length s.views → Allowed s.geometry (view_of s actor) a → IsKeyed s.geometry (after_of s.geometry (view_of s actor) a (reply_to s actor a)) → IsKept (step s actor a)
@@ -96,11 +118,12 @@ IsKept-step s actor a k there may keyed =
     let g : Geometry = s.geometry in
     let new : View = after_of g (view_of s actor) a (reply_to s actor a) in
     let size : length (set s.views actor new) ≡ length s.views = length-set s.views actor new in
-    let named = IsNamed-reply_of g (view_of s actor) a (bumps_of s) (raises_of s) (word_found s actor a) (found_ranged s actor a k there may) in
-    let kept : IsViewKept g actor new = view_kept g actor (view_of s actor) a (reply_to s actor a) (reply_kind s actor a) may named keyed (k.views actor there) in
+    let named = range_there s actor a k there may in
+    let kept : IsViewKept g actor new = view_kept g actor (view_of s actor) a (word_found s actor a) named (found_word s actor a k there may) keyed (k.views actor there) in
     record {
       geometry = k.geometry;
-      sizes = HasSizes-with_word g s.words (place_found s actor a) (changed (change_made s actor a) (word_found s actor a)) k.sizes;
+      sizes = subst (HasSizes g) (sym (after_words s actor a)) (HasSizes-with_word g s.words (place_found s actor a) (changed (change_made s actor a) (word_found s actor a)) k.sizes);
+      words = words_step s actor a k there may;
       ranged = rw (bumps_step s actor a there, raises_step s actor a there) (ranged_step s actor a k there may);
       actors = size ∙ k.actors;
       views = λ other within. elim (cases_eq other actor) [
@@ -117,16 +140,10 @@ IsKept-step s actor a k there may keyed =
 pub step_place : (s : State) (actor : ℕ) (a : Action) (v : View) → v ≡ view_of s actor → IsKept s → actor < length s.views → Allowed s.geometry (view_of s actor) a → IsPlace s.geometry (where_of s.geometry v a)
 step_place s actor a v e k there may = subst (λ v. IsPlace s.geometry (where_of s.geometry v a)) (sym e) (place_there s actor a k there may)
 
-pub step_range : (s : State) (actor : ℕ) (a : Action) (v : View) → v ≡ view_of s actor → IsKept s → actor < length s.views → Allowed s.geometry (view_of s actor) a → IsWord (told_by s.geometry s.words v a) → IsInRangeReply s.geometry a (reply_by s.geometry s.words v a)
-step_range s actor a v e k there may word =
+pub step_range : (s : State) (actor : ℕ) (a : Action) (v : View) → v ≡ view_of s actor → IsKept s → actor < length s.views → Allowed s.geometry (view_of s actor) a → IsInRangeReply s.geometry a (reply_by s.geometry s.words v a)
+step_range s actor a v e k there may =
     let InRange : View → Type 0 = λ v. IsInRangeReply s.geometry a (reply_by s.geometry s.words v a) in
-    let here : IsWord (told_by s.geometry s.words (view_of s actor) a) = subst (λ v. IsWord (told_by s.geometry s.words v a)) e word in
-    subst InRange (sym e) (IsInRangeReply-reply_of s.geometry (view_of s actor) a (bumps_of s) (raises_of s) (word_found s actor a) (few_bumps s k) (few_raises s k) here (found_ranged s actor a k there may))
-
-pub step_walk : (s : State) (actor : ℕ) (a : Action) (v : View) → v ≡ view_of s actor → IsKept s → actor < length s.views → Allowed s.geometry (view_of s actor) a → IsNarrowWalk a (reply_by s.geometry s.words v a)
-step_walk s actor a v e k there may =
-    let Narrow : View → Type 0 = λ v. IsNarrowWalk a (reply_by s.geometry s.words v a) in
-    subst Narrow (sym e) (IsNarrowWalk-reply_of s.geometry (view_of s actor) a (bumps_of s) (raises_of s) (word_found s actor a) (omega (arith, k.geometry.ranges.1)) (found_ranged s actor a k there may))
+    subst InRange (sym e) (range_there s actor a k there may)
 
 both : {A B C : Type 0} (f : A → B → C) {a b : A} {c d : B} → a ≡ b → c ≡ d → f a c ≡ f b d
 both f e h = cc

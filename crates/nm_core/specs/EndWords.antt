@@ -1,7 +1,9 @@
 -- The words of a machine at the end of a run, as a report reads them.
-use Rattle.std.specs.Prelude.{◌≡◌, ℕ, ◌-◌, ◌/◌, ◌%◌, ◌^◌, ◌==◌, ◌↔◌, if◌then◌else◌, Bool, false, List, length, map, replicate, Option, Some, None, slice_index, IsTrue}
+use Rattle.std.specs.Prelude.{◌≡◌, ℕ, ◌↔◌, Bool, false, List, length, map, replicate, Option, None, slice_index, IsTrue}
 use Rattle.std.specs.List.{range_with_len}
 use Rattle.nm_base.specs.Geometry.{Geometry, page_count, frame_count}
+use Rattle.nm_base.specs.HomeWord.{named_home}
+use Rattle.nm_base.specs.ShadowWord.{named_shadow}
 use Rattle.nm_core.specs.declared.ends.Role.{Role}
 use Rattle.nm_core.specs.declared.ends.Role.TheVariants.{Free}
 use Rattle.nm_core.specs.State.{State}
@@ -33,26 +35,10 @@ pub record HasEndRoom (g : Geometry) (e : EndWords) : Type 0 where
   pub marks : length e.marks ≡ page_count g
   pub roles : length e.roles ≡ frame_count g
 
--- the frame that a home word names
-abbrev pub named_home : ℕ → Option ℕ
-named_home word = if word == 0 then None else Some (word - 1)
-
--- the page and the shadow that a shadow word names
-abbrev pub named_shadow : ℕ → Option (ℕ × ℕ)
-named_shadow word = if word == 0 then None else Some (word / 2 ^ 32 - 1, word % 2 ^ 32 - 1)
-
--- the frame of a backing page, if it has one
-abbrev pub home_of : State → ℕ → Option ℕ
-home_of s page = named_home (slice_index s.words.home page)
-
--- the page of which a frame is the master and the shadow, if it is one
-abbrev pub shadow_at : State → ℕ → Option (ℕ × ℕ)
-shadow_at s frame = named_shadow (slice_index s.words.shadow frame)
-
 -- the end words of a state
 pub record IsEndOf (s : State) (e : EndWords) : Type 0 where
-  pub homes : e.homes ≡ map (home_of s) (range_with_len 0 (page_count s.geometry))
-  pub shadows : e.shadows ≡ map (shadow_at s) (all_frames s.geometry)
+  pub homes : e.homes ≡ map (λ page. named_home (slice_index s.words.home page)) (range_with_len 0 (page_count s.geometry))
+  pub shadows : e.shadows ≡ map (λ frame. named_shadow (slice_index s.words.shadow frame)) (all_frames s.geometry)
   pub marks : e.marks ≡ s.words.mark
   pub roles : e.roles ≡ map (role_of s) (all_frames s.geometry)
   pub settled : IsTrue e.settled ↔ IsSettled s

@@ -1,5 +1,5 @@
 -- What every step of the machine keeps, whoever the actors are and whatever they do within what is permitted.
-use Rattle.std.specs.Prelude.{◌≡◌, ℕ, ◌^◌, ◌<◌, ◌≤◌, length, sum_by}
+use Rattle.std.specs.Prelude.{◌≡◌, ℕ, ◌<◌, length, sum_by}
 use Rattle.nm_base.specs.Geometry.{Geometry, IsGeometry}
 use Rattle.nm_base.specs.Ranges.{IsWord}
 use Rattle.nm_view.specs.Views.{View}

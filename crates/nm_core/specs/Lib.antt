@@ -3,7 +3,6 @@ pub mod Drawn
 pub mod EndWords
 pub mod Kept
 pub mod Named
-pub mod Replies
 pub mod Roles
 pub mod Runs
 pub mod State

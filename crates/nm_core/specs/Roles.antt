@@ -1,10 +1,11 @@
 -- The roles of frames, and when a machine is settled.
-use Rattle.std.specs.Prelude.{◌≡◌, ℕ, ◌+◌, ◌==◌, ◌&&◌, not, if◌then◌else◌, Bool, List, [], filter, is_some, All}
+use Rattle.std.specs.Prelude.{◌≡◌, ℕ, ◌==◌, ◌&&◌, not, if◌then◌else◌, Bool, List, [], filter, is_some, All}
 use Rattle.std.specs.List.{list_any, range_with_len}
 use Rattle.std.specs.Int.{bit_at}
 use Rattle.nm_base.specs.Geometry.{Geometry, frame_count}
 use Rattle.nm_view.specs.Lists.{find}
 use Rattle.nm_view.specs.Views.{View, end_word}
+use Rattle.nm_base.specs.HomeWord.{home_word}
 use Rattle.nm_base.specs.ShadowWord.{shadow_frame}
 use Rattle.nm_view.specs.Operations.{owned_frame}
 use Rattle.nm_words.specs.Words.{word_at}
@@ -18,9 +19,13 @@ use Rattle.nm_core.specs.State.{State}
 abbrev pub is_free : State → ℕ → Bool
 is_free s f = bit_at (word_at s.geometry s.words (free_word_of s.geometry f)) (free_bit s.geometry f) == 1
 
+-- a home word names the frame
+abbrev pub is_home_of : ℕ → ℕ → Bool
+is_home_of f word = word == home_word f
+
 -- some home word names the frame
 abbrev pub is_mapped : State → ℕ → Bool
-is_mapped s f = list_any (λ home. home == f + 1) s.words.home
+is_mapped s f = list_any (is_home_of f) s.words.home
 
 -- a shadow word names the frame as shadow
 abbrev pub names_shadow : ℕ → ℕ → Bool
@@ -57,6 +62,13 @@ held_frames s = filter (is_held s) (all_frames s.geometry)
 -- the role of a frame: the first of the tests Free, Mapped and Shadow that it passes, else Held
 abbrev pub role_of : State → ℕ → Role
 role_of s f = if is_free s f then Free else if is_mapped s f then Mapped else if is_shadow s f then Shadow else Held
+
+-- the role of a frame that is found to have this role too, or not: a free frame stays free
+abbrev pub marked : Role → Bool → Role → Role
+marked role named Free = Free
+marked role named Mapped = if named then role else Mapped
+marked role named Shadow = if named then role else Shadow
+marked role named Held = if named then role else Held
 
 -- a machine is settled: every processor has ended, no lock and no turn is held, no page has a mark, and no view has an
 -- operation or an owned frame

@@ -1,5 +1,5 @@
 -- Runs of the machine, the parts of its actors, and their accesses.
-use Rattle.std.specs.Prelude.{◌≡◌, ℕ, ◌==◌, List, [], ◌∷◌, filter, slice_index_or, Option, Some, None}
+use Rattle.std.specs.Prelude.{◌≡◌, ℕ, List, [], ◌∷◌, Option, Some, None}
 use Rattle.std.specs.List.{filter_map}
 use Rattle.nm_base.specs.Geometry.{Geometry}
 use Rattle.nm_flat.specs.declared.access.Access.{Access}

@@ -3,9 +3,8 @@
 
 pub mod ends;
 mod reading;
+mod roles;
 pub mod state;
-#[cfg(test)]
-mod tests;
 
 pub use ends::{EndWords, Role};
 pub use state::State;

@@ -8,18 +8,18 @@ ghost use Rattle.nm_base.specs.Ranges.{IsWord};
 ghost use Rattle.nm_event.specs.After.{after_of};
 ghost use Rattle.nm_permit.specs.Permitted.{Allowed};
 ghost use Rattle.nm_shape.specs.Keyed.{IsKeyed};
-ghost use Rattle.nm_shape.specs.Ranged.{IsInRangeReply, IsNarrowWalk};
+ghost use Rattle.nm_event.specs.Ranged.{IsInRangeReply};
 ghost use Rattle.nm_words.specs.Names.{IsPlace};
 ghost use Rattle.nm_words.specs.Words.{exchanged, HasSizes};
 ghost use Rattle.nm_step.specs.Table.{where_of, change_of};
-ghost use Rattle.nm_core.specs.State.{state_of, view_of, told_by, reply_by, reply_to, step, start, actor_count};
+ghost use Rattle.nm_core.specs.State.{state_of, view_of, reply_by, reply_to, step, start, actor_count};
 ghost use Rattle.nm_core.specs.Kept.{IsKept};
 ghost use Rattle.nm_core.specs.Causes.{IsBusyWith, IsLostTo, Refuses};
 
 use nm_action::{Action, Reply};
 use nm_base::Geometry;
-use nm_shape::advance;
-use nm_step::{change_of, reply_of, where_of};
+use nm_shape::advance_keyed;
+use nm_step::{exchange_of, reply_of};
 use nm_view::ActorView;
 use nm_words::Words;
 use std::alloc::{AllocError, Global};
@@ -77,19 +77,16 @@ fn act(g: &Geometry, words: &mut Words, view: &mut ActorView, action: Action) ->
     requires keyed { IsKeyed g.now view.old }
     requires allowed { Allowed g.now view.old action }
     requires place { IsPlace g.now (where_of g.now view.old action) }
-    requires range { IsWord (told_by g.now words.old view.old action)
-        → IsInRangeReply g.now action (reply_by g.now words.old view.old action) }
-    requires walk { IsNarrowWalk action (reply_by g.now words.old view.old action) }
+    requires range { IsInRangeReply g.now action (reply_by g.now words.old view.old action) }
     ensures words { words.new ≡ exchanged g.now (where_of g.now view.old action)
         (change_of g.now view.old action) words.old }
     ensures reply { result ≡ reply_by g.now words.old view.old action }
     ensures view { view.new ≡ after_of g.now view.old action (reply_by g.now words.old view.old action) }
     ensures keyed { IsKeyed g.now view.new }
 {
-    let place = where_of(g, view, action);
-    let change = change_of(g, view, action);
-    let reply = reply_of(action, words.exchange(g, place, change));
-    advance(g, view, action, reply);
+    let (place, change) = exchange_of(g, view, action);
+    let reply = reply_of(change, words.exchange(g, place, change));
+    advance_keyed(g, view, action, reply);
     reply
 }
 

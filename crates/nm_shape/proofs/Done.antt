@@ -6,18 +6,19 @@ use Rattle.nm_action.specs.declared.action.AckTo.{AckTo}
 use Rattle.nm_action.specs.declared.action.AckTo.TheVariants.{Seen, Off, End}
 use Rattle.nm_action.specs.declared.action.Reply.TheVariants.{Done}
 use Rattle.nm_action.specs.declared.action.Action.{Action}
-use Rattle.nm_action.specs.declared.action.Action.TheVariants.{Load, Store, Add, Look, Walk, Peek, Poll, Ack, Lock, Unlock, Bump, SeeAck, Raise, Soften, Arm, ClearDirty, Unmap, Map, Grant, CopyLoad, CopyStore, SetHome, SetShadow, TakeTurn, Scan, GiveFrame, PutFrame, ReleaseTurn, Mark, Read}
+use Rattle.nm_action.specs.declared.action.Action.TheVariants.{Walk, Ack, Lock, Unlock, Map, CopyStore, SetHome, SetShadow, TakeTurn, ReleaseTurn}
 use Rattle.nm_view.specs.Lists.{edit, erase, put}
 use Rattle.nm_view.specs.Views.{Op, View}
 use Rattle.nm_view.specs.Operations.{page_of, cached_page, owned_frame, op_on, known_home}
 use Rattle.nm_view.specs.Opening.{opened, unscanned}
+use Rattle.nm_base.specs.HomeWord.{IsHomeWord}
 use Rattle.nm_base.specs.Ranges.{IsPage, IsVPage, IsFrame}
-use Rattle.nm_view.proofs.Items.{all_find, all_join}
 use Rattle.nm_permit.specs.Permitted.{Allowed, MayLock, MayCopyStore, MaySetShadow}
 use Rattle.nm_step.specs.Table.{acked_word}
 use Rattle.nm_event.specs.After.{after_of, walked, is_confirmed, kept_entries, mapped_at, copied_one, homed_at, shaded, edit_under, edit_of, let_go, shading, spoiled_under, stored_fill}
 use Rattle.nm_shape.specs.Keyed.{IsOpKeyed, IsScanInRange, IsKeyed}
-use Rattle.nm_shape.proofs.Keys.{none_left, all_put, all_filter, all_erase, once_put, once_filter, once_erase, once_join, length_erase}
+use Rattle.nm_view.proofs.Items.{all_find, all_join, none_left, all_put, all_filter, all_erase}
+use Rattle.nm_view.proofs.Finds.{once_put, once_filter, once_erase, once_join, length_erase}
 use Rattle.nm_shape.proofs.Ops.{keyed_opened, keyed_mapped, keyed_copied, keyed_homed, keyed_shaded}
 use Rattle.nm_shape.proofs.Groups.{some_and, with_ops, with_cache, with_owned, with_scan, with_counts, edit_op, edit_op_of}
 use Rattle.nm_shape.proofs.Frames.{AreOwned, owned_spoiled, owned_spoiled_under, owned_less, owned_filled, stored_in_range, owned_let_go, owned_unshaded}
@@ -51,13 +52,13 @@ keyed_unlock g view b k = with_ops g view (erase page_of b view.ops) (omega (ari
 
 copied_under : (g : Geometry) (view : View) (b : Option ℕ) (f i x : ℕ) → i < g.words → MayCopyStore view b f i x → IsKeyed g view → IsKeyed g (record view { ops = edit_under b copied_one view.ops })
 copied_under g view None f i x lt may k = k
-copied_under g view (Some page) f i x lt may k = edit_op g view page copied_one (λ o. refl) (λ o e ko. let l : i ≡ o.copied = (some_and (op_on view page) o _ e may.1).next in keyed_copied g o (omega (arith, l, lt)) ko) k
+copied_under g view (Some page) f i x lt may k = edit_op g view page copied_one (λ o. refl) (λ o e ko. let l : i ≡ o.copied = (some_and (op_on view page) o _ e may.loaded).next in keyed_copied g o (omega (arith, l, lt)) ko) k
 
 taken_away : (g : Geometry) (view : View) (master : ℕ) (o : Option Op) → IsSomeAnd o (MaySetShadow g view master None) → IsSomeAnd o (λ p. IsSomeAnd p.shadow (λ w. w ≢ 0))
 taken_away g view master None may = may
 taken_away g view master (Some o) may = may.some
 
-pub known_in_range : (g : Geometry) (view : View) (page : ℕ) (o : Option Op) → IfSome o (IsOpKeyed g) → IfSome (known_home o) (λ h. h ≤ frame_count g)
+pub known_in_range : (g : Geometry) (view : View) (page : ℕ) (o : Option Op) → IfSome o (IsOpKeyed g) → IfSome (known_home o) (IsHomeWord g)
 known_in_range g view page None k = tt
 known_in_range g view page (Some o) k = k.home
 
@@ -67,8 +68,8 @@ shaded_frames g view page master None few p may k = owned_unshaded g page (op_on
 shaded_frames g view page master (Some s) few p may k = owned_less g s view.owned (frames_of g view k)
 
 pub no_turn : (g : Geometry) (turn : Option ℕ) → IsScanInRange g turn unscanned
-no_turn g None = record { words = tt; none = λ _. refl; sum = omega arith; least = tt }
-no_turn g (Some t) = record { words = omega arith; none = λ _. refl; sum = omega arith; least = tt }
+no_turn g None = refl
+no_turn g (Some t) = record { words = omega arith; sum = omega arith; least = tt }
 
 keyed_map : (g : Geometry) (view : View) (v word : ℕ) → IsKeyed g view → IsKeyed g (record view { ops = edit_of g v (mapped_at v word) view.ops; owned = spoiled_under (backing_page g v) view.owned })
 keyed_map g view v word k =
@@ -79,7 +80,7 @@ keyed_map g view v word k =
 keyed_set_home : (g : Geometry) (view : View) (b f : ℕ) → IsPage g b → IsFrame g f → IsKeyed g view → IsKeyed g (record view { ops = edit page_of b (homed_at f) view.ops; owned = let_go b (known_home (op_on view b)) (erase owned_frame f view.owned) })
 keyed_set_home g view b f p r k =
     let home : Option ℕ = known_home (op_on view b) in
-    let known : IfSome home (λ h. h ≤ frame_count g) = known_in_range g view b (op_on view b) (op_found g view b (op_on view b) refl k) in
+    let known : IfSome home (IsHomeWord g) = known_in_range g view b (op_on view b) (op_found g view b (op_on view b) refl k) in
     let h : AreOwned g (let_go b home (erase owned_frame f view.owned)) = owned_let_go g b home (erase owned_frame f view.owned) p known (owned_less g f view.owned (frames_of g view k)) in
     with_owned g (record view { ops = edit page_of b (homed_at f) view.ops }) (let_go b home (erase owned_frame f view.owned)) h.once h.all
     (edit_op g view b (homed_at f) (λ o. refl) (λ o e ko. keyed_homed g f o r ko) k)
@@ -91,33 +92,14 @@ keyed_set_shadow g view b m s is p r may k =
     (edit_op g view b (shaded b s) (λ o. refl) (λ o e ko. keyed_shaded g b s o p r ko) k)
 
 pub keyed_done : (g : Geometry) (view : View) (action : Action) → IsGeometry g → IsKeyed g view → Allowed g view action → IsKeyed g (after_of g view action Done)
-keyed_done g view (Load v w) is k a = k
-keyed_done g view (Store v w x) is k a = k
-keyed_done g view (Add v w x) is k a = k
-keyed_done g view (Look v) is k a = k
 keyed_done g view (Walk v e write) is k a = with_cache g view (put cached_page (walked view v e write) view.cache) (once_put cached_page (walked view v e write) view.cache k.cache_once) (all_put cached_page (λ x. IsVPage g x.vpage) (walked view v e write) view.cache a.range k.cache) k
-keyed_done g view (Peek v) is k a = k
-keyed_done g view Poll is k a = k
 keyed_done g view (Ack to) is k a = keyed_ack g view to k
 keyed_done g view (Lock b) is k a = keyed_lock g view b a.range a.permitted k
 keyed_done g view (Unlock b) is k a = let f : AreOwned g _ = owned_spoiled g b view.owned (frames_of g view k) in with_owned g (record view { ops = erase page_of b view.ops }) _ f.once f.all (keyed_unlock g view b k)
-keyed_done g view Bump is k a = k
-keyed_done g view (SeeAck p) is k a = k
-keyed_done g view (Raise v) is k a = k
-keyed_done g view (Soften v bit) is k a = k
-keyed_done g view (Arm v) is k a = k
-keyed_done g view (ClearDirty v) is k a = k
-keyed_done g view (Unmap v) is k a = k
 keyed_done g view (Map v word) is k a = keyed_map g view v word k
-keyed_done g view (Grant v) is k a = k
-keyed_done g view (CopyLoad b i) is k a = k
-keyed_done g view (CopyStore b f i x) is k a = let h : AreOwned g _ = owned_filled g f (stored_fill b (i + 1)) view.owned (stored_in_range g b i a.range.0 a.range.2) (frames_of g view k) in with_owned g (record view { ops = edit_under b copied_one view.ops }) _ h.once h.all (copied_under g view b f i x a.range.2 a.permitted k)
-keyed_done g view (SetHome b f) is k a = keyed_set_home g view b f a.range.0 a.range.1 k
-keyed_done g view (SetShadow b m s) is k a = keyed_set_shadow g view b m s is a.range.0 a.range.2 a.permitted k
+keyed_done g view (CopyStore b f i x) is k a = let h : AreOwned g _ = owned_filled g f (stored_fill b (i + 1)) view.owned (stored_in_range g b i a.range.page a.range.index) (frames_of g view k) in with_owned g (record view { ops = edit_under b copied_one view.ops }) _ h.once h.all (copied_under g view b f i x a.range.index a.permitted k)
+keyed_done g view (SetHome b f) is k a = keyed_set_home g view b f a.range.page a.range.frame k
+keyed_done g view (SetShadow b m s) is k a = keyed_set_shadow g view b m s is a.range.page a.range.shadow a.permitted k
 keyed_done g view (TakeTurn t) is k a = with_scan g view (Some t) unscanned a.range (no_turn g (Some t)) k
-keyed_done g view (Scan t i) is k a = k
-keyed_done g view (GiveFrame f) is k a = k
-keyed_done g view (PutFrame f) is k a = k
 keyed_done g view (ReleaseTurn t) is k a = with_scan g view None unscanned tt (no_turn g None) k
-keyed_done g view (Mark b old new) is k a = k
-keyed_done g view (Read b cell) is k a = k
+keyed_done g view action is k a = k

@@ -1,19 +1,21 @@
 -- Owned frames whose numbers are in range: what each change keeps.
-use Rattle.std.proofs.Common.{◌≡◌, ◌≢◌, ℕ, ◌+◌, ◌-◌, ◌*◌, ◌%◌, ◌^◌, ◌<◌, ◌≤◌, ◌==◌, inl, inr, if◌then◌else◌, Bool, true, false, List, Option, Some, None, All, refl, sym, subst, arith}
+use Rattle.std.proofs.Common.{◌≡◌, ◌≢◌, ℕ, ◌+◌, ◌-◌, ◌<◌, ◌≤◌, ◌==◌, if◌then◌else◌, Bool, true, false, List, Option, Some, None, All, refl, arith}
 use Rattle.std.specs.Option.{IfSome, IsSomeAnd}
-use Rattle.std.proofs.lemmas.Nat.{mod-mul-add}
 use Rattle.nm_base.specs.Geometry.{Geometry, frame_count}
 use Rattle.nm_view.specs.declared.view.Fill.{Fill}
 use Rattle.nm_view.specs.declared.view.Fill.TheVariants.{Raw, Zeroed, Copied, Equal}
 use Rattle.nm_view.specs.declared.view.Owned.{Owned}
 use Rattle.nm_view.specs.Lists.{edit, erase, Once}
 use Rattle.nm_view.specs.Views.{Op}
-use Rattle.nm_base.specs.ShadowWord.{shadow_word, shadow_frame, IsShadowName}
+use Rattle.nm_base.specs.HomeWord.{IsHomeWord}
+use Rattle.nm_base.specs.ShadowWord.{shadow_frame, IsShadowWord}
+use Rattle.nm_base.proofs.ShadowWords.{IsFrame-IsShadowWord}
 use Rattle.nm_view.specs.Operations.{owned_frame}
 use Rattle.nm_base.specs.Ranges.{IsPage, IsFrame}
 use Rattle.nm_event.specs.After.{spoiled_fill, spoiled_frame, spoiled, spoiled_under, filled, owning, let_go, unshaded_fill, unshading, unshaded, stored_fill, is_quiet}
 use Rattle.nm_shape.specs.Keyed.{IsFillInRange, IsOwnedInRange, IsOpKeyed}
-use Rattle.nm_shape.proofs.Keys.{all_put, all_erase, all_edit, all_map, once_put, once_erase, once_edit, once_map}
+use Rattle.nm_view.proofs.Items.{all_put, all_erase, all_edit, all_map}
+use Rattle.nm_view.proofs.Finds.{once_put, once_erase, once_edit, once_map}
 
 -- owned frames: none twice, and their numbers in range
 pub record AreOwned (g : Geometry) (owned : List Owned) : Type 0 where
@@ -57,42 +59,27 @@ owned_filled g frame fill owned r h = record {
 
 pub stored_in_range : (g : Geometry) (page : Option ℕ) (n : ℕ) → IfSome page (IsPage g) → n < g.words → IsFillInRange g (stored_fill page (n + 1))
 stored_in_range g None n p lt = omega (arith, lt)
-stored_in_range g (Some page) n p lt = (p, omega (arith, lt))
+stored_in_range g (Some page) n p lt = record { page = p; count = omega (arith, lt) }
 
 -- The old home of a page.
 
-let_go_if : (g : Geometry) (page home : ℕ) (owned : List Owned) (b : Bool) → (home == 0) ≡ b → IsPage g page → home ≤ frame_count g → AreOwned g owned → AreOwned g (if b then owned else owning (home - 1) (Equal page) owned)
+let_go_if : (g : Geometry) (page home : ℕ) (owned : List Owned) (b : Bool) → (home == 0) ≡ b → IsPage g page → IsHomeWord g home → AreOwned g owned → AreOwned g (if b then owned else owning (home - 1) (Equal page) owned)
 let_go_if g page home owned true e p le h = h
 let_go_if g page home owned false e p le h = let some : 0 < home = grind arith in owned_more g (home - 1) (Equal page) owned (omega (arith, some, le)) p h
 
-pub owned_let_go : (g : Geometry) (page : ℕ) (home : Option ℕ) (owned : List Owned) → IsPage g page → IfSome home (λ h. h ≤ frame_count g) → AreOwned g owned → AreOwned g (let_go page home owned)
+pub owned_let_go : (g : Geometry) (page : ℕ) (home : Option ℕ) (owned : List Owned) → IsPage g page → IfSome home (IsHomeWord g) → AreOwned g owned → AreOwned g (let_go page home owned)
 owned_let_go g page None owned p r h = h
 owned_let_go g page (Some home) owned p r h = let_go_if g page home owned (home == 0) refl p r h
 
 -- The shadow of a page.
 
-named_shadow : (page shadow : ℕ) → shadow + 1 < 2 ^ 32 → shadow_frame (shadow_word page (Some shadow)) ≡ shadow
-named_shadow page shadow lt =
-    let m : ((page + 1) * 2 ^ 32 + (shadow + 1)) % 2 ^ 32 ≡ shadow + 1 = mod-mul-add (page + 1) (2 ^ 32) (shadow + 1) lt in
-    let e : (page + 1) * 2 ^ 32 + shadow + 1 ≡ (page + 1) * 2 ^ 32 + (shadow + 1) = omega arith in
-    rw (e, m) (omega arith)
-
--- the shadow of a shadow word that is not 0 is a frame
-pub shadow_in_range : (g : Geometry) (word : ℕ) → frame_count g ≤ 4096 → IsShadowName g word → word ≢ 0 → IsFrame g (shadow_frame word)
-shadow_in_range g word few (inl e) n = absurd (n e)
-shadow_in_range g word few (inr h) n =
-    let lt : h.shadow + 1 < 2 ^ 32 = omega (arith, few, h.range) in
-    let P : ℕ → Type 0 = λ w. IsFrame g (shadow_frame w) in
-    let Q : ℕ → Type 0 = λ f. IsFrame g f in
-    subst P (sym h.is) (subst Q (sym (named_shadow h.page h.shadow lt)) h.range)
-
 unshaded_in_range : (g : Geometry) (quiet : Bool) (page : ℕ) → IsPage g page → IsFillInRange g (unshaded_fill quiet page)
 unshaded_in_range g true page p = p
 unshaded_in_range g false page p = tt
 
-pub owned_unshading : (g : Geometry) (fill : Fill) (word : Option ℕ) (owned : List Owned) → frame_count g ≤ 4096 → IfSome word (IsShadowName g) → IsSomeAnd word (λ w. w ≢ 0) → IsFillInRange g fill → AreOwned g owned → AreOwned g (unshading fill word owned)
+pub owned_unshading : (g : Geometry) (fill : Fill) (word : Option ℕ) (owned : List Owned) → frame_count g ≤ 4096 → IfSome word (IsShadowWord g) → IsSomeAnd word (λ w. w ≢ 0) → IsFillInRange g fill → AreOwned g owned → AreOwned g (unshading fill word owned)
 owned_unshading g fill None owned few r s f h = absurd s
-owned_unshading g fill (Some word) owned few r s f h = owned_more g (shadow_frame word) fill owned (shadow_in_range g word few r s) f h
+owned_unshading g fill (Some word) owned few r s f h = owned_more g (shadow_frame word) fill owned (IsFrame-IsShadowWord g word few r s) f h
 
 pub owned_unshaded : (g : Geometry) (page : ℕ) (op : Option Op) (owned : List Owned) → frame_count g ≤ 4096 → IsPage g page → IfSome op (IsOpKeyed g) → IsSomeAnd op (λ o. IsSomeAnd o.shadow (λ w. w ≢ 0)) → AreOwned g owned → AreOwned g (unshaded g page op owned)
 owned_unshaded g page None owned few p k s h = h

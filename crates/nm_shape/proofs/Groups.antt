@@ -7,12 +7,13 @@ use Rattle.nm_view.specs.declared.view.Peeked.{Peeked}
 use Rattle.nm_view.specs.declared.view.Owned.{Owned}
 use Rattle.nm_view.specs.declared.view.Scanned.{Scanned}
 use Rattle.nm_view.specs.Lists.{find, edit, Once}
-use Rattle.nm_view.specs.Views.{Op, View, most_ops}
+use Rattle.nm_view.specs.Views.{Op, View, most_ops, own_bumps, own_raises}
 use Rattle.nm_view.specs.Operations.{page_of, cached_page, peeked_page, owned_frame, op_of}
 use Rattle.nm_base.specs.Ranges.{IsVPage, IsTier}
 use Rattle.nm_event.specs.After.{edit_under, edit_of}
-use Rattle.nm_shape.specs.Keyed.{IsOpKeyed, IsOwnedInRange, IsScanInRange, IsKeyed, own_bumps, own_raises}
-use Rattle.nm_shape.proofs.Keys.{find_number, once_edit, once_map, all_edit, all_map, length_edit}
+use Rattle.nm_shape.specs.Keyed.{IsOpKeyed, IsOwnedInRange, IsScanInRange, IsKeyed}
+use Rattle.nm_view.proofs.Items.{all_edit, all_map}
+use Rattle.nm_view.proofs.Finds.{find_number, once_edit, once_map, length_edit}
 use Rattle.std.specs.Option.{IfSome}
 use Rattle.std.proofs.lemmas.List.{length-map}
 

@@ -1,6 +1,8 @@
 -- The laws of a view's numbers: a step keeps them in range and no number twice, so that the view always has room.
-use Rattle.std.proofs.Common.{ℕ, refl, sym, subst, arith, None}
+use Rattle.std.proofs.Common.{◌≡◌, ℕ, refl, sym, subst, arith, None}
 use Rattle.nm_base.specs.Geometry.{Geometry, IsGeometry}
+use Rattle.nm_base.specs.Inside.{IsGeometryKept, plain_of}
+use Rattle.nm_base.specs.declared.geometry.Geometry.TheInside.{Inside}
 use Rattle.nm_action.specs.declared.action.Reply.{Reply}
 use Rattle.nm_action.specs.declared.action.Reply.TheVariants.{Done, Word, Busy, Lost}
 use Rattle.nm_action.specs.declared.action.Action.{Action}
@@ -10,14 +12,14 @@ use Rattle.nm_base.specs.Ranges.{IsVPage}
 use Rattle.nm_permit.specs.Permitted.{Allowed}
 use Rattle.nm_event.specs.After.{after_of}
 use Rattle.nm_event.specs.Fitting.{Fits}
-use Rattle.nm_event.specs.Room.{IsWithinRoom, HasRoom, NumbersFit}
+use Rattle.nm_event.specs.Room.{IsWithinRoom, HasRoom}
 use Rattle.nm_shape.specs.Keyed.{IsOpKeyed, IsOwnedInRange, IsKeyed}
-use Rattle.nm_shape.specs.Ranged.{IsInRangeReply, IsNarrowWalk}
-use Rattle.nm_shape.proofs.Keys.{none_left}
+use Rattle.nm_event.specs.Ranged.{IsInRangeReply}
+use Rattle.nm_view.proofs.Items.{none_left}
 use Rattle.nm_shape.proofs.Done.{no_turn, keyed_done}
 use Rattle.nm_shape.proofs.Told.{keyed_told}
 use Rattle.nm_shape.proofs.Still.{busy_still, lost_still}
-use Rattle.nm_shape.proofs.Room.{within_room, numbers_fit}
+use Rattle.nm_shape.proofs.Room.{within_room, numbers_fit, rooms_of}
 use Rattle.nm_shape.proofs.Fits.{in_range}
 
 -- the opening view of an actor
@@ -54,14 +56,15 @@ keyed_within g view is k = within_room g view is k
 -- so it has room for each step
 pub keyed_room : (g : Geometry) (view : View) (action : Action) (reply : Reply) → IsGeometry g → IsKeyed g view → Allowed g view action → IsInRangeReply g action reply → HasRoom g view action reply
 keyed_room g view action reply is k a r = record {
-  before = within_room g view is k;
+  own = rooms_of g view k;
   after = within_room g (after_of g view action reply) is (keyed_after g view action reply is k a r);
+  numbers = numbers_fit g view action reply is k a r;
 }
 
--- and the numbers of the step fit their fields
-pub keyed_numbers : (g : Geometry) (view : View) (action : Action) (reply : Reply) → IsGeometry g → IsKeyed g view → Allowed g view action → IsInRangeReply g action reply → IsNarrowWalk action reply → NumbersFit view action reply
-keyed_numbers g view action reply is k a r narrow = numbers_fit g view action reply is k a r narrow
-
 -- a reply that fits is in range
-pub fits_in_range : (g : Geometry) (view : View) (action : Action) (reply : Reply) → IsKeyed g view → Allowed g view action → Fits g view action reply → IsInRangeReply g action reply
-fits_in_range g view action reply k a f = in_range g view action reply k a f
+pub fits_in_range : (g : Geometry) (view : View) (action : Action) (reply : Reply) → IsGeometry g → IsKeyed g view → Allowed g view action → Fits g view action reply → IsInRangeReply g action reply
+fits_in_range g view action reply is k a f = in_range g view action reply is k a f
+
+-- a geometry is one that a machine can have
+pub kept_geometry : (i : Inside) (g : Geometry) → plain_of i ≡ g → IsGeometryKept i → IsGeometry g
+kept_geometry i g e h = let P : Geometry → Type 0 = λ x. IsGeometry x in subst P e h.geometry

@@ -1,4 +1,3 @@
-mod Bits
 mod Done
 mod Fits
 mod Frames

@@ -1,5 +1,5 @@
 -- Operations whose numbers are in range: what each change keeps.
-use Rattle.std.proofs.Common.{◌≡◌, ℕ, ◌^◌, ◌<◌, inl, inr, if◌then◌else◌, Bool, true, false, List, [], ◌∷◌, ◌++◌, Option, Some, None, length, refl, arith, bit_or, nat_le}
+use Rattle.std.proofs.Common.{◌≡◌, ℕ, ◌^◌, ◌<◌, inl, inr, if◌then◌else◌, Bool, true, false, List, [], ◌∷◌, ◌++◌, Option, Some, None, refl, arith, bit_or, nat_le}
 use Rattle.std.specs.Option.{IfSome}
 use Rattle.std.proofs.lemmas.Nat.{or_lt, pow_pos}
 use Rattle.std.proofs.Math.Pow.{pow-lt}
@@ -8,14 +8,15 @@ use Rattle.nm_action.specs.declared.action.Cell.{Cell}
 use Rattle.nm_action.specs.declared.action.Cell.TheVariants.{Home, Shadow}
 use Rattle.nm_view.specs.Lists.{find, erase, put, first, itself}
 use Rattle.nm_view.specs.Views.{Op}
-use Rattle.nm_base.specs.ShadowWord.{shadow_word, IsShadowName}
+use Rattle.nm_base.specs.PageWord.{granted_word}
+use Rattle.nm_base.specs.ShadowWord.{shadow_word, IsShadowWord}
 use Rattle.nm_view.specs.Opening.{most_aliases, opened}
 use Rattle.nm_base.specs.Ranges.{IsPage, IsFrame}
-use Rattle.nm_view.proofs.Items.{all_join}
-use Rattle.nm_event.specs.After.{looked_at, read_cell, cleared_at, taken_at, raised_to, bumped_to, seen_at, seen_with, loaded, copied_one, homed_at, shaded, mapped_at, granted_at, granted_word}
+use Rattle.nm_event.specs.After.{looked_at, read_cell, cleared_at, taken_at, raised_to, bumped_to, seen_at, seen_with, loaded, copied_one, homed_at, shaded, mapped_at, granted_at}
 use Rattle.nm_shape.specs.Keyed.{AreOwnPages, AreOwnNumbers, IsOpKeyed}
-use Rattle.nm_shape.specs.Ranged.{IsCellWord}
-use Rattle.nm_shape.proofs.Keys.{none_left, all_put, all_erase, once_put, once_erase, once_join}
+use Rattle.nm_event.specs.Ranged.{IsCellWord}
+use Rattle.nm_view.proofs.Items.{all_join, none_left, all_put, all_erase}
+use Rattle.nm_view.proofs.Finds.{once_put, once_erase, once_join}
 
 own_none : (g : Geometry) (page : ℕ) → AreOwnPages g page []
 own_none g page = record { once = tt; own = none_left (λ p. backing_page g p.0 ≡ Some page) }
@@ -73,9 +74,9 @@ keyed_mapped g v word o e k = record { page = k.page; home = k.home; shadow = k.
 pub keyed_granted : (g : Geometry) (v word : ℕ) (o : Op) → backing_page g v ≡ Some o.page → IsOpKeyed g o → IsOpKeyed g (granted_at v word o)
 keyed_granted g v word o e k = record { page = k.page; home = k.home; shadow = k.shadow; looked = own_put g o.page v (granted_word word) o.looked e k.looked; taken = k.taken; wet = k.wet; raised = k.raised; seen = k.seen; copied = k.copied; room = k.room }
 
-shadow_named : (g : Geometry) (page : ℕ) (shadow : Option ℕ) → IsPage g page → IfSome shadow (IsFrame g) → IsShadowName g (shadow_word page shadow)
+shadow_named : (g : Geometry) (page : ℕ) (shadow : Option ℕ) → IsPage g page → IfSome shadow (IsFrame g) → IsShadowWord g (shadow_word page shadow)
 shadow_named g page None p f = inl refl
-shadow_named g page (Some s) p f = inr (record { page = page; shadow = s; exists = p; range = f; is = refl })
+shadow_named g page (Some s) p f = inr (page, s, record { exists = p; range = f; is = refl })
 
 pub keyed_shaded : (g : Geometry) (page : ℕ) (shadow : Option ℕ) (o : Op) → IsPage g page → IfSome shadow (IsFrame g) → IsOpKeyed g o → IsOpKeyed g (shaded page shadow o)
 keyed_shaded g page shadow o p f k = record { page = k.page; home = k.home; shadow = shadow_named g page shadow p f; looked = k.looked; taken = k.taken; wet = k.wet; raised = k.raised; seen = k.seen; copied = k.copied; room = k.room }

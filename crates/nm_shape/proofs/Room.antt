@@ -1,5 +1,5 @@
 -- The lists of a view whose numbers are in range are within their room.
-use Rattle.std.proofs.Common.{◌≡◌, ◌≢◌, ℕ, zero, suc, ◌+◌, ◌^◌, ◌<◌, ◌≤◌, ◌==◌, Bool, true, false, inl, inr, List, take, get_or, Option, Some, None, All, length, refl, sym, subst, ap, arith}
+use Rattle.std.proofs.Common.{◌≡◌, ◌≢◌, ℕ, zero, suc, ◌+◌, ◌^◌, ◌<◌, ◌≤◌, ◌==◌, Bool, true, false, inl, inr, List, take, get_or, Option, Some, None, All, length, refl, sym, subst, ap, ◌∙◌, arith}
 use Rattle.std.specs.Prelude.{count_ones, count_by, slice_index, option_map}
 use Rattle.std.proofs.lemmas.List.{take_all}
 use Rattle.std.specs.Option.{IfSome}
@@ -9,21 +9,23 @@ use Rattle.std.proofs.Math.Pow.{pow-lt}
 use Rattle.nm_base.specs.Geometry.{Geometry, IsGeometry, backing_page, backing_among, page_count, frame_count}
 use Rattle.nm_base.specs.declared.geometry.VPage.{VPage}
 use Rattle.nm_action.specs.declared.action.Reply.{Reply}
-use Rattle.nm_action.specs.declared.action.Reply.TheVariants.{Done, Word, Busy, Lost}
+use Rattle.nm_action.specs.declared.action.Reply.TheVariants.{Done, Word}
 use Rattle.nm_action.specs.declared.action.Action.{Action}
-use Rattle.nm_action.specs.declared.action.Action.TheVariants.{Load, Store, Add, Look, Walk, Peek, Poll, Ack, Lock, Unlock, Bump, SeeAck, Raise, Soften, Arm, ClearDirty, Unmap, Map, Grant, CopyLoad, CopyStore, SetHome, SetShadow, TakeTurn, Scan, GiveFrame, PutFrame, ReleaseTurn, Mark, Read}
+use Rattle.nm_action.specs.declared.action.Action.TheVariants.{Bump, Raise, SetHome, Scan}
 use Rattle.nm_view.specs.Lists.{first, itself, Once}
 use Rattle.nm_view.specs.Views.{Op, View}
-use Rattle.nm_base.specs.FreeWords.{free_words}
 use Rattle.nm_view.specs.Operations.{cached_page, peeked_page, owned_frame, op_on, known_home}
-use Rattle.nm_base.specs.ShadowWord.{IsShadowName}
-use Rattle.nm_base.specs.Ranges.{IsTier, IsPage}
-use Rattle.nm_permit.specs.Permitted.{Allowed, MayScan}
+use Rattle.nm_view.specs.declared.view.Scanned.{Scanned}
+use Rattle.nm_base.specs.HomeWord.{IsHomeWord}
+use Rattle.nm_base.specs.ShadowWord.{IsShadowWord}
+use Rattle.nm_base.specs.Ranges.{IsPage}
+use Rattle.nm_permit.specs.Permitted.{Allowed, IsFreeWordAt, MayScan}
 use Rattle.nm_event.specs.Room.{IsOpWithin, IsWithinRoom, NumbersFit}
-use Rattle.nm_shape.specs.Keyed.{IsOpKeyed, IsOwnedInRange, IsKeyed}
-use Rattle.nm_shape.specs.Ranged.{IsInRangeReply, IsNarrowWalk}
+use Rattle.nm_shape.specs.Keyed.{IsOpKeyed, IsOwnedInRange, IsScanOfTier, IsScanInRange, IsKeyed}
+use Rattle.nm_event.specs.Ranged.{IsInRangeReply}
 use Rattle.nm_view.specs.Opening.{is_mapped_to, alias_count, most_below, most_aliases}
-use Rattle.nm_shape.proofs.Keys.{all_same, pigeon, IsAmong, pigeon_among}
+use Rattle.nm_view.proofs.Items.{all_same}
+use Rattle.nm_shape.proofs.Keys.{pigeon, IsAmong, pigeon_among}
 use Rattle.nm_shape.proofs.Done.{op_found, known_in_range, few_frames}
 
 mapped : (o : Option VPage) (b : ℕ) → option_map (λ q. q.page) o ≡ Some b → is_mapped_to b o ≡ true
@@ -57,14 +59,14 @@ few_aliases g key page xs is o h =
 few_words : (g : Geometry) → IsGeometry g → g.words < 1024
 few_words g is = let size = is.ranges.0 in let lt : 2 ^ size.0 < 2 ^ 10 = pow-lt {i = size.0} {j = 10} (omega (arith, size.1)) in omega (arith, lt, size.2)
 
-named_fits : (g : Geometry) (word : ℕ) → IsGeometry g → IsShadowName g word → word < 2 ^ 64
+named_fits : (g : Geometry) (word : ℕ) → IsGeometry g → IsShadowWord g word → word < 2 ^ 64
 named_fits g word is (inl e) = omega (arith, e)
-named_fits g word is (inr h) =
+named_fits g word is (inr (page, frame, h)) =
     let pages : page_count g ≤ 4096 = is.ranges.3.2 in
     let frames : frame_count g ≤ 4096 = few_frames g is in
     rw h.is (omega (arith, h.exists, h.range, pages, frames))
 
-shadow_fits : (g : Geometry) (word : Option ℕ) → IsGeometry g → IfSome word (IsShadowName g) → IfSome word (λ w. w < 2 ^ 64)
+shadow_fits : (g : Geometry) (word : Option ℕ) → IsGeometry g → IfSome word (IsShadowWord g) → IfSome word (λ w. w < 2 ^ 64)
 shadow_fits g None is h = tt
 shadow_fits g (Some w) is h = named_fits g w is h
 
@@ -94,64 +96,35 @@ within_room g view is k =
 
 -- Numbers.
 
-home_fits : (g : Geometry) (home : Option ℕ) → frame_count g ≤ 4096 → IfSome home (λ h. h ≤ frame_count g) → IfSome home (λ h. h ≤ 2 ^ 32)
+home_fits : (g : Geometry) (home : Option ℕ) → frame_count g ≤ 4096 → IfSome home (IsHomeWord g) → IfSome home (λ h. h ≤ 2 ^ 32)
 home_fits g None few h = tt
 home_fits g (Some n) few h = omega (arith, few, h)
 
 few_of_tier : (ns : List ℕ) (t : ℕ) → All (λ n. (1 ≤ n) × (n ≤ 4095)) ns → t < length ns → slice_index ns t ≤ 4095
 few_of_tier ns t all lt = (all t 0 lt).1
 
-sum_fits : (g : Geometry) (view : View) (t i n : ℕ) → IsGeometry g → (IsTier g t) × (i < free_words g t) → MayScan view t i → n < 2 ^ 64 → IsKeyed g view → view.scan.sum + count_ones n < 2 ^ 32
-sum_fits g view t i n is range may w k =
+few_scanned : (g : Geometry) (scan : Scanned) (t i n : ℕ) → IsGeometry g → IsFreeWordAt g t i → i ≡ scan.words → n < 2 ^ 64 → IsScanOfTier g scan t → scan.sum + count_ones n < 2 ^ 32
+few_scanned g scan t i n is range next w s =
     let few : count_ones n ≤ 64 = ones-le 64 n w in
-    let tier : slice_index g.tiers t ≤ 4095 = few_of_tier g.tiers t is.ranges.1.2 range.0 in
-    let next : i ≡ view.scan.words = may.next in
-    let words : view.scan.words < 65 = omega (arith, next, range.1, tier) in
-    omega (arith, few, words, k.scan.sum)
+    let tier : slice_index g.tiers t ≤ 4095 = few_of_tier g.tiers t is.ranges.1.2 range.tier in
+    let words : scan.words < 65 = omega (arith, next, range.index, tier) in
+    omega (arith, few, words, s.sum)
 
-pub numbers_fit : (g : Geometry) (view : View) (action : Action) (reply : Reply) → IsGeometry g → IsKeyed g view → Allowed g view action → IsInRangeReply g action reply → IsNarrowWalk action reply → NumbersFit view action reply
-numbers_fit g view (Load v w) reply is k a r narrow = tt
-numbers_fit g view (Store v w x) reply is k a r narrow = tt
-numbers_fit g view (Add v w x) reply is k a r narrow = tt
-numbers_fit g view (Look v) reply is k a r narrow = tt
-numbers_fit g view (Walk v e write) Done is k a r narrow = narrow
-numbers_fit g view (Walk v e write) (Word n) is k a r narrow = tt
-numbers_fit g view (Walk v e write) (Busy n) is k a r narrow = tt
-numbers_fit g view (Walk v e write) (Lost n) is k a r narrow = tt
-numbers_fit g view (Peek v) reply is k a r narrow = tt
-numbers_fit g view Poll reply is k a r narrow = tt
-numbers_fit g view (Ack to) reply is k a r narrow = tt
-numbers_fit g view (Lock b) reply is k a r narrow = tt
-numbers_fit g view (Unlock b) reply is k a r narrow = tt
-numbers_fit g view Bump Done is k a r narrow = tt
-numbers_fit g view Bump (Word n) is k a r narrow = omega (arith, r.1)
-numbers_fit g view Bump (Busy n) is k a r narrow = tt
-numbers_fit g view Bump (Lost n) is k a r narrow = tt
-numbers_fit g view (SeeAck p) reply is k a r narrow = tt
-numbers_fit g view (Raise v) Done is k a r narrow = tt
-numbers_fit g view (Raise v) (Word n) is k a r narrow = omega (arith, r.1)
-numbers_fit g view (Raise v) (Busy n) is k a r narrow = tt
-numbers_fit g view (Raise v) (Lost n) is k a r narrow = tt
-numbers_fit g view (Soften v bit) reply is k a r narrow = tt
-numbers_fit g view (Arm v) reply is k a r narrow = tt
-numbers_fit g view (ClearDirty v) reply is k a r narrow = tt
-numbers_fit g view (Unmap v) reply is k a r narrow = tt
-numbers_fit g view (Map v word) reply is k a r narrow = tt
-numbers_fit g view (Grant v) reply is k a r narrow = tt
-numbers_fit g view (CopyLoad b i) reply is k a r narrow = tt
-numbers_fit g view (CopyStore b f i x) reply is k a r narrow = tt
-numbers_fit g view (SetHome b f) Done is k a r narrow = home_fits g (known_home (op_on view b)) (few_frames g is) (known_in_range g view b (op_on view b) (op_found g view b (op_on view b) refl k))
-numbers_fit g view (SetHome b f) (Word n) is k a r narrow = tt
-numbers_fit g view (SetHome b f) (Busy n) is k a r narrow = tt
-numbers_fit g view (SetHome b f) (Lost n) is k a r narrow = tt
-numbers_fit g view (SetShadow b m s) reply is k a r narrow = tt
-numbers_fit g view (TakeTurn t) reply is k a r narrow = tt
-numbers_fit g view (Scan t i) Done is k a r narrow = tt
-numbers_fit g view (Scan t i) (Word n) is k a r narrow = sum_fits g view t i n is a.range a.permitted r.0 k
-numbers_fit g view (Scan t i) (Busy n) is k a r narrow = tt
-numbers_fit g view (Scan t i) (Lost n) is k a r narrow = tt
-numbers_fit g view (GiveFrame f) reply is k a r narrow = tt
-numbers_fit g view (PutFrame f) reply is k a r narrow = tt
-numbers_fit g view (ReleaseTurn t) reply is k a r narrow = tt
-numbers_fit g view (Mark b old new) reply is k a r narrow = tt
-numbers_fit g view (Read b cell) reply is k a r narrow = tt
+sum_fits : (g : Geometry) (view : View) (t i n : ℕ) → IsGeometry g → IsFreeWordAt g t i → MayScan view t i → n < 2 ^ 64 → IsKeyed g view → view.scan.sum + count_ones n < 2 ^ 32
+sum_fits g view t i n is range may w k =
+    let P : Option ℕ → Type 0 = λ turn. IsScanInRange g turn view.scan in
+    few_scanned g view.scan t i n is range may.next w (subst P may.turn k.scan)
+
+-- the numbers of a step fit their fields, where its word is in range
+pub numbers_fit : (g : Geometry) (view : View) (action : Action) (reply : Reply) → IsGeometry g → IsKeyed g view → Allowed g view action → IsInRangeReply g action reply → NumbersFit view action reply
+numbers_fit g view Bump (Word n) is k a r = λ i d lt due. omega (arith, r.said)
+numbers_fit g view (Raise v) (Word n) is k a r = omega (arith, r.said)
+numbers_fit g view (SetHome b f) Done is k a r = home_fits g (known_home (op_on view b)) (few_frames g is) (known_in_range g view b (op_on view b) (op_found g view b (op_on view b) refl k))
+numbers_fit g view (Scan t i) (Word n) is k a r = sum_fits g view t i n is a.range a.permitted r.bits k
+numbers_fit g view action reply is k a r = tt
+
+-- each operation has the room of the view
+pub rooms_of : (g : Geometry) (view : View) → IsKeyed g view → All (λ o. o.room ≡ view.room.aliases) view.ops
+rooms_of g view k =
+    let aliases : view.room.aliases ≡ most_aliases g = ap (λ r. r.aliases) k.room in
+    all_same (IsOpKeyed g) (λ o. o.room ≡ view.room.aliases) view.ops (λ o h. h.room ∙ sym aliases) k.ops

@@ -6,19 +6,19 @@ use Rattle.nm_action.specs.declared.action.Cell.{Cell}
 use Rattle.nm_action.specs.declared.action.Reply.{Reply}
 use Rattle.nm_action.specs.declared.action.Reply.TheVariants.{Done, Word, Busy, Lost}
 use Rattle.nm_action.specs.declared.action.Action.{Action}
-use Rattle.nm_action.specs.declared.action.Action.TheVariants.{Load, Store, Add, Look, Walk, Peek, Poll, Ack, Lock, Unlock, Bump, SeeAck, Raise, Soften, Arm, ClearDirty, Unmap, Map, Grant, CopyLoad, CopyStore, SetHome, SetShadow, TakeTurn, Scan, GiveFrame, PutFrame, ReleaseTurn, Mark, Read}
+use Rattle.nm_action.specs.declared.action.Action.TheVariants.{Look, Walk, Poll, Ack, Lock, Unlock, Bump, SeeAck, Raise, ClearDirty, Unmap, Map, Grant, CopyLoad, CopyStore, SetHome, SetShadow, Read}
 use Rattle.nm_view.specs.Lists.{edit}
-use Rattle.nm_view.specs.Views.{Op, View, off_word}
+use Rattle.nm_view.specs.Views.{Op, View, off_word, most_bumps}
 use Rattle.nm_view.specs.Operations.{page_of, op_on, IsProcessor}
 use Rattle.nm_view.specs.Opening.{opened, opening, IsActor}
-use Rattle.nm_base.specs.Ranges.{IsFrame}
-use Rattle.nm_view.proofs.Items.{all_join}
+use Rattle.nm_base.specs.Ranges.{IsPage, IsFrame}
 use Rattle.nm_permit.specs.Permitted.{Allowed, MayRead, MaySetShadow}
 use Rattle.nm_event.specs.After.{after_of, edit_under, edit_of, looked_at, read_cell, cleared_at, taken_at, raised_to, bumped_to, seen_at, loaded, copied_one, homed_at, shaded, mapped_at, granted_at}
-use Rattle.nm_event.specs.Fitting.{Fits, FitsWord, IsReadOf, most_bumps}
+use Rattle.nm_event.specs.Fitting.{Fits, FitsWord, IsReadOf}
 use Rattle.nm_shape.specs.Keyed.{IsKeyed}
 use Rattle.nm_shape.specs.Shape.{IsOpShaped, HasShape}
-use Rattle.nm_shape.proofs.Keys.{none_left, find_number, all_edit, all_erase, all_map}
+use Rattle.nm_view.proofs.Items.{all_join, none_left, all_edit, all_erase, all_map}
+use Rattle.nm_view.proofs.Finds.{find_number}
 use Rattle.nm_shape.proofs.Groups.{some_and}
 use Rattle.nm_shape.proofs.ShapedOps.{shaped_opened, shaped_looked, shaped_cleared, shaped_taken, shaped_raised, shaped_bumped, shaped_seen, shaped_loaded, shaped_copied, shaped_homed, shaped_mapped, shaped_granted, shaped_shaded, shaped_read}
 use Rattle.nm_shape.proofs.Still.{busy_still, lost_still}
@@ -42,72 +42,29 @@ edited_of g view v f step h = edited_under g view (backing_page g v) f step h
 read_ops : (g : Geometry) (view : View) (page : ℕ) (cell : Cell) (word : ℕ) → IsSomeAnd (op_on view page) (MayRead cell) → IfSome (op_on view page) (IsReadOf g view cell word) → All (IsOpShaped g) view.ops → All (IsOpShaped g) (edit page_of page (read_cell cell word) view.ops)
 read_ops g view page cell word may r h = all_edit page_of (IsOpShaped g) page (read_cell cell word) view.ops (λ o e s. shaped_read g view cell word o (some_and (op_on view page) o (MayRead cell) e may) (if_some (op_on view page) o (IsReadOf g view cell word) e r) s) h
 
-shaded_ops : (g : Geometry) (view : View) (page master : ℕ) (shadow : Option ℕ) → IfSome shadow (IsFrame g) → IsSomeAnd (op_on view page) (MaySetShadow g view master shadow) → All (IsOpShaped g) view.ops → All (IsOpShaped g) (edit page_of page (shaded page shadow) view.ops)
-shaded_ops g view page master shadow f may h = all_edit page_of (IsOpShaped g) page (shaded page shadow) view.ops (λ o e s. shaped_shaded g view page master shadow o (find_number page_of page view.ops o e) f (some_and (op_on view page) o (MaySetShadow g view master shadow) e may) s) h
+shaded_ops : (g : Geometry) (view : View) (page master : ℕ) (shadow : Option ℕ) → IsPage g page → IfSome shadow (IsFrame g) → IsSomeAnd (op_on view page) (MaySetShadow g view master shadow) → All (IsOpShaped g) view.ops → All (IsOpShaped g) (edit page_of page (shaded page shadow) view.ops)
+shaded_ops g view page master shadow p f may h = all_edit page_of (IsOpShaped g) page (shaded page shadow) view.ops (λ o e s. shaped_shaded g view page master shadow o (find_number page_of page view.ops o e) p f (some_and (op_on view page) o (MaySetShadow g view master shadow) e may) s) h
 
 ops_done : (g : Geometry) (view : View) (action : Action) → HasShape g view → Allowed g view action → All (IsOpShaped g) (after_of g view action Done).ops
-ops_done g view (Load v w) h a = h.ops
-ops_done g view (Store v w x) h a = h.ops
-ops_done g view (Add v w x) h a = h.ops
-ops_done g view (Look v) h a = h.ops
-ops_done g view (Walk v e write) h a = h.ops
-ops_done g view (Peek v) h a = h.ops
-ops_done g view Poll h a = h.ops
-ops_done g view (Ack to) h a = h.ops
 ops_done g view (Lock b) h a = all_join (IsOpShaped g) view.ops (opened b view.room.aliases) h.ops (shaped_opened g b view.room.aliases)
 ops_done g view (Unlock b) h a = all_erase page_of (IsOpShaped g) b view.ops h.ops
-ops_done g view Bump h a = h.ops
-ops_done g view (SeeAck p) h a = h.ops
-ops_done g view (Raise v) h a = h.ops
-ops_done g view (Soften v bit) h a = h.ops
-ops_done g view (Arm v) h a = h.ops
-ops_done g view (ClearDirty v) h a = h.ops
-ops_done g view (Unmap v) h a = h.ops
 ops_done g view (Map v word) h a = edited_of g view v (mapped_at v word) (shaped_mapped g v word) h.ops
-ops_done g view (Grant v) h a = h.ops
-ops_done g view (CopyLoad b i) h a = h.ops
 ops_done g view (CopyStore b f i x) h a = edited_under g view b copied_one (shaped_copied g) h.ops
 ops_done g view (SetHome b f) h a = edited g view b (homed_at f) (shaped_homed g f) h.ops
-ops_done g view (SetShadow b m s) h a = shaded_ops g view b m s a.range.2 a.permitted h.ops
-ops_done g view (TakeTurn t) h a = h.ops
-ops_done g view (Scan t i) h a = h.ops
-ops_done g view (GiveFrame f) h a = h.ops
-ops_done g view (PutFrame f) h a = h.ops
-ops_done g view (ReleaseTurn t) h a = h.ops
-ops_done g view (Mark b old new) h a = h.ops
-ops_done g view (Read b cell) h a = h.ops
+ops_done g view (SetShadow b m s) h a = shaded_ops g view b m s a.range.page a.range.shadow a.permitted h.ops
+ops_done g view action h a = h.ops
 
 ops_told : (g : Geometry) (view : View) (action : Action) (n : ℕ) → HasShape g view → Allowed g view action → FitsWord g view action n → All (IsOpShaped g) (after_of g view action (Word n)).ops
-ops_told g view (Load v w) n h a fits = h.ops
-ops_told g view (Store v w x) n h a fits = h.ops
-ops_told g view (Add v w x) n h a fits = h.ops
 ops_told g view (Look v) n h a fits = edited_of g view v (looked_at v n) (shaped_looked g v n) h.ops
-ops_told g view (Walk v e write) n h a fits = h.ops
-ops_told g view (Peek v) n h a fits = h.ops
-ops_told g view Poll n h a fits = h.ops
-ops_told g view (Ack to) n h a fits = h.ops
-ops_told g view (Lock b) n h a fits = h.ops
-ops_told g view (Unlock b) n h a fits = h.ops
 ops_told g view Bump n h a fits = all_map (IsOpShaped g) (IsOpShaped g) (bumped_to (n + 1)) view.ops (shaped_bumped g (n + 1)) h.ops
 ops_told g view (SeeAck p) n h a fits = all_map (IsOpShaped g) (IsOpShaped g) (seen_at p n) view.ops (shaped_seen g p n) h.ops
 ops_told g view (Raise v) n h a fits = edited_of g view v (raised_to v (n + 1)) (shaped_raised g v (n + 1)) h.ops
-ops_told g view (Soften v bit) n h a fits = h.ops
-ops_told g view (Arm v) n h a fits = h.ops
 ops_told g view (ClearDirty v) n h a fits = edited_of g view v (cleared_at v) (shaped_cleared g v) h.ops
 ops_told g view (Unmap v) n h a fits = edited_of g view v (taken_at v n) (shaped_taken g v n) h.ops
-ops_told g view (Map v word) n h a fits = h.ops
 ops_told g view (Grant v) n h a fits = edited_of g view v (granted_at v n) (shaped_granted g v n) h.ops
 ops_told g view (CopyLoad b i) n h a fits = edited g view b (loaded n) (shaped_loaded g n) h.ops
-ops_told g view (CopyStore b f i x) n h a fits = h.ops
-ops_told g view (SetHome b f) n h a fits = h.ops
-ops_told g view (SetShadow b m s) n h a fits = h.ops
-ops_told g view (TakeTurn t) n h a fits = h.ops
-ops_told g view (Scan t i) n h a fits = h.ops
-ops_told g view (GiveFrame f) n h a fits = h.ops
-ops_told g view (PutFrame f) n h a fits = h.ops
-ops_told g view (ReleaseTurn t) n h a fits = h.ops
-ops_told g view (Mark b old new) n h a fits = h.ops
 ops_told g view (Read b cell) n h a fits = read_ops g view b cell n a.permitted fits h.ops
+ops_told g view action n h a fits = h.ops
 
 -- What was polled, and the cache.
 
@@ -115,135 +72,24 @@ abbrev IsPolled : ℕ → Type 0
 IsPolled n = (n ≡ off_word) ⊎ (n ≤ most_bumps)
 
 polled_done : (g : Geometry) (view : View) (action : Action) → HasShape g view → IsPolled (after_of g view action Done).req_seen
-polled_done g view (Load v w) h = h.polled
-polled_done g view (Store v w x) h = h.polled
-polled_done g view (Add v w x) h = h.polled
-polled_done g view (Look v) h = h.polled
-polled_done g view (Walk v e write) h = h.polled
-polled_done g view (Peek v) h = h.polled
 polled_done g view Poll h = h.polled
-polled_done g view (Ack to) h = h.polled
-polled_done g view (Lock b) h = h.polled
-polled_done g view (Unlock b) h = h.polled
-polled_done g view Bump h = h.polled
-polled_done g view (SeeAck p) h = h.polled
-polled_done g view (Raise v) h = h.polled
-polled_done g view (Soften v bit) h = h.polled
-polled_done g view (Arm v) h = h.polled
-polled_done g view (ClearDirty v) h = h.polled
-polled_done g view (Unmap v) h = h.polled
-polled_done g view (Map v word) h = h.polled
-polled_done g view (Grant v) h = h.polled
-polled_done g view (CopyLoad b i) h = h.polled
-polled_done g view (CopyStore b f i x) h = h.polled
-polled_done g view (SetHome b f) h = h.polled
-polled_done g view (SetShadow b m s) h = h.polled
-polled_done g view (TakeTurn t) h = h.polled
-polled_done g view (Scan t i) h = h.polled
-polled_done g view (GiveFrame f) h = h.polled
-polled_done g view (PutFrame f) h = h.polled
-polled_done g view (ReleaseTurn t) h = h.polled
-polled_done g view (Mark b old new) h = h.polled
-polled_done g view (Read b cell) h = h.polled
+polled_done g view action h = h.polled
 
 polled_told : (g : Geometry) (view : View) (action : Action) (n : ℕ) → HasShape g view → FitsWord g view action n → IsPolled (after_of g view action (Word n)).req_seen
-polled_told g view (Load v w) n h fits = h.polled
-polled_told g view (Store v w x) n h fits = h.polled
-polled_told g view (Add v w x) n h fits = h.polled
-polled_told g view (Look v) n h fits = h.polled
-polled_told g view (Walk v e write) n h fits = h.polled
-polled_told g view (Peek v) n h fits = h.polled
 polled_told g view Poll n h fits = inr fits
-polled_told g view (Ack to) n h fits = h.polled
-polled_told g view (Lock b) n h fits = h.polled
-polled_told g view (Unlock b) n h fits = h.polled
-polled_told g view Bump n h fits = h.polled
-polled_told g view (SeeAck p) n h fits = h.polled
-polled_told g view (Raise v) n h fits = h.polled
-polled_told g view (Soften v bit) n h fits = h.polled
-polled_told g view (Arm v) n h fits = h.polled
-polled_told g view (ClearDirty v) n h fits = h.polled
-polled_told g view (Unmap v) n h fits = h.polled
-polled_told g view (Map v word) n h fits = h.polled
-polled_told g view (Grant v) n h fits = h.polled
-polled_told g view (CopyLoad b i) n h fits = h.polled
-polled_told g view (CopyStore b f i x) n h fits = h.polled
-polled_told g view (SetHome b f) n h fits = h.polled
-polled_told g view (SetShadow b m s) n h fits = h.polled
-polled_told g view (TakeTurn t) n h fits = h.polled
-polled_told g view (Scan t i) n h fits = h.polled
-polled_told g view (GiveFrame f) n h fits = h.polled
-polled_told g view (PutFrame f) n h fits = h.polled
-polled_told g view (ReleaseTurn t) n h fits = h.polled
-polled_told g view (Mark b old new) n h fits = h.polled
-polled_told g view (Read b cell) n h fits = h.polled
+polled_told g view action n h fits = h.polled
 
 not_processor : (g : Geometry) (view : View) → IsProcessor g view → g.cpus ≤ view.number → ⊥
 not_processor g view p le = omega (arith, p, le)
 
 cache_done : (g : Geometry) (view : View) (action : Action) → HasShape g view → Allowed g view action → g.cpus ≤ (after_of g view action Done).number → (after_of g view action Done).cache ≡ []
-cache_done g view (Load v w) h a = h.processor
-cache_done g view (Store v w x) h a = h.processor
-cache_done g view (Add v w x) h a = h.processor
-cache_done g view (Look v) h a = h.processor
 cache_done g view (Walk v e write) h a = λ le. absurd (not_processor g view a.permitted.processor le)
-cache_done g view (Peek v) h a = h.processor
-cache_done g view Poll h a = h.processor
-cache_done g view (Ack to) h a = λ le. absurd (not_processor g view a.permitted.0 le)
-cache_done g view (Lock b) h a = h.processor
-cache_done g view (Unlock b) h a = h.processor
-cache_done g view Bump h a = h.processor
-cache_done g view (SeeAck p) h a = h.processor
-cache_done g view (Raise v) h a = h.processor
-cache_done g view (Soften v bit) h a = h.processor
-cache_done g view (Arm v) h a = h.processor
-cache_done g view (ClearDirty v) h a = h.processor
-cache_done g view (Unmap v) h a = h.processor
-cache_done g view (Map v word) h a = h.processor
-cache_done g view (Grant v) h a = h.processor
-cache_done g view (CopyLoad b i) h a = h.processor
-cache_done g view (CopyStore b f i x) h a = h.processor
-cache_done g view (SetHome b f) h a = h.processor
-cache_done g view (SetShadow b m s) h a = h.processor
-cache_done g view (TakeTurn t) h a = h.processor
-cache_done g view (Scan t i) h a = h.processor
-cache_done g view (GiveFrame f) h a = h.processor
-cache_done g view (PutFrame f) h a = h.processor
-cache_done g view (ReleaseTurn t) h a = h.processor
-cache_done g view (Mark b old new) h a = h.processor
-cache_done g view (Read b cell) h a = h.processor
+cache_done g view (Ack to) h a = λ le. absurd (not_processor g view a.permitted.processor le)
+cache_done g view action h a = h.processor
 
 cache_told : (g : Geometry) (view : View) (action : Action) (n : ℕ) → HasShape g view → g.cpus ≤ (after_of g view action (Word n)).number → (after_of g view action (Word n)).cache ≡ []
-cache_told g view (Load v w) n h = h.processor
-cache_told g view (Store v w x) n h = h.processor
-cache_told g view (Add v w x) n h = h.processor
-cache_told g view (Look v) n h = h.processor
-cache_told g view (Walk v e write) n h = h.processor
-cache_told g view (Peek v) n h = h.processor
 cache_told g view Poll n h = h.processor
-cache_told g view (Ack to) n h = h.processor
-cache_told g view (Lock b) n h = h.processor
-cache_told g view (Unlock b) n h = h.processor
-cache_told g view Bump n h = h.processor
-cache_told g view (SeeAck p) n h = h.processor
-cache_told g view (Raise v) n h = h.processor
-cache_told g view (Soften v bit) n h = h.processor
-cache_told g view (Arm v) n h = h.processor
-cache_told g view (ClearDirty v) n h = h.processor
-cache_told g view (Unmap v) n h = h.processor
-cache_told g view (Map v word) n h = h.processor
-cache_told g view (Grant v) n h = h.processor
-cache_told g view (CopyLoad b i) n h = h.processor
-cache_told g view (CopyStore b f i x) n h = h.processor
-cache_told g view (SetHome b f) n h = h.processor
-cache_told g view (SetShadow b m s) n h = h.processor
-cache_told g view (TakeTurn t) n h = h.processor
-cache_told g view (Scan t i) n h = h.processor
-cache_told g view (GiveFrame f) n h = h.processor
-cache_told g view (PutFrame f) n h = h.processor
-cache_told g view (ReleaseTurn t) n h = h.processor
-cache_told g view (Mark b old new) n h = h.processor
-cache_told g view (Read b cell) n h = h.processor
+cache_told g view action n h = h.processor
 
 -- The law.
 
@@ -252,11 +98,11 @@ pub shape_opening : (g : Geometry) (number : ℕ) → IsActor g number → HasSh
 shape_opening g number is = record { keyed = keyed_opening g number is; ops = none_left (IsOpShaped g); polled = inl refl; processor = λ le. refl }
 
 shape_keyed : (g : Geometry) (view : View) (action : Action) (reply : Reply) → IsGeometry g → HasShape g view → Allowed g view action → Fits g view action reply → IsKeyed g (after_of g view action reply)
-shape_keyed g view action reply is h a f = keyed_after g view action reply is h.keyed a (fits_in_range g view action reply h.keyed a f)
+shape_keyed g view action reply is h a f = keyed_after g view action reply is h.keyed a (fits_in_range g view action reply is h.keyed a f)
 
 -- a permitted action with a reply that fits keeps the shape
 pub shape_after : (g : Geometry) (view : View) (action : Action) (reply : Reply) → IsGeometry g → HasShape g view → Allowed g view action → Fits g view action reply → HasShape g (after_of g view action reply)
 shape_after g view action Done is h a f = record { keyed = shape_keyed g view action Done is h a f; ops = ops_done g view action h a; polled = polled_done g view action h; processor = cache_done g view action h a }
-shape_after g view action (Word n) is h a f = record { keyed = shape_keyed g view action (Word n) is h a f; ops = ops_told g view action n h a f.told.1; polled = polled_told g view action n h f.told.1; processor = cache_told g view action n h }
+shape_after g view action (Word n) is h a f = record { keyed = shape_keyed g view action (Word n) is h a f; ops = ops_told g view action n h a f.told.said; polled = polled_told g view action n h f.told.said; processor = cache_told g view action n h }
 shape_after g view action (Busy n) is h a f = let P : View → Type 0 = λ v. HasShape g v in subst P (sym (busy_still g view action n)) h
 shape_after g view action (Lost n) is h a f = let P : View → Type 0 = λ v. HasShape g v in subst P (sym (lost_still g view action n)) h

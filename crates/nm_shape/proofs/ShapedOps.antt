@@ -7,13 +7,13 @@ use Rattle.nm_action.specs.declared.action.Cell.TheVariants.{Home, Shadow}
 use Rattle.nm_view.specs.declared.view.Phase.TheVariants.{Held, Cleared, Taken}
 use Rattle.nm_view.specs.Lists.{erase, first}
 use Rattle.nm_view.specs.Views.{Op, View}
-use Rattle.nm_base.specs.ShadowWord.{shadow_word}
+use Rattle.nm_base.specs.ShadowWord.{shadow_word, IsShadowWordOf}
 use Rattle.nm_view.specs.Opening.{opened}
-use Rattle.nm_base.specs.Ranges.{IsFrame}
+use Rattle.nm_base.specs.Ranges.{IsPage, IsFrame}
 use Rattle.nm_permit.specs.Permitted.{MayRead, MaySetShadow}
 use Rattle.nm_event.specs.After.{looked_at, read_cell, cleared_at, taken_at, raised_to, bumped_to, seen_at, loaded, copied_one, homed_at, shaded, mapped_at, granted_at, has_some}
 use Rattle.nm_event.specs.Fitting.{IsReadOf, IsNewsOfShadow}
-use Rattle.nm_shape.specs.Shape.{IsShadowOf, IsOpShaped}
+use Rattle.nm_shape.specs.Shape.{IsOpShaped}
 
 no_true : IsTrue false → ⊥
 no_true e = cc
@@ -74,16 +74,16 @@ shaped_granted g v word o h = record { named = h.named; based = h.based; due = h
 known_home : (home : Option ℕ) (frame : ℕ) → home ≡ Some (frame + 1) → IsSomeAnd home (λ h. h ≢ 0)
 known_home home frame e = let P : Option ℕ → Type 0 = λ y. IsSomeAnd y (λ h. h ≢ 0) in let some : frame + 1 ≢ 0 = omega arith in subst P (sym e) some
 
-shadow_named : (g : Geometry) (page : ℕ) (shadow : Option ℕ) → IfSome shadow (IsFrame g) → IsShadowOf g page (shadow_word page shadow)
-shadow_named g page None f = inl refl
-shadow_named g page (Some s) f = inr (s, record { range = f; is = refl })
+shadow_named : (g : Geometry) (page : ℕ) (shadow : Option ℕ) → IsPage g page → IfSome shadow (IsFrame g) → IsShadowWordOf g page (shadow_word page shadow)
+shadow_named g page None p f = inl refl
+shadow_named g page (Some s) p f = inr (s, record { exists = p; range = f; is = refl })
 
 shaded_home : (g : Geometry) (view : View) (master : ℕ) (shadow : Option ℕ) (o : Op) → MaySetShadow g view master shadow o → o.home ≡ Some (master + 1)
 shaded_home g view master None o may = may.home
 shaded_home g view master (Some s) o may = may.home
 
-pub shaped_shaded : (g : Geometry) (view : View) (page master : ℕ) (shadow : Option ℕ) (o : Op) → o.page ≡ page → IfSome shadow (IsFrame g) → MaySetShadow g view master shadow o → IsOpShaped g o → IsOpShaped g (shaded page shadow o)
-shaped_shaded g view page master shadow o e f may h = record { named = rw e (shadow_named g page shadow f); based = known_home o.home master (shaded_home g view master shadow o may); due = h.due; some = h.some }
+pub shaped_shaded : (g : Geometry) (view : View) (page master : ℕ) (shadow : Option ℕ) (o : Op) → o.page ≡ page → IsPage g page → IfSome shadow (IsFrame g) → MaySetShadow g view master shadow o → IsOpShaped g o → IsOpShaped g (shaded page shadow o)
+shaped_shaded g view page master shadow o e p f may h = record { named = rw e (shadow_named g page shadow p f); based = known_home o.home master (shaded_home g view master shadow o may); due = h.due; some = h.some }
 
 -- the home that is read is the known one, where a shadow word is known
 read_based : (shadow home : Option ℕ) (word : ℕ) → IfSome shadow (λ _. IsSomeAnd home (λ h. h ≢ 0)) → IfSome home (λ h. word ≡ h) → IfSome shadow (λ _. word ≢ 0)
@@ -91,13 +91,13 @@ read_based None home word b known = tt
 read_based (Some s) None word b known = absurd b
 read_based (Some s) (Some h) word b known = rw known b
 
-news_of : (g : Geometry) (page master word : ℕ) → IsNewsOfShadow g page master word → IsShadowOf g page word
+news_of : (g : Geometry) (page master word : ℕ) → IsNewsOfShadow g page master word → IsShadowWordOf g page word
 news_of g page master word (inl e) = inl e
-news_of g page master word (inr (s, n)) = inr (s, record { range = n.range; is = n.is })
+news_of g page master word (inr (s, n)) = inr (s, n.names)
 
-read_named : (g : Geometry) (page master word : ℕ) (shadow : Option ℕ) → IfSome shadow (IsShadowOf g page) → IfSome shadow (λ s. word ≡ s) → (shadow ≡ None → IsNewsOfShadow g page master word) → IsShadowOf g page word
+read_named : (g : Geometry) (page master word : ℕ) (shadow : Option ℕ) → IfSome shadow (IsShadowWordOf g page) → IfSome shadow (λ s. word ≡ s) → (shadow ≡ None → IsNewsOfShadow g page master word) → IsShadowWordOf g page word
 read_named g page master word None h known news = news_of g page master word (news refl)
-read_named g page master word (Some s) h known news = let P : ℕ → Type 0 = λ w. IsShadowOf g page w in subst P (sym known) h
+read_named g page master word (Some s) h known news = let P : ℕ → Type 0 = λ w. IsShadowWordOf g page w in subst P (sym known) h
 
 pub shaped_read : (g : Geometry) (view : View) (cell : Cell) (word : ℕ) (o : Op) → MayRead cell o → IsReadOf g view cell word o → IsOpShaped g o → IsOpShaped g (read_cell cell word o)
 shaped_read g view (Home n) word o may r h = record { named = h.named; based = read_based o.shadow o.home word h.based r.known; due = h.due; some = h.some }

@@ -1,15 +1,16 @@
 -- Views whose numbers are in range, and in whose lists no number stands twice.
 use Rattle.std.specs.Prelude.{◌≡◌, ℕ, ◌*◌, ◌^◌, ◌<◌, ◌≤◌, List, length, Option, Some, None, IfSome, All}
-use Rattle.nm_base.specs.Geometry.{Geometry, backing_page, frame_count}
+use Rattle.nm_base.specs.Geometry.{Geometry, IsInTier, backing_page}
 use Rattle.nm_view.specs.declared.view.Fill.{Fill}
 use Rattle.nm_view.specs.declared.view.Fill.TheVariants.{Raw, Zeroed, Copied, Equal}
 use Rattle.nm_view.specs.declared.view.Owned.{Owned}
 use Rattle.nm_view.specs.declared.view.Scanned.{Scanned}
 use Rattle.nm_view.specs.Lists.{Once, first, itself}
-use Rattle.nm_view.specs.Views.{Op, View, most_ops}
+use Rattle.nm_view.specs.Views.{Op, View, most_ops, own_bumps, own_raises}
 use Rattle.nm_base.specs.FreeWords.{free_words}
 use Rattle.nm_view.specs.Operations.{page_of, cached_page, peeked_page, owned_frame}
-use Rattle.nm_base.specs.ShadowWord.{IsShadowName}
+use Rattle.nm_base.specs.HomeWord.{IsHomeWord}
+use Rattle.nm_base.specs.ShadowWord.{IsShadowWord}
 use Rattle.nm_base.specs.Ranges.{IsPage, IsVPage, IsFrame, IsTier}
 use Rattle.nm_view.specs.Opening.{unscanned, most_aliases, room_of, IsActor}
 
@@ -26,8 +27,8 @@ pub record AreOwnNumbers (g : Geometry) (page : ℕ) (vpages : List ℕ) : Type 
 -- an operation: its numbers are in range, and its lists name virtual pages of its page alone, none of them twice
 pub record IsOpKeyed (g : Geometry) (o : Op) : Type 0 where
   pub page : IsPage g o.page
-  pub home : IfSome o.home (λ h. h ≤ frame_count g)
-  pub shadow : IfSome o.shadow (IsShadowName g)
+  pub home : IfSome o.home (IsHomeWord g)
+  pub shadow : IfSome o.shadow (IsShadowWord g)
   pub looked : AreOwnPages g o.page o.looked
   pub taken : AreOwnPages g o.page o.taken
   pub wet : AreOwnNumbers g o.page o.wet
@@ -36,31 +37,32 @@ pub record IsOpKeyed (g : Geometry) (o : Op) : Type 0 where
   pub copied : o.copied ≤ g.words
   pub room : o.room ≡ most_aliases g
 
+-- so many words of a backing page
+pub record IsCopyInRange (g : Geometry) (b n : ℕ) : Type 0 where
+  pub page : IsPage g b
+  pub count : n ≤ g.words
+
 -- the numbers of a fill are in range
 abbrev pub IsFillInRange : Geometry → Fill → Type 0
 IsFillInRange g Raw = Unit {0}
 IsFillInRange g (Zeroed n) = n ≤ g.words
-IsFillInRange g (Copied page n) = IsPage g page × (n ≤ g.words)
+IsFillInRange g (Copied page n) = IsCopyInRange g page n
 IsFillInRange g (Equal page) = IsPage g page
 
 pub record IsOwnedInRange (g : Geometry) (w : Owned) : Type 0 where
   pub frame : IsFrame g w.frame
   pub fill : IsFillInRange g w.fill
 
--- a scan: no more words than the tier of the turn has, no more frames than they can have, and the least in range; none
--- without a turn
-pub record IsScanInRange (g : Geometry) (turn : Option ℕ) (scan : Scanned) : Type 0 where
-  pub words : IfSome turn (λ t. scan.words ≤ free_words g t)
-  pub none : turn ≡ None → scan ≡ unscanned
+-- a scan of a tier: no more words than it has, no more frames than they can have, and the least is a frame of the tier
+pub record IsScanOfTier (g : Geometry) (scan : Scanned) (t : ℕ) : Type 0 where
+  pub words : scan.words ≤ free_words g t
   pub sum : scan.sum ≤ 64 * scan.words
-  pub least : IfSome scan.least (IsFrame g)
+  pub least : IfSome scan.least (λ f. IsInTier g f t)
 
--- an actor makes at most so many bumps, and at most so many raises
-abbrev pub own_bumps : ℕ
-own_bumps = 2 ^ 56
-
-abbrev pub own_raises : ℕ
-own_raises = 2 ^ 59
+-- a scan is of the tier of the turn; nothing is scanned without a turn
+abbrev pub IsScanInRange : Geometry → Option ℕ → Scanned → Type 0
+IsScanInRange g None scan = scan ≡ unscanned
+IsScanInRange g (Some t) scan = IsScanOfTier g scan t
 
 -- a view: its numbers are in range, at most ten operations are open, and no number stands twice in a list of it
 pub record IsKeyed (g : Geometry) (view : View) : Type 0 where

@@ -1,26 +1,15 @@
 -- The shape of a view: what each step keeps of it for every reply that fits, whatever the other actors do.
-use Rattle.std.specs.Prelude.{◌≡◌, ◌≢◌, ℕ, ◌≤◌, ◌⊎◌, [], Some, None, IfSome, IsSomeAnd, IsTrue, All}
+use Rattle.std.specs.Prelude.{◌≡◌, ◌≢◌, ◌≤◌, ◌⊎◌, [], None, IfSome, IsSomeAnd, IsTrue, All}
 use Rattle.nm_base.specs.Geometry.{Geometry}
 use Rattle.nm_view.specs.declared.view.Phase.TheVariants.{Taken}
-use Rattle.nm_view.specs.Views.{Op, View, off_word}
-use Rattle.nm_base.specs.ShadowWord.{shadow_word}
-use Rattle.nm_base.specs.Ranges.{IsFrame}
-use Rattle.nm_event.specs.Fitting.{most_bumps}
+use Rattle.nm_view.specs.Views.{Op, View, off_word, most_bumps}
+use Rattle.nm_base.specs.ShadowWord.{IsShadowWordOf}
 use Rattle.nm_shape.specs.Keyed.{IsKeyed}
-
--- a word names this shadow of a page
-pub record IsShadowNamed (g : Geometry) (page word shadow : ℕ) : Type 0 where
-  pub range : IsFrame g shadow
-  pub is : word ≡ shadow_word page (Some shadow)
-
--- a shadow word of a page: 0, or it names the page and a frame
-abbrev pub IsShadowOf : Geometry → ℕ → ℕ → Type 0
-IsShadowOf g page word = (word ≡ 0) ⊎ ((shadow : ℕ) × IsShadowNamed g page word shadow)
 
 -- an operation: a shadow word that it knows names its page, and then it knows a home that is not none; where it is due
 -- it has no flush number; cleared in phase Taken it has a taken word
 pub record IsOpShaped (g : Geometry) (o : Op) : Type 0 where
-  pub named : IfSome o.shadow (IsShadowOf g o.page)
+  pub named : IfSome o.shadow (IsShadowWordOf g o.page)
   pub based : IfSome o.shadow (λ _. IsSomeAnd o.home (λ h. h ≢ 0))
   pub due : IsTrue o.due → o.flush ≡ None
   pub some : IsTrue o.cleared → o.phase ≡ Taken → o.taken ≢ []

@@ -4,7 +4,4 @@
 
 pub mod advancing;
 
-pub use advancing::advance;
-
-#[cfg(test)]
-mod tests;
+pub use advancing::{advance, advance_keyed};

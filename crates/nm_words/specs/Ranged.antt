@@ -1,6 +1,7 @@
 -- What the words of a machine can be, whatever its actors do within what is permitted.
 use Rattle.std.specs.Prelude.{◌≡◌, ℕ, ◌≤◌}
-use Rattle.nm_base.specs.Geometry.{Geometry, frame_count}
+use Rattle.nm_base.specs.Geometry.{Geometry}
+use Rattle.nm_base.specs.HomeWord.{IsHomeWord}
 use Rattle.nm_base.specs.TableWord.{IsTableInRange}
 use Rattle.nm_base.specs.Ranges.{IsWord}
 use Rattle.nm_base.specs.ShadowWord.{IsShadowWord}
@@ -16,7 +17,7 @@ abbrev pub IsRanged : Geometry → ℕ → ℕ → Where → ℕ → Type 0
 IsRanged g bumps raises Req word = word ≡ bumps
 IsRanged g bumps raises (Pte v) word = IsTableInRange g word
 IsRanged g bumps raises (Stamp v) word = word ≤ raises
-IsRanged g bumps raises (Home b) word = word ≤ frame_count g
+IsRanged g bumps raises (Home b) word = IsHomeWord g word
 IsRanged g bumps raises (Shadow m) word = IsShadowWord g word
 IsRanged g bumps raises (Free t k) word = HasOwnBits g t k word
 IsRanged g bumps raises _ word = Unit {0}

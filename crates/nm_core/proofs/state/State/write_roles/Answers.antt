@@ -1,22 +1,24 @@
--- Each place was written.
-use Rattle.std.proofs.Common.{◌≡◌, ◌<◌, length, ap, arith}
-use Rattle.std.proofs.lemmas.List.Edits.{fill_by_more}
+-- The marks of the shadow words and then of the homes are the roles.
+use Rattle.std.proofs.Common.{◌≡◌, length, get_or, ap, ◌∙◌, arith}
 use Rattle.std.proofs.lemmas.List.FromFn.{fill_by_all}
 use Rattle.nm_base.specs.Geometry.{frame_count}
-use Rattle.nm_core.specs.State.{State}
 use Rattle.nm_core.specs.declared.ends.Role.TheVariants.{Free}
 use Rattle.nm_core.specs.Roles.{role_of}
+use Rattle.nm_core.specs.State.{State}
+use Rattle.nm_core.proofs.Marks.{role-marked}
 use Rattle.nm_core.proofs.state.State.write_roles.Goals as goal
 
 pub returns : goal.returns
 returns c =
-    let size : length c.loop-frame.roles ≡ frame_count c.args.self.now.geometry = omega (arith, c.loop-frame.auto.roles, c.requires) in
-    let count : frame_count c.self.inside.geometry ≡ frame_count c.args.self.now.geometry = ap (λ (s : State). frame_count s.geometry) c.self.view_is in
-    fill_by_all (role_of c.args.self.now) c.loop-frame.roles (frame_count c.args.self.now.geometry) Free size (λ k lt. c.loop-frame.invariant k (omega (arith, lt, count, c.loop-frame-test.false)))
-
-pub loop-frame-preserved : goal.loop-frame-preserved
-loop-frame-preserved c =
-    let count : frame_count c.self.inside.geometry ≡ frame_count c.args.self.now.geometry = ap (λ (s : State). frame_count s.geometry) c.self.view_is in
-    let within : c.loop-frame.frame < length c.loop-frame.roles = omega (arith, c.loop-frame.auto.roles, c.requires, count) in
-    let here : c.role.result ≡ role_of c.args.self.now c.loop-frame.frame = c.role.ensures in
-    rw here (fill_by_more (role_of c.args.self.now) c.loop-frame.roles c.loop-frame.frame Free within c.loop-frame.invariant)
+    let s = c.args.self.now in
+    let roles = c.mark_homes.new.roles in
+    let free = c.write_free.ensures in
+    let shadows = c.mark_shadows.ensures in
+    let homes = c.mark_homes.ensures in
+    let size : length roles ≡ frame_count s.geometry = homes.count ∙ shadows.count ∙ free.count ∙ c.requires in
+    let shadow_words = c.shadows.ensures ∙ ap (λ (s : State). s.words.shadow) c.self.view_is in
+    let home_words = c.homes.ensures ∙ ap (λ (s : State). s.words.home) c.self.view_is in
+    fill_by_all (role_of s) roles (frame_count s.geometry) Free size (λ k lt.
+    role-marked s k c.shadows.result.now c.homes.result.now (get_or c.write_free.new.roles k Free) (get_or c.mark_shadows.new.roles k Free) (get_or roles k Free) shadow_words home_words (free.roles k lt)
+    (shadows.roles k (omega (arith, lt, free.count, c.requires)))
+    (homes.roles k (omega (arith, lt, shadows.count, free.count, c.requires))))

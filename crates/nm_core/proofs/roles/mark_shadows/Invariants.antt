@@ -1,0 +1,12 @@
+-- The words before this one are marked.
+use Rattle.std.proofs.Common.{◌≡◌, ℕ, ◌<◌, length, take, get_or}
+use Rattle.std.specs.List.{list_any}
+use Rattle.nm_core.specs.declared.ends.Role.TheVariants.{Free, Shadow}
+use Rattle.nm_core.specs.Roles.{names_shadow, marked}
+use Rattle.nm_core.proofs.roles.mark_shadows.Given as goal
+
+abbrev pub invariant-loop-word : goal.invariant-loop-word
+invariant-loop-word l = record {
+  count : length l.roles ≡ length l.fn.roles;
+  marks : (k : ℕ) → k < length l.fn.roles → get_or l.roles k Free ≡ marked Shadow (list_any (names_shadow k) (take l.word-index l.shadows)) (get_or l.fn.roles k Free);
+}
