@@ -11,7 +11,7 @@ use nm_action::Tally;
 use nm_base::{Geometry, VPage};
 use nm_flat::{Access, AccessKind};
 use nm_report::{
-    EndWords, LineResult, Report, Role, counts_sum, follows_fits, print, print_cpu, summary,
+    EndWords, LineResult, Report, Role, counts_filters, counts_sum, follows_fits, print, print_cpu, summary,
 };
 use nm_script::{Line, Schedule, Script};
 use std::alloc::Global;
@@ -273,6 +273,7 @@ fn facts(rt: HostRuntime) -> Result<(), Fail> {
         word: 0,
         kind: AccessKind::Load(7),
     };
+    counts_filters();
     follows_fits(0, true, &[LOAD], &[LineResult::Loaded(7)], &[load]);
     Ok(())
 }
