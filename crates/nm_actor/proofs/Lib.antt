@@ -1,2 +1,2 @@
+pub mod TurnLists
 pub mod Driving
-pub mod Bumping

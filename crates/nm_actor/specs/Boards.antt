@@ -1,39 +1,39 @@
--- What a board tells: who has sat and stood, and what the chairs of those that have stood told.
-use Rattle.std.specs.Prelude.{◌≡◌, ◌≢◌, ℕ, ◌+◌, ◌==◌, Bool, false, List, [], ◌∷◌, ◌++◌, map, sum_by, count_by, None, IsSomeAnd, Contains}
+-- What a board tells: who sits, who has stood, and what the chairs of those that have stood told.
+use Rattle.std.specs.Prelude.{◌≡◌, ◌≢◌, ℕ, ◌+◌, ◌==◌, if◌then◌else◌, Bool, true, false, List, [], ◌∷◌, ◌++◌, map, sum_by, count_by, Option, None, Some, IsSomeAnd}
+use Rattle.std.specs.List.{range_with_len}
 use Rattle.nm_base.specs.Geometry.{Geometry}
+use Rattle.nm_action.specs.Own.{Own}
 use Rattle.nm_view.specs.Opening.{opening}
-use Rattle.nm_actor.specs.Lanes.{LaneMove, put, took, Held, LaneState}
+use Rattle.nm_actor.specs.Lanes.{LaneMove, LaneLists, put, took, Held, LaneState}
 use Rattle.nm_actor.specs.Chairs.{ChairState}
-use Rattle.nm_actor.specs.Actors.{Lists}
 
--- an actor that has stood, and the lists of its chair
-pub record Stood : Type 0 where
-  pub actor : ℕ
-  pub lists : Lists
+-- the seat of an actor: it has not sat; it sits; or it has stood, and its chair told this own list
+pub data Seat : Type 0 where
+  not_sat : Seat
+  sitting : Seat
+  stood : Own → Seat
 
--- the name of the board, its geometry, the capacity of each lane; the actors that have sat, and those that have stood, in
--- order; and whether the last chair was given rest
+-- the name of the board, its geometry, the capacity of each lane; the seat of each actor; the lane lists of the actors that
+-- have stood; and whether the last chair was given rest. From then until that chair stands, the lists that count are those
+-- that it tells.
 pub record BoardState (N : Type 0) : Type 0 where
   pub name : N
   pub geometry : Geometry
   pub candidates : ℕ
   pub pending : ℕ
-  pub sat : List ℕ
-  pub stood : List Stood
+  pub seats : ℕ → Seat
+  pub lanes : ℕ → LaneLists
   pub rested : Bool
 
-abbrev pub HasSat : {N : Type 0} → BoardState N → ℕ → Type 0
-HasSat b actor = Contains b.sat actor
-
-abbrev pub HasStood : {N : Type 0} → BoardState N → ℕ → Type 0
-HasStood b actor = Contains (map (λ s. s.actor) b.stood) actor
+-- a table by actor with one entry changed
+abbrev pub with_entry : {A : Type 0} → ℕ → A → (ℕ → A) → ℕ → A
+with_entry actor entry table a = if a == actor then entry else table a
 
 -- a chair is of this board, and its actor has sat and not stood
 pub record IsChairOf {N : Type 0} (b : BoardState N) (c : ChairState N) : Type 0 where
   pub name : c.board ≡ b.name
   pub geometry : c.geometry ≡ b.geometry
-  pub sat : HasSat b c.actor
-  pub up : ¬ HasStood b c.actor
+  pub sits : b.seats c.actor ≡ sitting
 
 -- a lane of a chair on which nothing was done
 pub record IsOpeningLane (l : LaneState) : Type 0 where
@@ -48,11 +48,17 @@ pub record IsOpeningChair {N : Type 0} (b : BoardState N) (actor : ℕ) (c : Cha
   pub view : c.view ≡ opening b.geometry actor
   pub candidates : IsOpeningLane c.candidates
   pub pending : IsOpeningLane c.pending
+  pub others : c.others ≡ None
   pub board : c.board ≡ b.name
 
--- every other actor that has sat has stood
+-- no other actor sits
 abbrev pub IsLast : {N : Type 0} → BoardState N → ChairState N → Type 0
-IsLast b c = (actor : ℕ) → HasSat b actor → actor ≢ c.actor → HasStood b actor
+IsLast b c = (actor : ℕ) → actor ≢ c.actor → b.seats actor ≢ sitting
+
+-- the lane lists of those that have stood: the chair tells them once it was given rest, and else the board
+abbrev pub told_lanes : Option (ℕ → LaneLists) → (ℕ → LaneLists) → ℕ → LaneLists
+told_lanes None lanes = lanes
+told_lanes (Some others) lanes = others
 
 -- how often a page was put, and taken, in a lane list
 abbrev pub is_put : ℕ → LaneMove → Bool
@@ -79,25 +85,39 @@ pub record IsRestedLane (capacity : ℕ) (lists : List (List LaneMove)) (old new
   pub is : new ≡ record old { held = new.held }
   pub held : IsSomeAnd new.held (IsRest capacity lists)
 
--- the lane lists of all chairs, those of the chairs that have stood and this one
+-- the lane lists of an actor by its seat: only those that have stood have any
+abbrev pub stood_lanes : Seat → LaneLists → LaneLists
+stood_lanes (stood _) lists = lists
+stood_lanes _ lists = record { candidates = []; pending = [] }
+
+-- the lane lists of all actors that have stood
+abbrev pub all_stood : {N : Type 0} → BoardState N → ChairState N → List LaneLists
+all_stood b c = map (λ a. stood_lanes (b.seats a) (told_lanes c.others b.lanes a)) (range_with_len 0 (b.geometry.cpus + 2))
+
+-- the lane lists of all chairs, those of the actors that have stood and this one
 abbrev pub all_candidates : {N : Type 0} → BoardState N → ChairState N → List (List LaneMove)
-all_candidates b c = map (λ s. s.lists.candidates) b.stood ++ c.candidates.moves ∷ []
+all_candidates b c = map (λ l. l.candidates) (all_stood b c) ++ c.candidates.moves ∷ []
 
 abbrev pub all_pending : {N : Type 0} → BoardState N → ChairState N → List (List LaneMove)
-all_pending b c = map (λ s. s.lists.pending) b.stood ++ c.pending.moves ∷ []
+all_pending b c = map (λ l. l.pending) (all_stood b c) ++ c.pending.moves ∷ []
 
 -- a chair after rest
 pub record IsRested {N : Type 0} (b : BoardState N) (old new : ChairState N) : Type 0 where
-  pub is : new ≡ record old { candidates = new.candidates; pending = new.pending }
+  pub is : new ≡ record old { candidates = new.candidates; pending = new.pending; others = Some (told_lanes old.others b.lanes) }
   pub candidates : IsRestedLane b.candidates (all_candidates b old) old.candidates new.candidates
   pub pending : IsRestedLane b.pending (all_pending b old) old.pending new.pending
 
--- the lists of a chair
-abbrev pub lists_of : {N : Type 0} → ChairState N → Lists
-lists_of c = record { own = c.own; candidates = c.candidates.moves; pending = c.pending.moves }
+-- a board after its last chair was given rest: that chair tells the lane lists of the others from then on
+abbrev pub IsRestedBoard : {N : Type 0} → BoardState N → BoardState N → Type 0
+IsRestedBoard old new = new ≡ record old { lanes = new.lanes; rested = true }
+
+-- the lane lists of a chair
+abbrev pub lanes_of : {N : Type 0} → ChairState N → LaneLists
+lanes_of c = record { candidates = c.candidates.moves; pending = c.pending.moves }
 
 abbrev pub with_sat : {N : Type 0} → ℕ → BoardState N → BoardState N
-with_sat actor b = record b { sat = b.sat ++ actor ∷ [] }
+with_sat actor b = record b { seats = with_entry actor sitting b.seats }
 
+-- a board to which a chair was given back: it tells the own list of that chair, and the lane lists of all that have stood
 abbrev pub with_stood : {N : Type 0} → ChairState N → BoardState N → BoardState N
-with_stood c b = record b { stood = b.stood ++ (record { actor = c.actor; lists = lists_of c }) ∷ [] }
+with_stood c b = record b { seats = with_entry c.actor (stood c.own) b.seats; lanes = with_entry c.actor (lanes_of c) (told_lanes c.others b.lanes) }

@@ -1,5 +1,5 @@
 -- What a chair tells: which actor's it is, what that actor did, and its lanes.
-use Rattle.std.specs.Prelude.{ℕ, [], ◌∷◌, ◌++◌}
+use Rattle.std.specs.Prelude.{ℕ, [], ◌∷◌, ◌++◌, Option}
 use Rattle.nm_base.specs.Geometry.{Geometry}
 use Rattle.nm_action.specs.declared.action.Action.{Action}
 use Rattle.nm_action.specs.declared.action.Reply.{Reply}
@@ -8,9 +8,10 @@ use Rattle.nm_action.specs.declared.turn.Lane.TheVariants.{Candidates, Pending}
 use Rattle.nm_view.specs.Views.{View}
 use Rattle.nm_event.specs.After.{after_of}
 use Rattle.nm_action.specs.Own.{Own}
-use Rattle.nm_actor.specs.Lanes.{LaneState}
+use Rattle.nm_actor.specs.Lanes.{LaneLists, LaneState}
 
--- the geometry, the actor, its own list and its view; its two lanes; and the name of the board
+-- the geometry, the actor, its own list and its view; its two lanes; once the chair was given rest, the lane lists of the
+-- actors that stood before, by actor; and the name of the board
 pub record ChairState (N : Type 0) : Type 0 where
   pub geometry : Geometry
   pub actor : ℕ
@@ -18,6 +19,7 @@ pub record ChairState (N : Type 0) : Type 0 where
   pub view : View
   pub candidates : LaneState
   pub pending : LaneState
+  pub others : Option (ℕ → LaneLists)
   pub board : N
 
 abbrev pub lane_of : {N : Type 0} → Lane → ChairState N → LaneState

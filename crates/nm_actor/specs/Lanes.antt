@@ -1,12 +1,18 @@
 -- What a chair tells of a lane, and what a put and a take change of it.
-use Rattle.std.specs.Prelude.{◌≡◌, ℕ, ◌<◌, List, [], ◌∷◌, ◌++◌, length, Option, Some, None, IfSome, Result, Ok, Err}
+use Rattle.std.specs.Prelude.{◌≡◌, ℕ, ◌<◌, ◌≤◌, List, [], ◌∷◌, ◌++◌, length, Option, Some, None, IfSome, Result, Ok, Err}
 use Rattle.std.specs.Option.{option_map}
+use Rattle.nm_io.specs.Count.{Rose}
 use Rattle.nm_action.specs.declared.turn.Full.{Full}
 
 -- a page that an actor put into a lane, or took from it
 pub data LaneMove : Type 0 where
   put : ℕ → LaneMove
   took : ℕ → LaneMove
+
+-- the lane lists of an actor: the pages that it put and took in each lane, in order
+pub record LaneLists : Type 0 where
+  pub candidates : List LaneMove
+  pub pending : List LaneMove
 
 -- the pages that a lane holds, in the order in which they were put, and how many it can hold
 pub record Held : Type 0 where
@@ -26,19 +32,20 @@ abbrev pub held_with : ℕ → Held → Held
 held_with page h = record h { pages = h.pages ++ page ∷ [] }
 
 -- a page was put into the lane, which had room
-pub record IsPut (page : ℕ) (old new : LaneState) : Type 0 where
+pub record IsPagePut (page : ℕ) (old new : LaneState) : Type 0 where
   pub room : IfSome old.held (λ h. length h.pages < h.capacity)
   pub is : new ≡ record old { moves = old.moves ++ put page ∷ []; held = option_map (held_with page) old.held }
 
 -- a put found the lane full
 pub record IsFull (old new : LaneState) : Type 0 where
   pub full : IfSome old.held (λ h. length h.pages ≡ h.capacity)
-  pub rose : old.fulls < new.fulls
+  pub rose : Rose old.fulls new.fulls
+  pub kept : old.fulls ≤ new.fulls
   pub is : new ≡ record old { fulls = new.fulls }
 
 -- what a put answers
 abbrev pub IsPutAnswer : ℕ → LaneState → LaneState → Result Unit Full → Type 0
-IsPutAnswer page old new (Ok _) = IsPut page old new
+IsPutAnswer page old new (Ok _) = IsPagePut page old new
 IsPutAnswer page old new (Err _) = IsFull old new
 
 -- a lane holds the same pages but for one of this number
@@ -56,17 +63,18 @@ IsHeldWithout page (Some _) None = ⊥
 IsHeldWithout page (Some old) (Some new) = IsWithout page old new
 
 -- a page was taken from the lane
-pub record IsTaken (page : ℕ) (old new : LaneState) : Type 0 where
+pub record IsPageTaken (page : ℕ) (old new : LaneState) : Type 0 where
   pub held : IsHeldWithout page old.held new.held
   pub is : new ≡ record old { moves = old.moves ++ took page ∷ []; held = new.held }
 
 -- a take found the lane empty
 pub record IsEmpty (old new : LaneState) : Type 0 where
   pub empty : IfSome old.held (λ h. h.pages ≡ [])
-  pub rose : old.empties < new.empties
+  pub rose : Rose old.empties new.empties
+  pub kept : old.empties ≤ new.empties
   pub is : new ≡ record old { empties = new.empties }
 
 -- what a take answers
 abbrev pub IsTakeAnswer : LaneState → LaneState → Option ℕ → Type 0
-IsTakeAnswer old new (Some page) = IsTaken page old new
+IsTakeAnswer old new (Some page) = IsPageTaken page old new
 IsTakeAnswer old new None = IsEmpty old new

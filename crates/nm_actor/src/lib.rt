@@ -3,8 +3,6 @@
 #![tactic(auto)]
 
 pub mod actor;
-#[cfg(test)]
-mod alone;
 pub mod board;
 pub mod chair;
 pub mod drive;

@@ -1,3 +1,3 @@
 pub mod OwnLemmas
 pub mod Inside
-pub mod Nesting
+pub mod Patterns

@@ -6,7 +6,7 @@ use Rattle.nm_action.specs.declared.action.Reply.{Reply}
 use Rattle.nm_view.specs.Views.{View}
 use Rattle.nm_event.specs.After.{after_of, view_after}
 use Rattle.nm_action.specs.Own.{Own}
-use Rattle.nm_part.specs.Parts.{IsBegun}
+use Rattle.nm_part.specs.Parts.{IsBegun, IsBegunWith}
 
 -- the view after two lists
 pub view-append : (g : Geometry) (v : View) (a b : Own) → view_after g v (a ++ b) ≡ view_after g (view_after g v a) b
@@ -24,3 +24,7 @@ begun-front shape own more h = record {
   outcome = h.outcome;
   whole = let P : Own → Type 0 = λ l. shape l h.outcome in subst P (append_assoc own more h.rest) h.whole;
 }
+
+-- so can a list that can be carried on with an action more
+pub begun-with : {O : Type 0} (shape : Own → O → Type 0) (own : Own) (action : Action) → IsBegunWith shape own action → IsBegun shape own
+begun-with shape own action h = begun-front shape own ((action, h.reply) ∷ []) h.begun

@@ -3,4 +3,3 @@ pub mod Scans
 pub mod Views
 pub mod Begun
 pub mod Steps
-pub mod Played

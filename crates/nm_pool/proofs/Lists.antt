@@ -11,7 +11,7 @@ use Rattle.nm_base.specs.Geometry.{Geometry, first_frame}
 use Rattle.nm_action.specs.declared.action.Action.TheVariants.{TakeTurn, Scan}
 use Rattle.nm_action.specs.declared.action.Reply.TheVariants.{Word, Busy}
 use Rattle.nm_action.specs.Own.{Own}
-use Rattle.nm_pool.specs.Pool.{refused, scanned, free_count, IsFree}
+use Rattle.nm_pool.specs.Pool.{refused, scanned, free_bits, IsFree}
 
 pub refused-push : (tier : ℕ) (ws : List ℕ) (w : ℕ) → refused tier (ws ++ w ∷ []) ≡ refused tier ws ++ (TakeTurn tier, Busy w) ∷ []
 refused-push tier [] w = refl
@@ -21,8 +21,8 @@ pub scanned-push : (tier k n : ℕ) (ws : List ℕ) (w : ℕ) → n ≡ k + leng
 scanned-push tier k n [] w e = rw (e, add-zero k) refl
 scanned-push tier k n (x ∷ ws) w e = ap (λ (l : Own). (Scan tier k, Word x) ∷ l) (scanned-push tier (k + 1) n ws w (omega (arith, e)))
 
-pub count-push : (ws : List ℕ) (w : ℕ) → free_count (ws ++ w ∷ []) ≡ free_count ws + count_ones w
-count-push ws w = sum_by-append count_ones ws (w ∷ []) ∙ ap (λ n. free_count ws + n) (zero-add (count_ones w))
+pub count-push : (ws : List ℕ) (w : ℕ) → free_bits (ws ++ w ∷ []) ≡ free_bits ws + count_ones w
+count-push ws w = sum_by-append count_ones ws (w ∷ []) ∙ ap (λ n. free_bits ws + n) (zero-add (count_ones w))
 
 -- the tiers before the next one have this tier's frames more
 pub first-next : (g : Geometry) (t : ℕ) → t < length g.tiers → first_frame g (t + 1) ≡ first_frame g t + get_or g.tiers t 0

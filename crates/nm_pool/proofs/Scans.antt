@@ -8,7 +8,8 @@ use Rattle.std.specs.Int.{bit_at, w64}
 use Rattle.nm_base.specs.Geometry.{Geometry, first_frame}
 use Rattle.nm_view.specs.declared.view.Scanned.{Scanned}
 use Rattle.nm_view.specs.Views.{View}
-use Rattle.nm_event.specs.After.{scanned_word, least_with, least_bit}
+use Rattle.nm_base.specs.FreeWords.{least_bit}
+use Rattle.nm_event.specs.After.{scanned_word, least_with}
 use Rattle.nm_view.specs.Opening.{unscanned}
 use Rattle.nm_event.specs.Fitting.{IsScanOf}
 use Rattle.nm_pool.specs.Pool.{IsFree, IsLeastFree}

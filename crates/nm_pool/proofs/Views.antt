@@ -20,7 +20,7 @@ use Rattle.nm_pool.specs.declared.job.PoolEnd.TheVariants as ends
 use Rattle.nm_pool.specs.declared.task.Stage.TheVariants.{Scanning, Giving, Releasing}
 use Rattle.nm_pool.specs.Pool.{tier_for, refused, scanned, IsLeastFree, IsWork}
 use Rattle.nm_pool.specs.Given.{pool_made, MayWork, MayBegin, released, IsGiven, Leaves}
-use Rattle.nm_pool.specs.Stages.{next_stage, taking, HasScanned, HasTurn, IsTurning, IsScanning, IsScanJob, IsReleasing, IsAt}
+use Rattle.nm_pool.specs.Stages.{next_stage, taking, HasScanned, HasTurn, IsTurning, IsScanning, IsScanJob, IsReleasing, IsAtStage}
 use Rattle.nm_pool.proofs.Lists.{refused-push, scanned-push}
 use Rattle.nm_pool.proofs.Scans.{scan-push, scan-none}
 
@@ -99,27 +99,27 @@ whole : (g : Geometry) (v : View) (job : PoolJob) (own : Own) (scan : Scanned) �
 whole g v job own scan h ge = omega (arith, h.has.count, h.within, ge)
 
 take_go : (g : Geometry) (v : View) (tier floor : ℕ) (own : Own) (scan : Scanned) → IsScanning (pool_made g (Take tier floor)) g v own scan → free_words g tier ≤ scan.words → (f : ℕ) → scan.least ≡ Some f → (b : Bool) → nat_lt floor scan.sum ≡ b
-    → IsAt (pool_made g (Take tier floor)) scan (if b then Giving f else Releasing (ends.AtFloor scan.sum)) g v own
+    → IsAtStage (pool_made g (Take tier floor)) scan (if b then Giving f else Releasing (ends.AtFloor scan.sum)) g v own
 take_go g v tier floor own scan h ge f e true b = (h, ge, e, grind (arith, b))
 take_go g v tier floor own scan h ge f e false b = at-summed g v (Take tier floor) own scan (ends.AtFloor scan.sum) h (record { words = h.words; all = whole g v (Take tier floor) own scan h ge; sum = h.has.sum; is = refl }, grind (arith, b)) refl
 
 least_go : (g : Geometry) (v : View) (tier floor : ℕ) (own : Own) (scan : Scanned) → IsScanning (pool_made g (Take tier floor)) g v own scan → free_words g tier ≤ scan.words → (l : Option ℕ) → scan.least ≡ l
-    → IsAt (pool_made g (Take tier floor)) scan (taking floor scan.sum l) g v own
+    → IsAtStage (pool_made g (Take tier floor)) scan (taking floor scan.sum l) g v own
 least_go g v tier floor own scan h ge None e = at-summed g v (Take tier floor) own scan (ends.AtFloor scan.sum) h (record { words = h.words; all = whole g v (Take tier floor) own scan h ge; sum = h.has.sum; is = refl }, omega (arith, h.has.some e)) refl
 least_go g v tier floor own scan h ge (Some f) e = take_go g v tier floor own scan h ge f e (nat_lt floor scan.sum) refl
 
 more_take : (g : Geometry) (v : View) (tier floor : ℕ) (own : Own) (scan : Scanned) → IsScanning (pool_made g (Take tier floor)) g v own scan → (b : Bool) → nat_lt scan.words (free_words g tier) ≡ b
-    → IsAt (pool_made g (Take tier floor)) scan (if b then Scanning else taking floor scan.sum scan.least) g v own
+    → IsAtStage (pool_made g (Take tier floor)) scan (if b then Scanning else taking floor scan.sum scan.least) g v own
 more_take g v tier floor own scan h true e = (h, grind (arith, e), tt)
 more_take g v tier floor own scan h false e = least_go g v tier floor own scan h (grind (arith, e)) scan.least refl
 
 more_level : (g : Geometry) (v : View) (tier : ℕ) (own : Own) (scan : Scanned) → IsScanning (pool_made g (Level tier)) g v own scan → (b : Bool) → nat_lt scan.words (free_words g tier) ≡ b
-    → IsAt (pool_made g (Level tier)) scan (if b then Scanning else Releasing (ends.Level scan.sum)) g v own
+    → IsAtStage (pool_made g (Level tier)) scan (if b then Scanning else Releasing (ends.Level scan.sum)) g v own
 more_level g v tier own scan h true e = (h, grind (arith, e), tt)
 more_level g v tier own scan h false e = at-summed g v (Level tier) own scan (ends.Level scan.sum) h (record { words = h.words; all = whole g v (Level tier) own scan h (grind (arith, e)); sum = h.has.sum; is = refl }) refl
 
 -- the stage after a word was scanned
-pub at-next : (g : Geometry) (v : View) (job : PoolJob) (own : Own) (scan : Scanned) → IsScanJob job → IsScanning (pool_made g job) g v own scan → IsAt (pool_made g job) scan (next_stage (pool_made g job) scan) g v own
+pub at-next : (g : Geometry) (v : View) (job : PoolJob) (own : Own) (scan : Scanned) → IsScanJob job → IsScanning (pool_made g job) g v own scan → IsAtStage (pool_made g job) scan (next_stage (pool_made g job) scan) g v own
 at-next g v (Take tier floor) own scan is h = more_take g v tier floor own scan h (nat_lt scan.words (free_words g tier)) refl
 at-next g v (Level tier) own scan is h = more_level g v tier own scan h (nat_lt scan.words (free_words g tier)) refl
 at-next g v (Back frame) own scan is h = absurd is
@@ -132,13 +132,13 @@ at-start g v job own scan e h = let P : Scanned → Type 0 = λ s. HasScanned g 
   has = subst P (sym e) (scan-none g (tier_for g job) v);
 }
 
-turn_go : (g : Geometry) (v : View) (job : PoolJob) (own : Own) (scan : Scanned) → scan ≡ unscanned → HasTurn (pool_made g job) g v own [] scan → IsAt (pool_made g job) scan (next_stage (pool_made g job) scan) g v own
+turn_go : (g : Geometry) (v : View) (job : PoolJob) (own : Own) (scan : Scanned) → scan ≡ unscanned → HasTurn (pool_made g job) g v own [] scan → IsAtStage (pool_made g job) scan (next_stage (pool_made g job) scan) g v own
 turn_go g v (Take tier floor) own scan e h = at-next g v (Take tier floor) own scan tt (at-start g v (Take tier floor) own scan e h)
 turn_go g v (Level tier) own scan e h = at-next g v (Level tier) own scan tt (at-start g v (Level tier) own scan e h)
 turn_go g v (Back frame) own scan e h = (h, refl)
 
 -- the stage after the turn was had
-pub at-turn : (g : Geometry) (v : View) (job : PoolJob) (own : Own) (scan : Scanned) → IsTurning (pool_made g job) g v own scan → IsAt (pool_made g job) scan (next_stage (pool_made g job) scan) g v (own ++ (TakeTurn (tier_for g job), Done) ∷ [])
+pub at-turn : (g : Geometry) (v : View) (job : PoolJob) (own : Own) (scan : Scanned) → IsTurning (pool_made g job) g v own scan → IsAtStage (pool_made g job) scan (next_stage (pool_made g job) scan) g v (own ++ (TakeTurn (tier_for g job), Done) ∷ [])
 at-turn g v job own scan h = turn_go g v job (own ++ (TakeTurn (tier_for g job), Done) ∷ []) scan h.none (turn-had g v job own scan h)
 
 -- Frames.
@@ -147,7 +147,7 @@ given_least : (g : Geometry) (tier : ℕ) (v : View) (words : List ℕ) (scan : 
 given_least g tier v words scan f h e = rw e at h.least
 
 -- a frame was given
-pub at-given : (g : Geometry) (v : View) (job : PoolJob) (own : Own) (scan : Scanned) (f old : ℕ) → IsAt (pool_made g job) scan (Giving f) g v own → IsReleasing (pool_made g job) g v (own ++ (GiveFrame f, Word old) ∷ []) (ends.Got f)
+pub at-given : (g : Geometry) (v : View) (job : PoolJob) (own : Own) (scan : Scanned) (f old : ℕ) → IsAtStage (pool_made g job) scan (Giving f) g v own → IsReleasing (pool_made g job) g v (own ++ (GiveFrame f, Word old) ∷ []) (ends.Got f)
 at-given g v (Take tier floor) own scan f old (h, ge, e, more) =
     let least = given_least g tier v h.words scan f h.has e in
     let now : view_after g v (own ++ (GiveFrame f, Word old) ∷ []) ≡ after_of g (record v { turn = Some tier; scan = scan }) (GiveFrame f) (Word old) = view-push g v own (GiveFrame f) (Word old) ∙ rw h.turn.now refl in

@@ -1,10 +1,11 @@
 -- When a pool task may begin, and the view that it leaves.
-use Rattle.std.specs.Prelude.{◌≡◌, ◌≢◌, ℕ, ◌+◌, ◌<◌, length, None, Some, IsSome, All}
+use Rattle.std.specs.Prelude.{◌≡◌, ◌≢◌, ℕ, ◌<◌, length, None, Some, IsSome, All}
 use Rattle.nm_base.specs.Geometry.{Geometry, IsGeometry, IsInTier, first_frame, frame_count}
 use Rattle.nm_view.specs.declared.view.Fill.TheVariants.{Raw}
 use Rattle.nm_view.specs.Lists.{find, erase}
 use Rattle.nm_view.specs.Views.{View}
 use Rattle.nm_base.specs.FreeWords.{free_words}
+use Rattle.nm_base.specs.HomeWord.{home_word}
 use Rattle.nm_view.specs.Operations.{owned_frame}
 use Rattle.nm_event.specs.After.{owning}
 use Rattle.nm_view.specs.Opening.{unscanned}
@@ -41,7 +42,7 @@ released view = record view { turn = None; scan = unscanned }
 pub record IsGiven (g : Geometry) (tier : ℕ) (view : View) (frame : ℕ) : Type 0 where
   pub there : IsInTier g frame tier
   pub fresh : IsNotOwned view frame
-  pub homeless : All (λ o. o.home ≢ Some (frame + 1)) view.ops
+  pub homeless : All (λ o. o.home ≢ Some (home_word frame)) view.ops
 
 -- the view that a task leaves: the turn is released; a frame that was given is owned and raw, one that was put back is
 -- owned no more

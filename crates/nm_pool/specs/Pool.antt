@@ -28,8 +28,8 @@ scanned tier k [] = []
 scanned tier k (w ∷ ws) = (Scan tier k, Word w) ∷ scanned tier (k + 1) ws
 
 -- how many frames are free by these words
-abbrev pub free_count : List ℕ → ℕ
-free_count words = sum_by count_ones words
+abbrev pub free_bits : List ℕ → ℕ
+free_bits words = sum_by count_ones words
 
 -- a frame is free by the words of its tier
 pub record IsFree (g : Geometry) (tier : ℕ) (words : List ℕ) (frame : ℕ) : Type 0 where
@@ -45,11 +45,11 @@ pub record IsLeastFree (g : Geometry) (tier : ℕ) (words : List ℕ) (frame : �
   pub least : (other : ℕ) → IsFree g tier words other → frame ≤ other
 
 -- more frames than the floor are free, and the least of them is given
-pub record IsTaking (g : Geometry) (tier floor : ℕ) (own : Own) (frame : ℕ) : Type 0 where
+pub record IsFrameTaken (g : Geometry) (tier floor : ℕ) (own : Own) (frame : ℕ) : Type 0 where
   pub words : List ℕ
   pub old : ℕ
   pub all : length words ≡ free_words g tier
-  pub more : floor < free_count words
+  pub more : floor < free_bits words
   pub least : IsLeastFree g tier words frame
   pub is : own ≡ scanned tier 0 words ++ (GiveFrame frame, Word old) ∷ []
 
@@ -57,7 +57,7 @@ pub record IsTaking (g : Geometry) (tier floor : ℕ) (own : Own) (frame : ℕ) 
 pub record IsSummed (g : Geometry) (tier : ℕ) (own : Own) (n : ℕ) : Type 0 where
   pub words : List ℕ
   pub all : length words ≡ free_words g tier
-  pub sum : n ≡ free_count words
+  pub sum : n ≡ free_bits words
   pub is : own ≡ scanned tier 0 words
 
 -- a frame is put back
@@ -67,7 +67,7 @@ pub record IsPutting (frame : ℕ) (own : Own) : Type 0 where
 
 -- what a job does under the turn, and its outcome
 abbrev pub IsWork : Geometry → PoolJob → Own → PoolEnd → Type 0
-IsWork g (Take tier floor) own (ends.Got frame) = IsTaking g tier floor own frame
+IsWork g (Take tier floor) own (ends.Got frame) = IsFrameTaken g tier floor own frame
 IsWork g (Take tier floor) own (ends.AtFloor n) = IsSummed g tier own n × (n ≤ floor)
 IsWork g (Take tier floor) own (ends.Level n) = ⊥
 IsWork g (Take tier floor) own ends.Back = ⊥

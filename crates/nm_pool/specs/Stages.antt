@@ -17,23 +17,23 @@ use Rattle.nm_pool.specs.declared.job.PoolEnd.TheVariants as ends
 use Rattle.nm_pool.specs.declared.task.PoolTask.{PoolTask}
 use Rattle.nm_pool.specs.declared.task.Stage.{Stage}
 use Rattle.nm_pool.specs.declared.task.Stage.TheVariants.{New, Turning, Scanning, Giving, Putting, Releasing}
-use Rattle.nm_pool.specs.Pool.{refused, scanned, free_count, IsFree, IsLeastFree, IsWork}
+use Rattle.nm_pool.specs.Pool.{refused, scanned, free_bits, IsFree, IsLeastFree, IsWork}
 use Rattle.nm_pool.specs.Given.{MayBegin, released, IsGiven, Leaves}
 
 abbrev pub made_of : PoolTask → PoolMade
 made_of task = task.made
 
-abbrev pub IsNewStage : Stage → Type 0
-IsNewStage New = Unit {0}
-IsNewStage Turning = ⊥
-IsNewStage Scanning = ⊥
-IsNewStage (Giving _) = ⊥
-IsNewStage (Putting _) = ⊥
-IsNewStage (Releasing _) = ⊥
+abbrev pub IsNewPoolStage : Stage → Type 0
+IsNewPoolStage New = Unit {0}
+IsNewPoolStage Turning = ⊥
+IsNewPoolStage Scanning = ⊥
+IsNewPoolStage (Giving _) = ⊥
+IsNewPoolStage (Putting _) = ⊥
+IsNewPoolStage (Releasing _) = ⊥
 
 -- a task that has not begun has scanned nothing
-pub record IsNew (task : PoolTask) : Type 0 where
-  pub stage : IsNewStage task.stage
+pub record IsNewPool (task : PoolTask) : Type 0 where
+  pub stage : IsNewPoolStage task.stage
   pub scan : task.scan ≡ unscanned
 
 -- The next step.
@@ -66,7 +66,7 @@ next_stage made scan = working made.job (nat_lt scan.words made.words) scan
 -- a scan so far: its numbers are those of the words
 pub record HasScanned (g : Geometry) (tier : ℕ) (view : View) (words : List ℕ) (scan : Scanned) : Type 0 where
   pub count : scan.words ≡ length words
-  pub sum : scan.sum ≡ free_count words
+  pub sum : scan.sum ≡ free_bits words
   pub few : scan.sum ≤ 64 * length words
   pub some : scan.least ≡ None → scan.sum ≡ 0
   pub least : MatchOption scan.least ((frame : ℕ) → ¬ IsFree g tier words frame) (λ frame. IsLeastFree g tier words frame × IsGiven g tier view frame)
@@ -114,17 +114,17 @@ pub record IsReleasing (made : PoolMade) (g : Geometry) (view : View) (own : Own
   pub turn : (view_after g view own).turn ≡ Some made.tier
   pub left : Leaves g made.job view end (released (view_after g view own))
 
-abbrev pub IsAt : PoolMade → Scanned → Stage → Geometry → View → Own → Type 0
-IsAt made scan New g view own = ⊥
-IsAt made scan Turning g view own = IsTurning made g view own scan
-IsAt made scan Scanning g view own = IsScanning made g view own scan × (scan.words < made.words) × IsScanJob made.job
-IsAt made scan (Giving frame) g view own = IsScanning made g view own scan × (made.words ≤ scan.words) × (scan.least ≡ Some frame) × IsTakeJob made.job scan.sum
-IsAt made scan (Putting frame) g view own = HasTurn made g view own [] scan × (made.job ≡ Back frame)
-IsAt made scan (Releasing end) g view own = IsReleasing made g view own end
+abbrev pub IsAtStage : PoolMade → Scanned → Stage → Geometry → View → Own → Type 0
+IsAtStage made scan New g view own = ⊥
+IsAtStage made scan Turning g view own = IsTurning made g view own scan
+IsAtStage made scan Scanning g view own = IsScanning made g view own scan × (scan.words < made.words) × IsScanJob made.job
+IsAtStage made scan (Giving frame) g view own = IsScanning made g view own scan × (made.words ≤ scan.words) × (scan.least ≡ Some frame) × IsTakeJob made.job scan.sum
+IsAtStage made scan (Putting frame) g view own = HasTurn made g view own [] scan × (made.job ≡ Back frame)
+IsAtStage made scan (Releasing end) g view own = IsReleasing made g view own end
 
-pub record AwaitsAt (made : PoolMade) (scan : Scanned) (stage : Stage) (g : Geometry) (view : View) (own : Own) (action : Action) : Type 0 where
-  pub at : IsAt made scan stage g view own
+pub record AwaitsPoolAt (made : PoolMade) (scan : Scanned) (stage : Stage) (g : Geometry) (view : View) (own : Own) (action : Action) : Type 0 where
+  pub at : IsAtStage made scan stage g view own
   pub is : action ≡ action_at made scan stage
 
-abbrev pub Awaits : PoolTask → Geometry → View → Own → Action → Type 0
-Awaits task g view own action = AwaitsAt task.made task.scan task.stage g view own action
+abbrev pub AwaitsPool : PoolTask → Geometry → View → Own → Action → Type 0
+AwaitsPool task g view own action = AwaitsPoolAt task.made task.scan task.stage g view own action

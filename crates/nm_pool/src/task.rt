@@ -3,17 +3,16 @@
 ghost use Rattle.std.specs.Prelude.{◌≡◌, ◌<◌, ◌≤◌, ◌+◌, ◌*◌, ◌^◌, [], ◌∷◌, length, count_ones, IfOk};
 ghost use Rattle.nm_base.specs.Geometry.{IsGeometry, frame_count};
 ghost use Rattle.nm_action.specs.declared.turn.Step.TheVariants.{Do};
-ghost use Rattle.nm_base.specs.FreeWords.{free_words};
-ghost use Rattle.nm_event.specs.After.{scanned_word, least_with, least_bit};
+ghost use Rattle.nm_event.specs.After.{scanned_word};
 ghost use Rattle.nm_pool.specs.declared.job.PoolJob.{PoolJob};
 ghost use Rattle.nm_pool.specs.Pool.{tier_for};
 ghost use Rattle.nm_pool.specs.Given.{pool_made};
-ghost use Rattle.nm_pool.specs.Stages.{made_of, IsNew, action_at, next_stage, taking};
+ghost use Rattle.nm_pool.specs.Stages.{made_of, IsNewPool, action_at, next_stage, taking};
 
 use crate::job::{PoolEnd, PoolJob, PoolMade};
 use nm_base::Geometry;
-use nm_event::{Action, Reply, Scanned, Step};
-use nm_part::Part;
+use nm_event::{Action, Reply, Scanned, Step, scanned_word};
+use nm_part::{Part, Piece};
 
 /// How far a task has come.
 #[derive(Clone, Copy, Debug, PartialEq, Eq)]
@@ -41,45 +40,13 @@ pub struct PoolTask {
     stage: Stage,
 }
 
-/// How many words the free frames of a tier have.
-fn free_words(g: &Geometry, tier: u32) -> u32
-    requires { tier < length g.now.tiers }
-    ensures { result ≡ free_words g.now tier }
-{
-    (g.tiers[tier as usize] + 63) / 64
-}
-
-/// The place of the lowest bit that is set.
-#[tactic(auto, unfolding(nm_event::specs::After::least_bit))]
-fn least_bit(word: u64) -> u32
-    ensures value { result ≡ least_bit word }
-    ensures bound { result ≤ 64 }
-{
-    word.trailing_zeros()
-}
-
-/// The least frame found so far, after a word whose bit 0 stands for the frame `base`.
-fn least_with(least: Option<u32>, base: u32, word: u64) -> Option<u32>
-    requires { base + 64 < 2 ^ 32 }
-    ensures { result ≡ least_with least base word }
-{
-    match least {
-        Some(frame) => Some(frame),
-        None => if word == 0 {
-            None
-        } else {
-            Some(base + least_bit(word))
-        },
-    }
-}
-
 impl PoolTask {
     /// Takes the least free frame of a tier, where more than `floor` are free. Condition: the tier exists. Where it begins
     /// the view holds no turn.
     pub fn take(g: &Geometry, tier: u32, floor: u32) -> PoolTask
         requires { tier < length g.now.tiers }
         ensures made { made_of result ≡ pool_made g.now (PoolJob.Take tier floor) }
-        ensures new { IsNew result }
+        ensures new { IsNewPool result }
     {
         PoolTask::of(g, PoolJob::Take { tier, floor }, tier)
     }
@@ -88,7 +55,7 @@ impl PoolTask {
     pub fn level(g: &Geometry, tier: u32) -> PoolTask
         requires { tier < length g.now.tiers }
         ensures made { made_of result ≡ pool_made g.now (PoolJob.Level tier) }
-        ensures new { IsNew result }
+        ensures new { IsNewPool result }
     {
         PoolTask::of(g, PoolJob::Level { tier }, tier)
     }
@@ -97,7 +64,7 @@ impl PoolTask {
     pub fn give_back(g: &Geometry, frame: u32) -> PoolTask
         requires { frame < frame_count g.now }
         ensures made { made_of result ≡ pool_made g.now (PoolJob.Back frame) }
-        ensures new { IsNew result }
+        ensures new { IsNewPool result }
     {
         PoolTask::of(g, PoolJob::Back { frame }, g.tier_of(frame))
     }
@@ -107,14 +74,14 @@ impl PoolTask {
         requires exists { tier < length g.now.tiers }
         requires tier { tier ≡ tier_for g.now job }
         ensures made { made_of result ≡ pool_made g.now job }
-        ensures new { IsNew result }
+        ensures new { IsNewPool result }
     {
         PoolTask {
             made: PoolMade {
                 job,
                 tier,
                 base: g.first_frame(tier),
-                words: free_words(g, tier),
+                words: g.free_words(tier),
             },
             scan: Scanned {
                 words: 0,
@@ -126,15 +93,14 @@ impl PoolTask {
     }
 
     /// Comes to a stage, and gives its action.
-    fn go(&mut self, stage: Stage) -> Step<PoolEnd>
+    fn go(&mut self, stage: Stage) -> Action
         ensures stage { self.new ≡ record self.old { stage = stage } }
-        ensures step { result ≡ Do (action_at self.old.made self.old.scan stage) }
+        ensures action { result ≡ action_at self.old.made self.old.scan stage }
     {
         self.stage = stage;
         let tier = self.made.tier;
-        Step::Do(match stage {
-            Stage::New => Action::TakeTurn { tier },
-            Stage::Turning => Action::TakeTurn { tier },
+        match stage {
+            Stage::New | Stage::Turning => Action::TakeTurn { tier },
             Stage::Scanning => Action::Scan {
                 tier,
                 index: self.scan.words,
@@ -142,7 +108,7 @@ impl PoolTask {
             Stage::Giving(frame) => Action::GiveFrame { frame },
             Stage::Putting(frame) => Action::PutFrame { frame },
             Stage::Releasing(_) => Action::ReleaseTurn { tier },
-        })
+        }
     }
 
     /// The stage under the turn, after what was scanned so far.
@@ -166,6 +132,15 @@ impl PoolTask {
         }
     }
 
+    /// Comes to the next stage under the turn, and gives its action.
+    fn go_on(&mut self) -> Action
+        ensures stage { self.new ≡ record self.old { stage = next_stage self.old.made self.old.scan } }
+        ensures action { result ≡ action_at self.old.made self.old.scan (next_stage self.old.made self.old.scan) }
+    {
+        let stage = self.next_stage();
+        self.go(stage)
+    }
+
     /// What was scanned, after one word more.
     fn scanned(&self, word: u64) -> Scanned
         requires base { self.now.made.base + 64 * self.now.scan.words + 64 < 2 ^ 32 }
@@ -173,12 +148,7 @@ impl PoolTask {
         requires sum { self.now.scan.sum + count_ones word < 2 ^ 32 }
         ensures { result ≡ scanned_word (self.now.made.base + 64 * self.now.scan.words) word self.now.scan }
     {
-        let base = self.made.base + 64 * self.scan.words;
-        Scanned {
-            words: self.scan.words + 1,
-            sum: self.scan.sum + word.count_ones(),
-            least: least_with(self.scan.least, base, word),
-        }
+        scanned_word(self.made.base + 64 * self.scan.words, word, self.scan)
     }
 }
 
@@ -201,13 +171,14 @@ impl Part for PoolTask {
 
     type Made = PoolMade;
 
+    ghost use Rattle.nm_part.specs.Parts.{NothingTold};
     ghost use Rattle.nm_pool.specs.Pool.{IsPool};
     ghost use Rattle.nm_pool.specs.Given.{MayBegin, Leaves};
-    ghost use Rattle.nm_pool.specs.Stages.{made_of, IsNew, Awaits};
+    ghost use Rattle.nm_pool.specs.Stages.{made_of, IsNewPool, AwaitsPool};
 
     ghost made = { made_of };
 
-    ghost is_new = { IsNew };
+    ghost is_new = { IsNewPool };
 
     ghost may_begin = { MayBegin };
 
@@ -215,123 +186,38 @@ impl Part for PoolTask {
 
     ghost leaves = { λ made g view end left. Leaves g made.job view end left };
 
-    ghost awaits = { Awaits };
+    ghost awaits = { AwaitsPool };
+
+    ghost ended = { λ task. NothingTold };
 
     fn first(&mut self) -> Step<PoolEnd> {
-        self.go(Stage::Turning)
+        Step::Do(self.start())
     }
 
     fn after(&mut self, reply: Reply) -> Step<PoolEnd> {
         match self.stage {
             Stage::New => unreachable!(),
             Stage::Turning => match reply {
-                Reply::Busy(_) => self.go(Stage::Turning),
-                Reply::Done => {
-                    let stage = self.next_stage();
-                    self.go(stage)
-                }
-                Reply::Word(_) => unreachable!(),
-                Reply::Lost(_) => unreachable!(),
+                Reply::Busy(_) => Step::Do(self.go(Stage::Turning)),
+                Reply::Done => Step::Do(self.go_on()),
+                Reply::Word(_) | Reply::Lost(_) => unreachable!(),
             },
             Stage::Scanning => {
                 let Reply::Word(word) = reply else {
                     unreachable!()
                 };
                 self.scan = self.scanned(word);
-                let stage = self.next_stage();
-                self.go(stage)
+                Step::Do(self.go_on())
             }
-            Stage::Giving(frame) => self.go(Stage::Releasing(PoolEnd::Got(frame))),
-            Stage::Putting(_) => self.go(Stage::Releasing(PoolEnd::Back)),
+            Stage::Giving(frame) => Step::Do(self.go(Stage::Releasing(PoolEnd::Got(frame)))),
+            Stage::Putting(_) => Step::Do(self.go(Stage::Releasing(PoolEnd::Back))),
             Stage::Releasing(end) => Step::Over(end),
         }
     }
 }
 
-#[cfg(test)]
-mod tests {
-    use super::*;
-    use nm_base::VPage;
-    use std::test::Fail;
-
-    // Tiers of 4 and of 8 frames, all of them free.
-    fn geometry(rt: &HostRuntime) -> Result<Geometry, Fail>
-        ensures tiers { IfOk result (λ g. g.tiers ≡ 4 ∷ 8 ∷ []) }
-        ensures limits { IfOk result IsGeometry }
-    {
-        let vpage = VPage {
-            page: 0,
-            writable: true,
-        };
-        Ok(Geometry::new(rt.alloc(), 4, &[4, 8], 1, &[Some(vpage)])?)
-    }
-
-    #[test]
-    fn takes_the_least_frame(rt: HostRuntime) -> Result<(), Fail> {
-        let g = geometry(&rt)?;
-        let mut task = PoolTask::take(&g, 0, 2);
-        let Step::Do(Action::TakeTurn { tier: 0 }) = task.first() else {
-            panic!(rt; "no turn")
-        };
-        let Step::Do(Action::TakeTurn { tier: 0 }) = task.after(Reply::Busy(2)) else {
-            panic!(rt; "not again")
-        };
-        let Step::Do(Action::Scan { tier, index }) = task.after(Reply::Done) else {
-            panic!(rt; "no scan")
-        };
-        if tier != 0 {
-            panic!(rt; "another tier");
-        }
-        if index != 0 {
-            panic!(rt; "another word");
-        }
-        let Step::Do(Action::GiveFrame { frame: 1 }) = task.after(Reply::Word(14)) else {
-            panic!(rt; "no frame")
-        };
-        let Step::Do(Action::ReleaseTurn { tier: 0 }) = task.after(Reply::Word(14)) else {
-            panic!(rt; "no release")
-        };
-        assert_eq!(rt; task.after(Reply::Done), Step::Over(PoolEnd::Got(1)));
-        Ok(())
-    }
-
-    #[test]
-    fn counts_the_free_frames(rt: HostRuntime) -> Result<(), Fail> {
-        let g = geometry(&rt)?;
-        let mut task = PoolTask::level(&g, 1);
-        let Step::Do(Action::TakeTurn { tier: 1 }) = task.first() else {
-            panic!(rt; "no turn")
-        };
-        let Step::Do(Action::Scan { tier, index }) = task.after(Reply::Done) else {
-            panic!(rt; "no scan")
-        };
-        if tier != 1 {
-            panic!(rt; "another tier");
-        }
-        if index != 0 {
-            panic!(rt; "another word");
-        }
-        let Step::Do(Action::ReleaseTurn { tier: 1 }) = task.after(Reply::Word(255)) else {
-            panic!(rt; "no release")
-        };
-        assert_eq!(rt; task.after(Reply::Done), Step::Over(PoolEnd::Level(8)));
-        Ok(())
-    }
-
-    #[test]
-    fn puts_a_frame_back(rt: HostRuntime) -> Result<(), Fail> {
-        let g = geometry(&rt)?;
-        let mut task = PoolTask::give_back(&g, 5);
-        let Step::Do(Action::TakeTurn { tier: 1 }) = task.first() else {
-            panic!(rt; "no turn")
-        };
-        let Step::Do(Action::PutFrame { frame: 5 }) = task.after(Reply::Done) else {
-            panic!(rt; "not put")
-        };
-        let Step::Do(Action::ReleaseTurn { tier: 1 }) = task.after(Reply::Word(0)) else {
-            panic!(rt; "no release")
-        };
-        assert_eq!(rt; task.after(Reply::Done), Step::Over(PoolEnd::Back));
-        Ok(())
+impl Piece for PoolTask {
+    fn start(&mut self) -> Action {
+        self.go(Stage::Turning)
     }
 }

@@ -5,7 +5,7 @@ use Rattle.std.proofs.lemmas.List.Sums.{sum_by-cons}
 use Rattle.nm_base.specs.Geometry.{Geometry, frame_count, first_frame}
 use Rattle.nm_core.specs.declared.ends.Role.{Role}
 use Rattle.nm_core.specs.declared.ends.Role.TheVariants.{Free, Mapped, Shadow, Held}
-use Rattle.nm_core.specs.EndWords.{EndWords, HasRoom}
+use Rattle.nm_core.specs.EndWords.{EndWords, HasEndRoom}
 use Rattle.nm_report.specs.Ends.{SumTo, is_free_role, is_mapped_role, is_shadow_role, is_held_role, tier_frames, tier_roles}
 
 sum-cons : (n : ℕ) (ns : List ℕ) → sum (n ∷ ns) ≡ n + sum ns
@@ -36,7 +36,7 @@ counts-length [] = refl
 counts-length (r ∷ roles) = let e = counts-cons r roles (length roles) (counts-length roles) in omega (arith, e)
 
 -- the four counts of a tier
-pub counts-tier : (g : Geometry) (e : EndWords) (t : ℕ) → HasRoom g e → t < length g.tiers → SumTo (tier_roles g e.roles t) (tier_frames g t)
+pub counts-tier : (g : Geometry) (e : EndWords) (t : ℕ) → HasEndRoom g e → t < length g.tiers → SumTo (tier_roles g e.roles t) (tier_frames g t)
 counts-tier g e t room h =
     let all = counts-length (tier_roles g e.roles t) in
     omega (arith, all, room.roles, first_frame-room g t h, length-take (tier_frames g t) (drop (first_frame g t) e.roles), length-drop (first_frame g t) e.roles)

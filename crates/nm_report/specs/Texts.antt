@@ -10,7 +10,7 @@ use Rattle.nm_script.specs.Items.{line, place_text}
 use Rattle.nm_core.specs.declared.ends.Role.{Role}
 use Rattle.nm_report.specs.declared.line_result.LineResult.{LineResult}
 use Rattle.nm_report.specs.declared.line_result.LineResult.TheVariants.{Loaded, Stored, Added, Met, Missed}
-use Rattle.nm_core.specs.EndWords.{EndWords, HasRoom}
+use Rattle.nm_core.specs.EndWords.{EndWords, HasEndRoom}
 use Rattle.nm_report.specs.Plain.{Report}
 use Rattle.nm_report.specs.Ends.{NamesInRange, is_free_role, is_mapped_role, is_shadow_role, is_held_role, tier_frames, tier_roles, end_home, end_shadow}
 
@@ -139,5 +139,5 @@ pub record IsPrintable (r : Report) : Type 0 where
   pub programs : length r.script.programs ≡ r.script.geometry.cpus
   pub results : length r.results ≡ r.script.geometry.cpus
   pub fits : EachFits r.script.programs r.results
-  pub room : HasRoom r.script.geometry r.end
+  pub room : HasEndRoom r.script.geometry r.end
   pub names : NamesInRange r.script.geometry r.end

@@ -4,7 +4,7 @@ ghost use Rattle.std.specs.Prelude.{◌≡◌, ◌<◌, ◌++◌, map, length, s
 ghost use Rattle.std.specs.Fmt.{decimal};
 ghost use Rattle.nm_base.specs.Geometry.{frame_count, page_count};
 ghost use Rattle.nm_script.specs.Items.{place_text};
-ghost use Rattle.nm_core.specs.EndWords.{HasRoom};
+ghost use Rattle.nm_core.specs.EndWords.{HasEndRoom};
 ghost use Rattle.nm_report.specs.Ends.{NamesInRange, is_free_role, is_mapped_role, is_shadow_role, is_held_role, named_beside};
 ghost use Rattle.nm_report.specs.Texts.{IsPrintable, AllFit, EachFits, report_text, asked_text, given_text, made_text, all_made_text, cpu_text, cpus_text, roles_text, tier_text, tiers_text, shadow_text, home_text, page_text, pages_text, tally_text, faults_text, marks_text, moves_text, work_text, settled_text, counts_text};
 
@@ -259,7 +259,7 @@ fn count_roles(roles: &[Role]) -> RoleCounts
 
 /// Writes a line for each backing page.
 fn push_each_page(out: &mut Vec<u8>, g: &Geometry, end: &EndWords) -> Result<(), AllocError>
-    requires room { HasRoom g.now end.now }
+    requires room { HasEndRoom g.now end.now }
     requires names { NamesInRange g.now end.now }
     ensures { OnOk result (out.new.items ≡ out.old.items ++ pages_text g.now end.now) }
 {

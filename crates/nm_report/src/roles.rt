@@ -1,7 +1,7 @@
 //! The roles of a tier's frames.
 
 ghost use Rattle.std.specs.Prelude.{ℕ, ◌<◌, length};
-ghost use Rattle.nm_core.specs.EndWords.{HasRoom};
+ghost use Rattle.nm_core.specs.EndWords.{HasEndRoom};
 ghost use Rattle.nm_core.specs.State.{State};
 ghost use Rattle.nm_core.specs.EndWords as ends;
 ghost use Rattle.nm_report.specs.Ends.{SumTo, tier_roles, tier_frames};
@@ -12,7 +12,7 @@ use nm_core::EndWords;
 
 /// The frames of a tier that are free, mapped, shadows and held are all of its frames.
 pub fn counts_sum(g: &Geometry, end: &EndWords, tier: u32)
-    requires room { HasRoom g.now end.now }
+    requires room { HasEndRoom g.now end.now }
     requires exists { tier < length g.now.tiers }
     ensures { SumTo (tier_roles g.now end.now.roles tier) (tier_frames g.now tier) }
 {}

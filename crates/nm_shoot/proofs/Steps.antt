@@ -11,13 +11,13 @@ use Rattle.nm_action.specs.declared.turn.Step.{Step}
 use Rattle.nm_action.specs.declared.turn.Step.TheVariants.{Do, Over}
 use Rattle.nm_view.specs.Views.{View}
 use Rattle.nm_action.specs.Own.{Own}
-use Rattle.nm_part.specs.Parts.{IsBegun, IsStep}
+use Rattle.nm_part.specs.Parts.{IsBegun, IsBegunWith, IsPartStep, NothingTold}
 use Rattle.nm_shoot.specs.declared.shoot.Shoot.{Shoot}
 use Rattle.nm_shoot.specs.declared.shoot.Stage.{Stage}
 use Rattle.nm_shoot.specs.declared.shoot.Stage.TheVariants.{Bumping, Seeing}
 use Rattle.nm_shoot.specs.Shootdown.{asked, asked_from, IsAnswered, IsShootdown}
 use Rattle.nm_shoot.specs.Flushed.{MayShoot, IsFlushed}
-use Rattle.nm_shoot.specs.Asking.{IsBumping, HasAsked, IsSeeing, AwaitsAt, Awaits, ask}
+use Rattle.nm_shoot.specs.Asking.{IsBumping, HasAsked, IsSeeing, AwaitsShootAt, AwaitsShoot, ask}
 use Rattle.nm_shoot.proofs.Lists.{All-push, asked-push, asked_from-append, answered-number}
 use Rattle.nm_shoot.proofs.Views.{flushed}
 
@@ -90,40 +90,49 @@ finished cpus g v own cpu number k e h none =
       is = finished_list ((Bump, Word h.old) ∷ []) (asked_from 0 h.words) (asked cpu h.early) _ _ _ h.is (ap (asked cpu) none) (asked_from-append 0 cpu h.words rest (omega (arith, h.each)));
     }
 
--- a shootdown that has asked some can be carried on
-begun : (cpus : ℕ) (g : Geometry) (v : View) (own : Own) (cpu number : ℕ) → cpu < cpus → HasAsked cpus g v own cpu number → IsBegun (IsShootdown cpus) own
+-- a shootdown that asks a processor can be carried on
+begun : (cpus : ℕ) (g : Geometry) (v : View) (own : Own) (cpu number : ℕ) → cpu < cpus → HasAsked cpus g v own cpu number → IsBegunWith (IsShootdown cpus) own (SeeAck cpu)
 unfolding has-next
 begun cpus g v own cpu number lt h =
-    let more : Own = own ++ (SeeAck cpu, Word number) ∷ [] in
     let next = has-next cpus g v own cpu number number (omega arith) lt h in
-    let rest : Own = asked_from (cpu + 1) (replicate (cpus - (cpu + 1)) (number ∷ [])) in
-    let P : Own → Type 0 = λ own. IsShootdown cpus own number in
     record {
-      rest = (SeeAck cpu, Word number) ∷ rest;
-      outcome = number;
-      whole = subst P (append_assoc own ((SeeAck cpu, Word number) ∷ []) rest) (finished cpus g v more (cpu + 1) number (cpus - (cpu + 1)) (omega arith) next refl);
+      reply = Word number;
+      begun = record {
+        rest = asked_from (cpu + 1) (replicate (cpus - (cpu + 1)) (number ∷ []));
+        outcome = number;
+        whole = finished cpus g v (own ++ (SeeAck cpu, Word number) ∷ []) (cpu + 1) number (cpus - (cpu + 1)) (omega arith) next refl;
+      };
     }
 
--- so can one that has not bumped
-pub begun-none : (cpus : ℕ) → IsBegun (IsShootdown cpus) []
-begun-none cpus = record {
-  rest = (Bump, Word 0) ∷ asked_from 0 (replicate cpus (1 ∷ []));
-  outcome = 1;
-  whole = record { old = 0; words = replicate cpus (1 ∷ []); drawn = refl; each = length-replicate cpus (1 ∷ []); answered = answered-number 1 cpus; is = refl };
-}
+-- the shootdown that draws 1, and that each processor answers at once
+abbrev pub some_shootdown : ℕ → Own
+some_shootdown cpus = (Bump, Word 0) ∷ asked_from 0 (replicate cpus (1 ∷ []))
+
+some_shown : (cpus : ℕ) → IsShootdown cpus (some_shootdown cpus) 1
+some_shown cpus = record { old = 0; words = replicate cpus (1 ∷ []); drawn = refl; each = length-replicate cpus (1 ∷ []); answered = answered-number 1 cpus; is = refl }
+
+-- there is a shootdown of each number of processors
+pub some-shootdown : (cpus : ℕ) → IsBegun (IsShootdown cpus) []
+some-shootdown cpus = record { rest = some_shootdown cpus; outcome = 1; whole = some_shown cpus }
+
+-- a shootdown is not over at once
+pub shootdown-acts : (cpus number : ℕ) → ¬ IsShootdown cpus [] number
+shootdown-acts cpus number h = cc h.is
 
 -- the first step
-pub steps-first : (cpus : ℕ) (g : Geometry) (v : View) → MayShoot cpus g v → IsStep (AwaitsAt cpus Bumping) (λ g. IsShootdown cpus) IsFlushed g v [] (Do Bump)
+pub steps-first : (cpus : ℕ) (g : Geometry) (v : View) → MayShoot cpus g v → IsPartStep (AwaitsShootAt cpus Bumping) (λ g. IsShootdown cpus) IsFlushed NothingTold g v [] (Do Bump)
 steps-first cpus g v may = record {
+  quiet = tt;
   permitted = record { range = tt; permitted = may.bump };
   awaited = record { may = may; none = refl; bump = refl };
-  begun = begun-none cpus;
+  begun = record { reply = Word 0; begun = record { rest = asked_from 0 (replicate cpus (1 ∷ [])); outcome = 1; whole = some_shown cpus } };
 }
 
 -- a processor is asked
 asks : (cpus : ℕ) (g : Geometry) (v : View) (own : Own) (cpu number : ℕ) → cpu < cpus → HasAsked cpus g v own cpu number
-    → IsStep (AwaitsAt cpus (Seeing cpu number)) (λ g. IsShootdown cpus) IsFlushed g v own (Do (SeeAck cpu))
+    → IsPartStep (AwaitsShootAt cpus (Seeing cpu number)) (λ g. IsShootdown cpus) IsFlushed NothingTold g v own (Do (SeeAck cpu))
 asks cpus g v own cpu number lt h = record {
+  quiet = tt;
   permitted = record { range = rw (sym h.may.all) lt; permitted = tt };
   awaited = record { has = h; next = lt; see = refl };
   begun = begun cpus g v own cpu number lt h;
@@ -131,26 +140,26 @@ asks cpus g v own cpu number lt h = record {
 
 -- all processors have answered
 ends : (cpus : ℕ) (g : Geometry) (v : View) (own : Own) (cpu number : ℕ) → cpus ≤ cpu → (h : HasAsked cpus g v own cpu number) → h.early ≡ []
-    → IsStep (AwaitsAt cpus (Seeing cpu number)) (λ g. IsShootdown cpus) IsFlushed g v own (Over number)
+    → IsPartStep (AwaitsShootAt cpus (Seeing cpu number)) (λ g. IsShootdown cpus) IsFlushed NothingTold g v own (Over number)
 ends cpus g v own cpu number ge h none =
     let P : Own → Type 0 = λ own. IsShootdown cpus own number in
     let shown : IsShootdown cpus own number = subst P (append-nil own) (finished cpus g v own cpu number 0 (omega (arith, h.within)) h none) in
-    record { shown = shown; left = flushed g v cpus number own h.may.all shown }
+    record { shown = shown; left = flushed g v cpus number own h.may.all shown; over = tt }
 
 seen_go : (cpus : ℕ) (g : Geometry) (v : View) (own : Own) (cpu number : ℕ) (h : HasAsked cpus g v own cpu number) → h.early ≡ [] → (b : Bool) → nat_lt cpu cpus ≡ b
-    → IsStep (AwaitsAt cpus (Seeing cpu number)) (λ g. IsShootdown cpus) IsFlushed g v own (if b then Do (SeeAck cpu) else Over number)
+    → IsPartStep (AwaitsShootAt cpus (Seeing cpu number)) (λ g. IsShootdown cpus) IsFlushed NothingTold g v own (if b then Do (SeeAck cpu) else Over number)
 seen_go cpus g v own cpu number h none true e = asks cpus g v own cpu number (grind (arith, e)) h
 seen_go cpus g v own cpu number h none false e = ends cpus g v own cpu number (grind (arith, e)) h none
 
 -- the step after the bump
 pub steps-bumped : (cpus : ℕ) (g : Geometry) (v : View) (own : Own) (action : Action) (old : ℕ) → IsBumping cpus g v own action
-    → IsStep (AwaitsAt cpus (Seeing 0 (old + 1))) (λ g. IsShootdown cpus) IsFlushed g v (own ++ (action, Word old) ∷ []) (ask cpus 0 (old + 1))
+    → IsPartStep (AwaitsShootAt cpus (Seeing 0 (old + 1))) (λ g. IsShootdown cpus) IsFlushed NothingTold g v (own ++ (action, Word old) ∷ []) (ask cpus 0 (old + 1))
 unfolding has-bumped
 steps-bumped cpus g v own action old b = seen_go cpus g v (own ++ (action, Word old) ∷ []) 0 (old + 1) (has-bumped cpus g v own action old b) refl (nat_lt 0 cpus) refl
 
 -- the step after a word that is too small
 pub steps-again : (cpus : ℕ) (g : Geometry) (v : View) (own : Own) (cpu number word : ℕ) (action : Action) → word < number → IsSeeing cpus g v own cpu number action
-    → IsStep (AwaitsAt cpus (Seeing cpu number)) (λ g. IsShootdown cpus) IsFlushed g v (own ++ (action, Word word) ∷ []) (ask cpus cpu number)
+    → IsPartStep (AwaitsShootAt cpus (Seeing cpu number)) (λ g. IsShootdown cpus) IsFlushed NothingTold g v (own ++ (action, Word word) ∷ []) (ask cpus cpu number)
 steps-again cpus g v own cpu number word action lt s =
     let more : Own = own ++ (SeeAck cpu, Word word) ∷ [] in
     let less : nat_lt cpu cpus ≡ true = grind (arith, s.next) in
@@ -158,7 +167,7 @@ steps-again cpus g v own cpu number word action lt s =
 
 -- the step after a word that is great enough
 pub steps-next : (cpus : ℕ) (g : Geometry) (v : View) (own : Own) (cpu number word : ℕ) (action : Action) → number ≤ word → IsSeeing cpus g v own cpu number action
-    → IsStep (AwaitsAt cpus (Seeing (cpu + 1) number)) (λ g. IsShootdown cpus) IsFlushed g v (own ++ (action, Word word) ∷ []) (ask cpus (cpu + 1) number)
+    → IsPartStep (AwaitsShootAt cpus (Seeing (cpu + 1) number)) (λ g. IsShootdown cpus) IsFlushed NothingTold g v (own ++ (action, Word word) ∷ []) (ask cpus (cpu + 1) number)
 unfolding has-next
 steps-next cpus g v own cpu number word action ge s =
     let more : Own = own ++ (SeeAck cpu, Word word) ∷ [] in
@@ -166,21 +175,21 @@ steps-next cpus g v own cpu number word action ge s =
 
 -- The same, of the part's fields.
 
-at_stage : (s : Shoot) (stage : Stage) (g : Geometry) (v : View) (own : Own) (action : Action) → s.stage ≡ stage → Awaits s g v own action → AwaitsAt s.cpus stage g v own action
-at_stage s stage g v own action e a = let P : Stage → Type 0 = λ st. AwaitsAt s.cpus st g v own action in subst P e a
+at_stage : (s : Shoot) (stage : Stage) (g : Geometry) (v : View) (own : Own) (action : Action) → s.stage ≡ stage → AwaitsShoot s g v own action → AwaitsShootAt s.cpus stage g v own action
+at_stage s stage g v own action e a = let P : Stage → Type 0 = λ st. AwaitsShootAt s.cpus st g v own action in subst P e a
 
 -- what a step of a shootdown has to be after one answer more
 abbrev pub IsNext : Shoot → Shoot → Geometry → View → Own → Step ℕ → Type 0
-IsNext s new g v own result = IsStep (Awaits new) (λ g. IsShootdown s.cpus) IsFlushed g v own result
+IsNext s new g v own result = IsPartStep (AwaitsShoot new) (λ g. IsShootdown s.cpus) IsFlushed NothingTold g v own result
 
 pub after-bump : (s new : Shoot) (reply : Reply) (old : ℕ) (result : Step ℕ) → s.stage ≡ Bumping → reply ≡ Word old → new ≡ record s { stage = Seeing 0 (old + 1) } → result ≡ ask s.cpus 0 (old + 1)
-    → (g : Geometry) (v : View) (own : Own) (action : Action) → Awaits s g v own action → IsNext s new g v (own ++ (action, reply) ∷ []) result
+    → (g : Geometry) (v : View) (own : Own) (action : Action) → AwaitsShoot s g v own action → IsNext s new g v (own ++ (action, reply) ∷ []) result
 after-bump s new reply old result e r n i g v own action a = rw (r, n, i) (steps-bumped s.cpus g v own action old (at_stage s Bumping g v own action e a))
 
 pub after-less : (s new : Shoot) (reply : Reply) (cpu number word : ℕ) (result : Step ℕ) → s.stage ≡ Seeing cpu number → reply ≡ Word word → word < number → new ≡ record s { stage = Seeing cpu number } → result ≡ ask s.cpus cpu number
-    → (g : Geometry) (v : View) (own : Own) (action : Action) → Awaits s g v own action → IsNext s new g v (own ++ (action, reply) ∷ []) result
+    → (g : Geometry) (v : View) (own : Own) (action : Action) → AwaitsShoot s g v own action → IsNext s new g v (own ++ (action, reply) ∷ []) result
 after-less s new reply cpu number word result e r lt n i g v own action a = rw (r, n, i) (steps-again s.cpus g v own cpu number word action lt (at_stage s (Seeing cpu number) g v own action e a))
 
 pub after-enough : (s new : Shoot) (reply : Reply) (cpu number word : ℕ) (result : Step ℕ) → s.stage ≡ Seeing cpu number → reply ≡ Word word → number ≤ word → new ≡ record s { stage = Seeing (cpu + 1) number } → result ≡ ask s.cpus (cpu + 1) number
-    → (g : Geometry) (v : View) (own : Own) (action : Action) → Awaits s g v own action → IsNext s new g v (own ++ (action, reply) ∷ []) result
+    → (g : Geometry) (v : View) (own : Own) (action : Action) → AwaitsShoot s g v own action → IsNext s new g v (own ++ (action, reply) ∷ []) result
 after-enough s new reply cpu number word result e r ge n i g v own action a = rw (r, n, i) (steps-next s.cpus g v own cpu number word action ge (at_stage s (Seeing cpu number) g v own action e a))

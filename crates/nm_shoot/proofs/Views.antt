@@ -1,5 +1,6 @@
 -- The view along a shootdown.
-use Rattle.std.proofs.Common.{◌≡◌, ℕ, zero, suc, ◌+◌, ◌^◌, ◌&&◌, nat_le, if◌then◌else◌, Bool, true, false, not, List, [], ◌∷◌, ◌++◌, Option, Some, None, length, map, All, refl, sym, ap, ◌∙◌, add-zero, zero-add, arith}
+use Rattle.std.proofs.Common.{◌≡◌, ℕ, zero, suc, ◌+◌, ◌^◌, inl, inr, nat_le, if◌then◌else◌, Bool, true, false, List, [], ◌∷◌, ◌++◌, Option, Some, None, IfSome, length, map, All, refl, sym, ap, ◌∙◌, arith}
+use Rattle.std.proofs.lemmas.Bool.{cases_lt}
 use Rattle.std.proofs.lemmas.List.{map-id}
 use Rattle.std.proofs.lemmas.Simd.{map-map}
 use Rattle.std.proofs.lemmas.Nat.Bits.{bit_at_or, bit_at-pow_same, bit_at-lt}
@@ -7,7 +8,7 @@ use Rattle.std.specs.Int.{bit_at}
 use Rattle.std.specs.Prelude.{bit_or}
 use Rattle.nm_base.specs.Geometry.{Geometry}
 use Rattle.nm_view.specs.Views.{Op, View}
-use Rattle.nm_view.specs.Operations.{are_seen, is_answered}
+use Rattle.nm_view.specs.Operations.{AreSeen}
 use Rattle.nm_event.specs.After.{seen_with, seen_at, bumped_to, view_after}
 use Rattle.nm_action.specs.Own.{Own}
 use Rattle.nm_part.proofs.OwnLemmas.{view-append}
@@ -60,9 +61,8 @@ from-kept : (f : Option ℕ) (p : ℕ) (wss : List (List ℕ)) (s q : ℕ) → b
 from-kept f p [] s q h = h
 from-kept f p (ws ∷ wss) s q h = from-kept f (p + 1) wss (seen_by f p ws s) q (by-kept f p ws s q h)
 
-seen-kept : (k s t : ℕ) → ((q : ℕ) → bit_at s q ≡ 1 → bit_at t q ≡ 1) → are_seen k s ≡ true → are_seen k t ≡ true
-seen-kept zero s t h e = refl
-seen-kept (suc p) s t h e = grind (arith, h p, seen-kept p s t h)
+seen-kept : (k s t : ℕ) → ((q : ℕ) → bit_at s q ≡ 1 → bit_at t q ≡ 1) → AreSeen k s → AreSeen k t
+seen-kept k s t keep h = λ q lt. keep q (h q lt)
 
 by-append : (f : Option ℕ) (p : ℕ) (a b : List ℕ) (s : ℕ) → seen_by f p (a ++ b) s ≡ seen_by f p b (seen_by f p a s)
 by-append f p [] b s = refl
@@ -75,40 +75,39 @@ last_go false p s e = cc
 by-last : (n p : ℕ) (ws : List ℕ) (s : ℕ) → IsAnswered n ws → bit_at (seen_by (Some n) p ws s) p ≡ 1
 by-last n p ws s a = rw (a.is, by-append (Some n) p a.early (a.last ∷ []) s) (last_go (nat_le n a.last) p (seen_by (Some n) p a.early s) (grind (arith, a.enough)))
 
-seen-more : (p s : ℕ) → bit_at s p ≡ 1 → are_seen p s ≡ true → are_seen (p + 1) s ≡ true
-seen-more p s b h = let e : p + 1 ≡ suc p = omega arith in rw e (grind arith)
+seen-more : (p s : ℕ) → bit_at s p ≡ 1 → AreSeen p s → AreSeen (p + 1) s
+seen-more p s b h = λ q lt. elim (cases_lt q p) [ inl l ↦ h q l | inr ge ↦ let e : q ≡ p = omega (arith, lt, ge) in rw e b ]
 
-from-seen : (n p : ℕ) (wss : List (List ℕ)) (s : ℕ) → All (IsAnswered n) wss → are_seen p s ≡ true → are_seen (p + length wss) (seen_from (Some n) p wss s) ≡ true
-from-seen n p [] s a h = rw add-zero h
+from-seen : (n p : ℕ) (wss : List (List ℕ)) (s : ℕ) → All (IsAnswered n) wss → AreSeen p s → AreSeen (p + length wss) (seen_from (Some n) p wss s)
+from-seen n p [] s a h = λ q lt. h q (omega (arith, lt))
 from-seen n p (ws ∷ wss) s a h =
     let t : ℕ = seen_by (Some n) p ws s in
     let one = seen-more p t (by-last n p ws s (a zero ws (omega arith))) (seen-kept p s t (by-kept (Some n) p ws s) h) in
     let rest = from-seen n (p + 1) wss t (λ i d lt. a (suc i) d (omega arith)) one in
-    let e : p + suc (length wss) ≡ p + 1 + length wss = omega arith in
-    rw e rest
+    λ q lt. rest q (omega (arith, lt))
 
 -- Operations.
 
 due_go : (g : Geometry) (n : ℕ) (wss : List (List ℕ)) (due : Bool) (flush : Option ℕ) (seen : ℕ) → length wss ≡ g.cpus → All (IsAnswered n) wss → due ≡ true
-    → is_answered g (if due then Some n else flush) (seen_from (if due then Some n else flush) 0 wss (if due then 0 else seen)) ≡ true
-due_go g n wss true flush seen l a e = rw (sym l) (rw zero-add at (from-seen n 0 wss 0 a refl))
+    → IfSome (if due then Some n else flush) (λ _. AreSeen g.cpus (seen_from (if due then Some n else flush) 0 wss (if due then 0 else seen)))
+due_go g n wss true flush seen l a e = let all = from-seen n 0 wss 0 a (λ q lt. omega (arith, lt)) in λ q lt. all q (omega (arith, lt, l))
 due_go g n wss false flush seen l a e = cc
 
-kept_some : (g : Geometry) (flush : Option ℕ) (wss : List (List ℕ)) (seen : ℕ) → is_answered g flush seen ≡ true → is_answered g flush (seen_from flush 0 wss seen) ≡ true
-kept_some g None wss seen h = refl
+kept_some : (g : Geometry) (flush : Option ℕ) (wss : List (List ℕ)) (seen : ℕ) → IfSome flush (λ _. AreSeen g.cpus seen) → IfSome flush (λ _. AreSeen g.cpus (seen_from flush 0 wss seen))
+kept_some g None wss seen h = h
 kept_some g (Some f) wss seen h = seen-kept g.cpus seen (seen_from (Some f) 0 wss seen) (from-kept (Some f) 0 wss seen) h
 
-kept_go : (g : Geometry) (n : ℕ) (wss : List (List ℕ)) (due : Bool) (flush : Option ℕ) (seen : ℕ) → (not due && is_answered g flush seen) ≡ true
-    → is_answered g (if due then Some n else flush) (seen_from (if due then Some n else flush) 0 wss (if due then 0 else seen)) ≡ true
-kept_go g n wss true flush seen h = cc
-kept_go g n wss false flush seen h = kept_some g flush wss seen h
+kept_go : (g : Geometry) (n : ℕ) (wss : List (List ℕ)) (due : Bool) (flush : Option ℕ) (seen : ℕ) → due ≡ false → IfSome flush (λ _. AreSeen g.cpus seen)
+    → IfSome (if due then Some n else flush) (λ _. AreSeen g.cpus (seen_from (if due then Some n else flush) 0 wss (if due then 0 else seen)))
+kept_go g n wss true flush seen e h = cc
+kept_go g n wss false flush seen e h = kept_some g flush wss seen h
 
 flush-of : (g : Geometry) (n : ℕ) (wss : List (List ℕ)) (o : Op) → length wss ≡ g.cpus → All (IsAnswered n) wss → IsFlushOf g n o (answered_op 0 wss (bumped_to n o))
 flush-of g n wss o l a = record {
   same = refl;
   flush = refl;
-  due = λ d. due_go g n wss o.due o.flush o.seen l a d;
-  kept = λ h. kept_go g n wss o.due o.flush o.seen h;
+  due = λ d. record { made = refl; seen = due_go g n wss o.due o.flush o.seen l a d };
+  kept = λ h. record { made = refl; seen = kept_go g n wss o.due o.flush o.seen h.made h.seen };
 }
 
 -- a shootdown flushes the view in which it began

@@ -17,13 +17,13 @@ use Rattle.nm_shoot.specs.Flushed.{MayShoot}
 abbrev pub cpus_of : Shoot → ℕ
 cpus_of s = s.cpus
 
-abbrev pub IsNewStage : Stage → Type 0
-IsNewStage New = Unit {0}
-IsNewStage Bumping = ⊥
-IsNewStage (Seeing _ _) = ⊥
+abbrev pub IsNewShootStage : Stage → Type 0
+IsNewShootStage New = Unit {0}
+IsNewShootStage Bumping = ⊥
+IsNewShootStage (Seeing _ _) = ⊥
 
-abbrev pub IsNew : Shoot → Type 0
-IsNew s = IsNewStage s.stage
+abbrev pub IsNewShoot : Shoot → Type 0
+IsNewShoot s = IsNewShootStage s.stage
 
 -- the bump is awaited
 pub record IsBumping (cpus : ℕ) (g : Geometry) (view : View) (own : Own) (action : Action) : Type 0 where
@@ -50,13 +50,13 @@ pub record IsSeeing (cpus : ℕ) (g : Geometry) (view : View) (own : Own) (cpu n
   pub next : cpu < cpus
   pub see : action ≡ SeeAck cpu
 
-abbrev pub AwaitsAt : ℕ → Stage → Geometry → View → Own → Action → Type 0
-AwaitsAt cpus New g view own action = ⊥
-AwaitsAt cpus Bumping g view own action = IsBumping cpus g view own action
-AwaitsAt cpus (Seeing cpu number) g view own action = IsSeeing cpus g view own cpu number action
+abbrev pub AwaitsShootAt : ℕ → Stage → Geometry → View → Own → Action → Type 0
+AwaitsShootAt cpus New g view own action = ⊥
+AwaitsShootAt cpus Bumping g view own action = IsBumping cpus g view own action
+AwaitsShootAt cpus (Seeing cpu number) g view own action = IsSeeing cpus g view own cpu number action
 
-abbrev pub Awaits : Shoot → Geometry → View → Own → Action → Type 0
-Awaits s g view own action = AwaitsAt s.cpus s.stage g view own action
+abbrev pub AwaitsShoot : Shoot → Geometry → View → Own → Action → Type 0
+AwaitsShoot s g view own action = AwaitsShootAt s.cpus s.stage g view own action
 
 -- the next step: a processor is asked, or all have answered
 abbrev pub ask : ℕ → ℕ → ℕ → Step ℕ

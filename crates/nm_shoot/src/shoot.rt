@@ -1,10 +1,10 @@
 //! The shootdown as a part of an actor's work.
 
 ghost use Rattle.std.specs.Prelude.{◌≡◌, ◌≤◌};
-ghost use Rattle.nm_shoot.specs.Asking.{ask, cpus_of, IsNew};
+ghost use Rattle.nm_shoot.specs.Asking.{ask, cpus_of, IsNewShoot};
 
 use nm_event::{Action, Reply, Step};
-use nm_part::Part;
+use nm_part::{Part, Piece};
 
 /// How far a shootdown has come.
 #[derive(Clone, Copy, Debug, PartialEq, Eq)]
@@ -30,7 +30,7 @@ impl Shoot {
     /// below 2^56, and no due operation of the view has a wet page.
     pub fn new(cpus: u32) -> Shoot
         ensures made { cpus_of result ≡ cpus }
-        ensures new { IsNew result }
+        ensures new { IsNewShoot result }
     {
         Shoot {
             cpus,
@@ -57,13 +57,14 @@ impl Part for Shoot {
 
     type Made = u32;
 
+    ghost use Rattle.nm_part.specs.Parts.{NothingTold};
     ghost use Rattle.nm_shoot.specs.Shootdown.{IsShootdown};
     ghost use Rattle.nm_shoot.specs.Flushed.{MayShoot, IsFlushed};
-    ghost use Rattle.nm_shoot.specs.Asking.{cpus_of, IsNew, Awaits};
+    ghost use Rattle.nm_shoot.specs.Asking.{cpus_of, IsNewShoot, AwaitsShoot};
 
     ghost made = { cpus_of };
 
-    ghost is_new = { IsNew };
+    ghost is_new = { IsNewShoot };
 
     ghost may_begin = { MayShoot };
 
@@ -71,11 +72,12 @@ impl Part for Shoot {
 
     ghost leaves = { λ cpus g view number left. IsFlushed g view number left };
 
-    ghost awaits = { Awaits };
+    ghost awaits = { AwaitsShoot };
+
+    ghost ended = { λ s. NothingTold };
 
     fn first(&mut self) -> Step<u64> {
-        self.stage = Stage::Bumping;
-        Step::Do(Action::Bump)
+        Step::Do(self.start())
     }
 
     fn after(&mut self, reply: Reply) -> Step<u64> {
@@ -94,31 +96,9 @@ impl Part for Shoot {
     }
 }
 
-#[cfg(test)]
-mod tests {
-    use super::*;
-    use nm_base::{Geometry, VPage};
-    use std::test::Fail;
-
-    // On a machine of one processor, which acknowledges late.
-    #[test]
-    fn waits_for_the_number_drawn(rt: HostRuntime) -> Result<(), Fail> {
-        let vpage = VPage {
-            page: 0,
-            writable: true,
-        };
-        let g = Geometry::new(rt.alloc(), 4, &[4, 8], 1, &[Some(vpage)])?;
-        let mut shoot = Shoot::new(g.cpus);
-        let Step::Do(Action::Bump) = shoot.first() else {
-            panic!(rt; "no bump")
-        };
-        let Step::Do(Action::SeeAck { cpu: 0 }) = shoot.after(Reply::Word(0)) else {
-            panic!(rt; "not asked")
-        };
-        let Step::Do(Action::SeeAck { cpu: 0 }) = shoot.after(Reply::Word(0)) else {
-            panic!(rt; "not asked again")
-        };
-        assert_eq!(rt; shoot.after(Reply::Word(1)), Step::Over(1));
-        Ok(())
+impl Piece for Shoot {
+    fn start(&mut self) -> Action {
+        self.stage = Stage::Bumping;
+        Action::Bump
     }
 }

@@ -1,6 +1,6 @@
 //! Reports and summaries, and their texts.
 
-ghost use Rattle.nm_core.specs.EndWords.{HasRoom};
+ghost use Rattle.nm_core.specs.EndWords.{HasEndRoom};
 ghost use Rattle.nm_report.specs.Ends.{NamesInRange};
 ghost use Rattle.nm_report.specs.Texts.{AllFit};
 ghost use Rattle.nm_report.specs.Summary.{IsNoAwait};
@@ -46,7 +46,7 @@ fn end_of(
     home: Option<u32>,
     shadow: Option<(u32, u32)>,
 ) -> Result<EndWords, Fail>
-    ensures room { IfOk result (λ e. HasRoom g.now e) }
+    ensures room { IfOk result (λ e. HasEndRoom g.now e) }
     ensures names { IfOk result (λ e. NamesInRange g.now e) }
 {
     let mut end = EndWords::with_room(alloc, g)?;
@@ -62,9 +62,9 @@ fn end_of(
 
 /// Gives page 0 a frame.
 fn put_home(g: &Geometry, end: &mut EndWords, frame: u32)
-    requires room { HasRoom g.now end.old }
+    requires room { HasEndRoom g.now end.old }
     requires names { NamesInRange g.now end.old }
-    ensures room { HasRoom g.now end.new }
+    ensures room { HasEndRoom g.now end.new }
     ensures names { NamesInRange g.now end.new }
 {
     if g.pages() > 0 && frame < g.frames() {
@@ -75,9 +75,9 @@ fn put_home(g: &Geometry, end: &mut EndWords, frame: u32)
 
 /// Sets the shadow word of a frame.
 fn put_shadow(g: &Geometry, end: &mut EndWords, frame: u32, page: u32, copy: u32)
-    requires room { HasRoom g.now end.old }
+    requires room { HasEndRoom g.now end.old }
     requires names { NamesInRange g.now end.old }
-    ensures room { HasRoom g.now end.new }
+    ensures room { HasEndRoom g.now end.new }
     ensures names { NamesInRange g.now end.new }
 {
     if frame < g.frames() && page < g.pages() && copy < g.frames() {

@@ -1,0 +1,4 @@
+//! The smallest parts, actors, chairs and boards, and rows that run them.
+mod boards;
+mod chairs;
+mod parts;

@@ -1,0 +1,4 @@
+pub mod Acting
+pub mod Choosing
+pub mod Running
+pub mod Staging

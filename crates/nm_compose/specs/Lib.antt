@@ -1,0 +1,5 @@
+pub mod Acts
+pub mod Choices
+pub mod Plans
+pub mod Stages
+pub mod Composites
