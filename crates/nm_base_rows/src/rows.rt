@@ -5,5 +5,6 @@ mod geometry;
 mod page_word;
 mod policy;
 mod setcache;
+mod table_words;
 mod tiers;
 mod xlat;
