@@ -7,9 +7,9 @@ ghost use Rattle.nm_report.specs.Summary.{IsNoAwait};
 ghost use Rattle.nm_top.specs.Output.{IsSerial, IsServed, IsScriptRun};
 ghost use Rattle.nm_top.specs.Running.{Makes};
 
-use nm_still::Still;
 use nm_report::LineResult;
 use nm_script::{Line, Schedule, Script};
+use nm_still::Still;
 use std::alloc::{AllocError, Global};
 
 /// Whether a machine whose pages don't move can run the script.
