@@ -1,1 +1,4 @@
 pub mod Nesting
+pub mod Following
+pub mod Fitting
+pub mod Seating
