@@ -2,4 +2,6 @@
 #![tactic(auto)]
 
 #[cfg(test)]
+mod composites;
+#[cfg(test)]
 mod rows;

@@ -26,7 +26,7 @@ use Rattle.clap.specs.declared.builder.command.Command.TheViews.{out-Command}
 use Rattle.clap.specs.declared.parser.matches.ArgMatches.{ArgMatches}
 use Rattle.nm_command.specs.declared.line.Fields.{Fields}
 use Rattle.nm_command.specs.declared.line.Fields.TheVariants.{Sim, Gen}
-use Rattle.nm_command.specs.Line.{Splits, Tells, bare, is_refused, nomad}
+use Rattle.nm_command.specs.Line.{Splits, SaysFields, bare, is_refused, nomad}
 
 -- a word that is no option
 record IsField (w : Text) : Type 0 where
@@ -357,7 +357,7 @@ text_in None = []
 text_in (Some x) = x
 
 -- what was read of matches is what the words say
-pub splits_taken : (words : List Text) (met : Option (Text × List Row)) (r : Option Fields) → IsTaken words → met ≡ subcommand_of nomad words → Tells met r → Splits words r
+pub splits_taken : (words : List Text) (met : Option (Text × List Row)) (r : Option Fields) → IsTaken words → met ≡ subcommand_of nomad words → SaysFields met r → Splits words r
 splits_taken words met (Some Sim) (inl s) e t = s.are
 splits_taken words met (Some Sim) (inr g) e t = absurd (sim_gen met t.0 g.rows t.1 (e ∙ g.entered))
 splits_taken words met (Some (Gen n z)) (inl s) e t = absurd (sim_gen met [] t.0 (e ∙ s.entered) t.1)

@@ -39,13 +39,13 @@ abbrev pub nomad : App
 nomad = with_subcommand (with_subcommand bare sim.top) generate.top
 
 -- the rows of gen say these fields
-abbrev pub TellsGen : List Row → Option Fields → Type 0
-TellsGen rows (Some Sim) = ⊥
-TellsGen rows (Some (Gen number size)) = (first_of (codes "N") rows ≡ Some number.now) × (first_of (codes "SIZE") rows ≡ Some size.now)
-TellsGen rows None = (a b : Text) → first_of (codes "N") rows ≡ Some a → first_of (codes "SIZE") rows ≡ Some b → ⊥
+abbrev pub SaysGenFields : List Row → Option Fields → Type 0
+SaysGenFields rows (Some Sim) = ⊥
+SaysGenFields rows (Some (Gen number size)) = (first_of (codes "N") rows ≡ Some number.now) × (first_of (codes "SIZE") rows ≡ Some size.now)
+SaysGenFields rows None = (a b : Text) → first_of (codes "N") rows ≡ Some a → first_of (codes "SIZE") rows ≡ Some b → ⊥
 
 -- the name of a subcommand and its rows say these fields
-abbrev pub Tells : Option (Text × List Row) → Option Fields → Type 0
-Tells entered (Some Sim) = (rows : List Row) × (entered ≡ Some (codes "sim", rows))
-Tells entered (Some (Gen number size)) = (rows : List Row) × (entered ≡ Some (codes "gen", rows)) × TellsGen rows (Some (Gen number size))
-Tells entered None = (rows : List Row) → (entered ≡ Some (codes "sim", rows) → ⊥) × (entered ≡ Some (codes "gen", rows) → TellsGen rows None)
+abbrev pub SaysFields : Option (Text × List Row) → Option Fields → Type 0
+SaysFields entered (Some Sim) = (rows : List Row) × (entered ≡ Some (codes "sim", rows))
+SaysFields entered (Some (Gen number size)) = (rows : List Row) × (entered ≡ Some (codes "gen", rows)) × SaysGenFields rows (Some (Gen number size))
+SaysFields entered None = (rows : List Row) → (entered ≡ Some (codes "sim", rows) → ⊥) × (entered ≡ Some (codes "gen", rows) → SaysGenFields rows None)

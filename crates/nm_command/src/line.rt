@@ -2,7 +2,7 @@
 
 ghost use Rattle.std.specs.Prelude.{◌≡◌, ◌↔◌, IsTrue, IfOk, All, false, map, string_bytes};
 ghost use Rattle.clap.specs.Words.{app_of, found_of, rows_of, subcommand_rows_of};
-ghost use Rattle.nm_command.specs.Line.{nomad, is_refused, Splits, Tells, TellsGen};
+ghost use Rattle.nm_command.specs.Line.{nomad, is_refused, Splits, SaysFields, SaysGenFields};
 
 use clap::error::ErrorKind;
 use clap::{Arg, ArgMatches, Command};
@@ -43,7 +43,7 @@ pub fn fields_of<'a>(alloc: Global, words: &'a [String]) -> Result<Option<Fields
 
 /// The command that was met, and its fields.
 fn fields_in<'a>(matches: &ArgMatches<'a>) -> Option<Fields<'a>>
-    ensures { Tells (subcommand_rows_of matches.now) result }
+    ensures { SaysFields (subcommand_rows_of matches.now) result }
 {
     match matches.subcommand()? {
         ("sim", _) => Some(Fields::Sim),
@@ -54,7 +54,7 @@ fn fields_in<'a>(matches: &ArgMatches<'a>) -> Option<Fields<'a>>
 
 /// The fields of `gen`.
 fn gen_fields<'a>(matches: &ArgMatches<'a>) -> Option<Fields<'a>>
-    ensures { TellsGen (rows_of (found_of matches.now)) result }
+    ensures { SaysGenFields (rows_of (found_of matches.now)) result }
 {
     let Some(number) = matches.get_str("N") else {
         return None;

@@ -6,7 +6,8 @@ use Rattle.nm_action.specs.declared.action.Reply.{Reply}
 use Rattle.nm_view.specs.Views.{View}
 use Rattle.nm_permit.specs.Permitted.{Allowed}
 use Rattle.nm_event.specs.After.{after_of}
-use Rattle.nm_event.specs.Fitting.{IsReplyOf, Fits}
+use Rattle.nm_step.specs.Table.{change_of, IsReplyTo}
+use Rattle.nm_event.specs.Fitting.{Fits}
 use Rattle.nm_action.specs.Own.{Own}
 use Rattle.nm_part.specs.Parts.{IsQuiet}
 
@@ -15,10 +16,10 @@ pub record MayAct (g : Geometry) (view : View) (action : Action) : Type 0 where
   pub quiet : IsQuiet action
   pub allowed : Allowed g view action
 
--- the list is this one action, with a reply of its kind
-pub record IsAct (action : Action) (own : Own) (reply : Reply) : Type 0 where
+-- the list is this one action, with a reply of its kind, which no view decides
+pub record IsAct (action : Action) (g : Geometry) (own : Own) (reply : Reply) : Type 0 where
   pub is : own ≡ (action, reply) ∷ []
-  pub kind : IsReplyOf action reply
+  pub kind : (view : View) → IsReplyTo (change_of g view action) reply
 
 -- the reply fits the view, and the action with this reply leaves that one
 pub record IsActed (g : Geometry) (view : View) (action : Action) (reply : Reply) (left : View) : Type 0 where

@@ -13,10 +13,10 @@ pub record Stages (Q S M X O : Type 0) : Type 1 where
   pub known : Q → S → Geometry → View → View → Type 0
 
 -- the piece that runs is that of the stage, and what is known there holds
-pub record IsAtStage {Q S M X O : Type 0} (stages : Stages Q S M X O) (made : Q) (stage : S) (g : Geometry) (first now : View) (piece : M) : Type 0 where
+pub record IsPieceAt {Q S M X O : Type 0} (stages : Stages Q S M X O) (made : Q) (stage : S) (g : Geometry) (first now : View) (piece : M) : Type 0 where
   pub is : piece ≡ stages.piece made stage
   pub known : stages.known made stage g first now
 
 -- the piece of a stage runs
 abbrev pub RunsAt : {Q S M X O : Type 0} → (M → Geometry → View → Type 0) → (M → Geometry → Own → X → Type 0) → Stages Q S M X O → Q → S → (Own → O → Type 0) → Geometry → View → View → Type 0
-RunsAt may_begin shape stages made stage was g first now = IsPieceRun may_begin shape (IsAtStage stages made stage) (stages.left made stage) was (stages.piece made stage) g first now
+RunsAt may_begin shape stages made stage was g first now = IsPieceRun may_begin shape (IsPieceAt stages made stage) (stages.left made stage) was (stages.piece made stage) g first now

@@ -36,7 +36,7 @@ impl Part for Act {
 
     ghost may_begin = { λ action g view. MayAct g view action };
 
-    ghost shape = { λ action g own reply. IsAct action own reply };
+    ghost shape = { IsAct };
 
     ghost leaves = { λ action g view reply left. IsActed g view action reply left };
 

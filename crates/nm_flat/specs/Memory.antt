@@ -14,27 +14,27 @@ abbrev pub empty_memory : Memory
 empty_memory b i = 0
 
 -- the memory after x was written to word i of page b: every other word stays
-abbrev pub with_word : Memory → ℕ → ℕ → ℕ → Memory
-with_word m b i x c j = if c == b && j == i then x else m c j
+abbrev pub with_stored : Memory → ℕ → ℕ → ℕ → Memory
+with_stored m b i x c j = if c == b && j == i then x else m c j
 
 -- the backing page of a mapped virtual page (0 where it is not mapped, of which nothing is claimed)
-abbrev pub page_of : Geometry → ℕ → ℕ
-page_of g v = unwrap_or (backing_page g v) 0
+abbrev pub mapped_page : Geometry → ℕ → ℕ
+mapped_page g v = unwrap_or (backing_page g v) 0
 
 -- what a memory has in the word of an access
-abbrev pub word_at : Geometry → Memory → Access → ℕ
-word_at g m a = m (page_of g a.vpage) a.word
+abbrev pub accessed_word : Geometry → Memory → Access → ℕ
+accessed_word g m a = m (mapped_page g a.vpage) a.word
 
 -- the memory after an access of this kind to word i of page b: a load changes nothing, a store sets the word,
 -- and an add sets it to what it was plus a number, modulo 2^64
 abbrev pub with_kind : Memory → ℕ → ℕ → AccessKind → Memory
 with_kind m b i (Load told) = m
-with_kind m b i (Store value) = with_word m b i value
-with_kind m b i (Add gave plus) = with_word m b i ((m b i + plus) % 2 ^ 64)
+with_kind m b i (Store value) = with_stored m b i value
+with_kind m b i (Add gave plus) = with_stored m b i ((m b i + plus) % 2 ^ 64)
 
 -- the memory after an access
 abbrev pub with_access : Geometry → Memory → Access → Memory
-with_access g m a = with_kind m (page_of g a.vpage) a.word a.kind
+with_access g m a = with_kind m (mapped_page g a.vpage) a.word a.kind
 
 -- the memory after a list of accesses that begins in memory m
 abbrev pub memory_from : Geometry → Memory → List Access → Memory
@@ -46,14 +46,14 @@ abbrev pub memory_after : Geometry → List Access → Memory
 memory_after g list = memory_from g empty_memory list
 
 -- an access of this kind to a word that has x is true: a load gives x, an add gave x, and a store tells nothing
-abbrev pub Tells : AccessKind → ℕ → Type 0
-Tells (Load told) x = told ≡ x
-Tells (Store value) x = Unit {0}
-Tells (Add gave plus) x = gave ≡ x
+abbrev pub IsTrueAt : AccessKind → ℕ → Type 0
+IsTrueAt (Load told) x = told ≡ x
+IsTrueAt (Store value) x = Unit {0}
+IsTrueAt (Add gave plus) x = gave ≡ x
 
 -- an access tells what the memory has in its word
 abbrev pub IsTrueOf : Geometry → Memory → Access → Type 0
-IsTrueOf g m a = Tells a.kind (word_at g m a)
+IsTrueOf g m a = IsTrueAt a.kind (accessed_word g m a)
 
 -- each access tells what its word has after the stores and adds before it, from memory m on
 abbrev pub IsLegalFrom : Geometry → Memory → List Access → Type 0
@@ -78,8 +78,8 @@ abbrev pub own_part_of : ℕ → List Access → List Access
 own_part_of cpu list = filter (λ a. a.cpu == cpu) list
 
 -- how many words the backing pages have in all
-abbrev pub word_count : Geometry → ℕ
-word_count g = page_count g * g.words
+abbrev pub flat_size : Geometry → ℕ
+flat_size g = page_count g * g.words
 
 -- where word i of page b stands in the list of all words: page by page
 abbrev pub place : Geometry → ℕ → ℕ → ℕ
@@ -87,7 +87,7 @@ place g b i = b * g.words + i
 
 -- a list has the words of a memory, page by page
 pub record IsMemory (g : Geometry) (words : List ℕ) (m : Memory) : Type 0 where
-  pub size : length words ≡ word_count g
+  pub size : length words ≡ flat_size g
   pub same : (b i : ℕ) → b < page_count g → i < g.words → slice_index words (place g b i) ≡ m b i
 
 -- a flat memory as contracts see it: the list of its words

@@ -43,32 +43,3 @@ pub fn own_part(alloc: Global, list: &[Access], cpu: u32) -> Result<Vec<Access>,
         .copied()
         .collect(alloc)
 }
-
-#[cfg(test)]
-mod tests {
-    use super::*;
-    use std::test::Fail;
-
-    const fn load(cpu: u32, word: u32) -> Access {
-        Access {
-            cpu,
-            vpage: 0,
-            word,
-            kind: AccessKind::Load(0),
-        }
-    }
-
-    #[test]
-    fn parts_of_two_processors(rt: HostRuntime) -> Result<(), Fail> {
-        let list = [load(0, 0), load(1, 1), load(0, 2), load(1, 3), load(1, 4)];
-        let first = own_part(rt.alloc(), &list, 0)?;
-        let second = own_part(rt.alloc(), &list, 1)?;
-        assert_eq!(rt; first.as_slice(), [load(0, 0), load(0, 2)].as_slice());
-        assert_eq!(rt;
-            second.as_slice(),
-            [load(1, 1), load(1, 3), load(1, 4)].as_slice()
-        );
-        assert_eq!(rt; own_part(rt.alloc(), &list, 2)?.len(), 0);
-        Ok(())
-    }
-}

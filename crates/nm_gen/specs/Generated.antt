@@ -3,6 +3,7 @@ use Rattle.std.specs.Prelude.{ℕ, zero, suc, ◌+◌, ◌*◌, ◌/◌, ◌%◌
 use Rattle.std.specs.List.{range_with_len}
 use Rattle.nm_base.specs.declared.geometry.VPage.{VPage}
 use Rattle.nm_base.specs.Geometry.{Geometry, made}
+use Rattle.nm_script.specs.declared.limits.TheConstants.{MOST_TURNS}
 use Rattle.nm_script.specs.declared.script.Line.{Line}
 use Rattle.nm_script.specs.declared.script.Line.TheVariants.{Load, Store}
 use Rattle.nm_script.specs.declared.schedule.Schedule.TheVariants.{Shuffle}
@@ -52,7 +53,7 @@ generated n size = record {
   version = 1;
   geometry = geometry;
   programs = programs_of n size;
-  schedule = Shuffle n 8000000;
+  schedule = Shuffle n MOST_TURNS;
   nodes = [];
   retry = None;
 }

@@ -6,11 +6,9 @@ ghost use Rattle.nm_gen.specs.Generated.{generated, geometry, programs_of, line_
 ghost use Rattle.std.specs.List.{range_with_len};
 
 use nm_base::{Geometry, GeometryRefusal, VPage};
-use nm_script::{Line, Schedule, Script};
+use nm_script::{Line, MOST_TURNS, Schedule, Script};
 use std::alloc::{AllocError, Global};
 
-/// The most turns that a schedule can ask for.
-const MOST_TURNS: u32 = 8_000_000;
 /// The pages that most accesses go to.
 const HOT_PAGES: u64 = 80;
 /// The pages behind them.
@@ -128,35 +126,4 @@ fn make_vpages(alloc: Global) -> Result<Vec<Option<VPage>>, AllocError>
         }))?;
     }
     Ok(vpages)
-}
-
-#[cfg(test)]
-mod tests {
-    use super::*;
-    use std::test::Fail;
-
-    #[test]
-    fn draws_lines(rt: HostRuntime) -> Result<(), Fail> {
-        // The first draw of 7 is 9098160460397411210, whose upper bits are 1059165278.
-        assert_eq!(rt; next(7), 9098160460397411210);
-        assert_eq!(rt; make_line(1059165278, 0), Line::Load { v: 114, w: 268 });
-        let script = generate(rt.alloc(), 7, 5)?;
-        assert_eq!(rt; script.programs.len(), 4);
-        let lengths: [usize; 4] = [2, 1, 1, 1];
-        for p in 0..4 {
-            assert_eq!(rt; script.programs[p].len(), lengths[p]);
-        }
-        let first = script.programs[0].first().copied();
-        assert_eq!(rt; first, Some(Line::Load { v: 114, w: 268 }));
-        assert_eq!(rt;
-            (
-                script.geometry.words,
-                script.geometry.pages(),
-                script.geometry.frames()
-            ),
-            (512, 240, 320)
-        );
-        is_script();
-        Ok(())
-    }
 }

@@ -5,3 +5,4 @@ pub mod Sink
 pub mod SinkState
 pub mod Source
 pub mod SourceState
+pub mod Whole

@@ -8,8 +8,6 @@ mod mem_sink;
 mod mem_source;
 mod sinks;
 mod sources;
-#[cfg(test)]
-mod tests;
 
 pub use adapters::{StdSink, StdSource};
 pub use faults::{Failed, ReadRefusal, WriteFault};

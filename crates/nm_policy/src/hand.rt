@@ -52,20 +52,3 @@ impl Hand {
         }
     }
 }
-
-#[cfg(test)]
-mod tests {
-    use super::*;
-
-    #[test]
-    fn goes_round(rt: HostRuntime) {
-        let mut hand = Hand::new(3);
-        for page in [0, 1, 2, 0, 1] {
-            assert_eq!(rt; hand.page(), page);
-            hand.advance();
-        }
-        let mut only = Hand::new(1);
-        only.advance();
-        assert_eq!(rt; only.page(), 0);
-    }
-}

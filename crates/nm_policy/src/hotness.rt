@@ -24,22 +24,3 @@ fn is_set(word: u64, bit: u32) -> bool
 {
     (word >> bit) & 1 == 1
 }
-
-#[cfg(test)]
-mod tests {
-    use super::*;
-
-    #[test]
-    fn reads_hotness(rt: HostRuntime) {
-        for (word, is_hot) in [
-            (0x5015, true),
-            (0x11, true),
-            (0x5005, false),
-            (0x10, false),
-            (0x9, false),
-            (0, false),
-        ] {
-            assert_eq!(rt; hot(word), is_hot, "{word:x}");
-        }
-    }
-}

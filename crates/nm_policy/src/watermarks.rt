@@ -46,19 +46,3 @@ pub fn enough(level: u32, w: Watermarks) -> bool
 {
     level >= w.high
 }
-
-#[cfg(test)]
-mod tests {
-    use super::*;
-
-    #[test]
-    fn marks_tiers(rt: HostRuntime) {
-        for (n, min) in [(1, 1), (64, 1), (128, 2), (4096, 64)] {
-            let w = Watermarks::of(n);
-            assert_eq!(rt; (w.min, w.low, w.high), (min, 2 * min, 3 * min), "{n}");
-        }
-        let w = Watermarks::of(128);
-        assert_eq!(rt; (wants_demotion(4, w), wants_demotion(5, w)), (true, false));
-        assert_eq!(rt; (enough(5, w), enough(6, w)), (false, true));
-    }
-}

@@ -8,11 +8,11 @@ use Rattle.nm_script.specs.declared.script.Line.TheVariants.{Load, Store, Add, A
 use Rattle.nm_report.specs.declared.line_result.LineResult.{LineResult}
 use Rattle.nm_report.specs.declared.line_result.LineResult.TheVariants.{Loaded, Stored, Added, Met, Missed}
 use Rattle.nm_report.specs.Plain.{Report}
-use Rattle.nm_report.specs.Texts.{Fits, AllFit, EachFits, IsPrintable}
+use Rattle.nm_report.specs.Texts.{IsResultOf, AllFit, EachFits, IsPrintable}
 use Rattle.nm_report.specs.Summary.{is_load, is_store, AddsUp, IsNoAwait, HasNoAwait}
 
 -- a result that fits a line other than an await is a load or a store
-one-kind : (l : Line) (r : LineResult) → Fits l r → IsNoAwait l → cond (is_load r) 1 0 + cond (is_store r) 1 0 ≡ 1
+one-kind : (l : Line) (r : LineResult) → IsResultOf l r → IsNoAwait l → cond (is_load r) 1 0 + cond (is_store r) 1 0 ≡ 1
 one-kind (Load v w) (Loaded x) fit none = refl
 one-kind (Load v w) Stored fit none = absurd fit
 one-kind (Load v w) (Added y) fit none = absurd fit

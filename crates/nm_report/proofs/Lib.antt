@@ -3,3 +3,4 @@ pub mod Counts
 pub mod Made
 pub mod Pieces
 mod Worked
+pub mod Filtered

@@ -10,12 +10,12 @@ use Rattle.nm_report.specs.declared.line_result.LineResult.{LineResult}
 use Rattle.nm_report.specs.declared.line_result.LineResult.TheVariants.{Loaded, Stored, Added, Met, Missed}
 
 -- an access of processor p to word w of virtual page v
-abbrev pub access_of : ℕ → ℕ → ℕ → AccessKind → Access
-access_of p v w k = record { cpu = p; vpage = v; word = w; kind = k }
+abbrev pub access_made : ℕ → ℕ → ℕ → AccessKind → Access
+access_made p v w k = record { cpu = p; vpage = v; word = w; kind = k }
 
 -- loads of processor p of one word that gave these values
 abbrev pub loads_of : ℕ → ℕ → ℕ → List ℕ → List Access
-loads_of p v w values = map (λ y. access_of p v w (kind.Load y)) values
+loads_of p v w values = map (λ y. access_made p v w (kind.Load y)) values
 
 -- none of the values is x
 abbrev pub AllOther : ℕ → List ℕ → Type 0
@@ -39,9 +39,9 @@ pub record IsMissed (p v w x max n : ℕ) (piece : List Access) : Type 0 where
 
 -- some accesses of processor p are those of a line that gave this
 abbrev pub IsPiece : ℕ → Line → LineResult → List Access → Type 0
-IsPiece p (Load v w) (Loaded x) piece = piece ≡ access_of p v w (kind.Load x) ∷ []
-IsPiece p (Store v w x) Stored piece = piece ≡ access_of p v w (kind.Store x) ∷ []
-IsPiece p (Add v w n) (Added y) piece = piece ≡ access_of p v w (kind.Add y n) ∷ []
+IsPiece p (Load v w) (Loaded x) piece = piece ≡ access_made p v w (kind.Load x) ∷ []
+IsPiece p (Store v w x) Stored piece = piece ≡ access_made p v w (kind.Store x) ∷ []
+IsPiece p (Add v w n) (Added y) piece = piece ≡ access_made p v w (kind.Add y n) ∷ []
 IsPiece p (Await v w x max) (Met n) piece = IsMet p v w x max n piece
 IsPiece p (Await v w x max) (Missed n) piece = IsMissed p v w x max n piece
 IsPiece p l r piece = ⊥

@@ -3,3 +3,4 @@ pub mod Ends
 pub mod Texts
 pub mod Summary
 pub mod Follows
+pub mod Filters

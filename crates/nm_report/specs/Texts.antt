@@ -10,9 +10,9 @@ use Rattle.nm_script.specs.Items.{line, place_text}
 use Rattle.nm_core.specs.declared.ends.Role.{Role}
 use Rattle.nm_report.specs.declared.line_result.LineResult.{LineResult}
 use Rattle.nm_report.specs.declared.line_result.LineResult.TheVariants.{Loaded, Stored, Added, Met, Missed}
-use Rattle.nm_core.specs.EndWords.{EndWords, HasRoom}
+use Rattle.nm_core.specs.EndWords.{EndWords, HasEndRoom}
 use Rattle.nm_report.specs.Plain.{Report}
-use Rattle.nm_report.specs.Ends.{NamesInRange, is_free, is_mapped, is_shadow, is_held, tier_frames, tier_roles, home_of, shadow_of}
+use Rattle.nm_report.specs.Ends.{NamesInRange, is_free_role, is_mapped_role, is_shadow_role, is_held_role, tier_frames, tier_roles, end_home, end_shadow}
 
 -- ---- the lines of the processors
 
@@ -52,7 +52,7 @@ cpus_text programs results n = flat_map (λ p. cpu_text p (slice_index_or progra
 -- tier t free a mapped b shadow c held d of n, where the four count these roles
 abbrev pub roles_text : ℕ → List Role → ℕ → List ℕ
 roles_text t roles n =
-    line (codes "tier " ++ decimal t ++ codes " free " ++ decimal (count_by is_free roles) ++ codes " mapped " ++ decimal (count_by is_mapped roles) ++ codes " shadow " ++ decimal (count_by is_shadow roles) ++ codes " held " ++ decimal (count_by is_held roles) ++ codes " of " ++ decimal n)
+    line (codes "tier " ++ decimal t ++ codes " free " ++ decimal (count_by is_free_role roles) ++ codes " mapped " ++ decimal (count_by is_mapped_role roles) ++ codes " shadow " ++ decimal (count_by is_shadow_role roles) ++ codes " held " ++ decimal (count_by is_held_role roles) ++ codes " of " ++ decimal n)
 
 -- the line of tier t
 abbrev pub tier_text : Geometry → List Role → ℕ → List ℕ
@@ -70,11 +70,11 @@ shadow_text (Some s) = codes " shadow " ++ decimal s
 -- none, or the frame and the shadow of page b
 abbrev pub home_text : EndWords → ℕ → Option ℕ → List ℕ
 home_text e b None = codes " none"
-home_text e b (Some f) = codes " frame " ++ decimal f ++ shadow_text (shadow_of e b f)
+home_text e b (Some f) = codes " frame " ++ decimal f ++ shadow_text (end_shadow e b f)
 
 -- the line of page b
 abbrev pub page_text : EndWords → ℕ → List ℕ
-page_text e b = line (codes "page " ++ decimal b ++ home_text e b (home_of e b))
+page_text e b = line (codes "page " ++ decimal b ++ home_text e b (end_home e b))
 
 -- every backing page
 abbrev pub pages_text : Geometry → EndWords → List ℕ
@@ -115,19 +115,19 @@ report_text r =
     cpus_text r.script.programs r.results r.script.geometry.cpus ++ tiers_text r.script.geometry r.end.roles ++ pages_text r.script.geometry r.end ++ counts_text r
 
 -- a result is of a kind that the line can have
-abbrev pub Fits : Line → LineResult → Type 0
-Fits (Load v w) (Loaded x) = Unit {0}
-Fits (Store v w x) Stored = Unit {0}
-Fits (Add v w x) (Added y) = Unit {0}
-Fits (Await v w x max) (Met n) = Unit {0}
-Fits (Await v w x max) (Missed n) = Unit {0}
-Fits l r = ⊥
+abbrev pub IsResultOf : Line → LineResult → Type 0
+IsResultOf (Load v w) (Loaded x) = Unit {0}
+IsResultOf (Store v w x) Stored = Unit {0}
+IsResultOf (Add v w x) (Added y) = Unit {0}
+IsResultOf (Await v w x max) (Met n) = Unit {0}
+IsResultOf (Await v w x max) (Missed n) = Unit {0}
+IsResultOf l r = ⊥
 
 -- the results are no more than the lines, and each fits its line
 abbrev pub AllFit : List Line → List LineResult → Type 0
 AllFit lines [] = Unit {0}
 AllFit [] (r ∷ results) = ⊥
-AllFit (l ∷ lines) (r ∷ results) = Fits l r × AllFit lines results
+AllFit (l ∷ lines) (r ∷ results) = IsResultOf l r × AllFit lines results
 
 -- each processor's results fit its program
 abbrev pub EachFits : List (List Line) → List (List LineResult) → Type 0
@@ -139,5 +139,5 @@ pub record IsPrintable (r : Report) : Type 0 where
   pub programs : length r.script.programs ≡ r.script.geometry.cpus
   pub results : length r.results ≡ r.script.geometry.cpus
   pub fits : EachFits r.script.programs r.results
-  pub room : HasRoom r.script.geometry r.end
+  pub room : HasEndRoom r.script.geometry r.end
   pub names : NamesInRange r.script.geometry r.end

@@ -13,8 +13,5 @@ pub use line_result::LineResult;
 pub use nm_core::{EndWords, Role};
 pub use printing::{print, print_cpu};
 pub use report::Report;
-pub use roles::counts_sum;
+pub use roles::{counts_filters, counts_sum};
 pub use totals::summary;
-
-#[cfg(test)]
-mod tests;

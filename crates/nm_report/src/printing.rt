@@ -4,8 +4,8 @@ ghost use Rattle.std.specs.Prelude.{◌≡◌, ◌<◌, ◌++◌, map, length, s
 ghost use Rattle.std.specs.Fmt.{decimal};
 ghost use Rattle.nm_base.specs.Geometry.{frame_count, page_count};
 ghost use Rattle.nm_script.specs.Items.{place_text};
-ghost use Rattle.nm_core.specs.EndWords.{HasRoom};
-ghost use Rattle.nm_report.specs.Ends.{NamesInRange, is_free, is_mapped, is_shadow, is_held, named_beside};
+ghost use Rattle.nm_core.specs.EndWords.{HasEndRoom};
+ghost use Rattle.nm_report.specs.Ends.{NamesInRange, is_free_role, is_mapped_role, is_shadow_role, is_held_role, named_beside};
 ghost use Rattle.nm_report.specs.Texts.{IsPrintable, AllFit, EachFits, report_text, asked_text, given_text, made_text, all_made_text, cpu_text, cpus_text, roles_text, tier_text, tiers_text, shadow_text, home_text, page_text, pages_text, tally_text, faults_text, marks_text, moves_text, work_text, settled_text, counts_text};
 
 use crate::line_result::LineResult;
@@ -14,7 +14,7 @@ use nm_action::Tally;
 use nm_base::Geometry;
 use nm_core::{EndWords, Role};
 use nm_script::Line;
-use nm_text::push_number;
+use nm_text::push_field;
 use std::alloc::{AllocError, Global};
 
 /// The text of a report: the accesses of each processor with what they gave, the roles of each tier's frames, the
@@ -187,14 +187,6 @@ fn push_place(out: &mut Vec<u8>, word: &[u8], v: u32, w: u32) -> Result<(), Allo
     push_field(out, b".", u64::from(w))
 }
 
-/// Writes a word and a number.
-pub(crate) fn push_field(out: &mut Vec<u8>, word: &[u8], number: u64) -> Result<(), AllocError>
-    ensures { OnOk result (out.new.items ≡ out.old.items ++ word.now ++ decimal number) }
-{
-    out.extend_from_slice(word)?;
-    push_number(out, number)
-}
-
 /// Writes a line for each tier.
 fn push_each_tier(out: &mut Vec<u8>, g: &Geometry, roles: &[Role]) -> Result<(), AllocError>
     requires { length roles.now ≡ frame_count g.now }
@@ -243,10 +235,10 @@ fn push_roles(out: &mut Vec<u8>, t: u32, roles: &[Role], frames: u32) -> Result<
 
 /// Counts the frames of each role.
 fn count_roles(roles: &[Role]) -> RoleCounts
-    ensures free { result.free ≡ count_by is_free roles.now }
-    ensures mapped { result.mapped ≡ count_by is_mapped roles.now }
-    ensures shadow { result.shadow ≡ count_by is_shadow roles.now }
-    ensures held { result.held ≡ count_by is_held roles.now }
+    ensures free { result.free ≡ count_by is_free_role roles.now }
+    ensures mapped { result.mapped ≡ count_by is_mapped_role roles.now }
+    ensures shadow { result.shadow ≡ count_by is_shadow_role roles.now }
+    ensures held { result.held ≡ count_by is_held_role roles.now }
 {
     let mut counts = RoleCounts {
         free: 0,
@@ -267,7 +259,7 @@ fn count_roles(roles: &[Role]) -> RoleCounts
 
 /// Writes a line for each backing page.
 fn push_each_page(out: &mut Vec<u8>, g: &Geometry, end: &EndWords) -> Result<(), AllocError>
-    requires room { HasRoom g.now end.now }
+    requires room { HasEndRoom g.now end.now }
     requires names { NamesInRange g.now end.now }
     ensures { OnOk result (out.new.items ≡ out.old.items ++ pages_text g.now end.now) }
 {

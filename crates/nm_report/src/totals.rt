@@ -5,8 +5,9 @@ ghost use Rattle.nm_report.specs.Texts.{IsPrintable};
 ghost use Rattle.nm_report.specs.Summary.{is_load, is_store, loaded_value, access_count, load_count, store_count, loaded_sum, accesses_text, summary_text, AddsUp, HasNoAwait};
 
 use crate::line_result::LineResult;
-use crate::printing::{push_counts, push_field, push_tiers};
+use crate::printing::{push_counts, push_tiers};
 use crate::report::Report;
+use nm_text::push_field;
 use std::alloc::{AllocError, Global};
 
 /// The text of the summary of `drill` with this number and size: how many accesses there were, the sum of the values

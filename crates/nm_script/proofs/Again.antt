@@ -6,6 +6,8 @@ use Rattle.std.specs.Option.{is_some}
 use Rattle.std.proofs.lemmas.Bool.{cases_lt, cases_eq, le-leb, lt-ltb, le-ltb, eq-eqb}
 use Rattle.nm_text.specs.Cuts.{Lacks, strip_of}
 use Rattle.nm_text.proofs.NumberLemmas.{number_of-decimal, decimal-lacks}
+use Rattle.nm_text.proofs.KindLemmas.{kind-again}
+use Rattle.nm_text.proofs.FieldLemmas.{one_of-again, two_of-again, three_of-again}
 use Rattle.nm_text.proofs.CutLemmas.{cut_of-again, cut_of-lacks, strip_of-again, Lacks-append}
 use Rattle.nm_base.specs.declared.geometry.VPage.{VPage}
 use Rattle.nm_base.specs.Geometry.{IsPageSize}
@@ -17,12 +19,17 @@ use Rattle.nm_script.specs.declared.script.Line.{Line}
 use Rattle.nm_script.specs.declared.script.Line.TheVariants.{Load, Store, Add, Await}
 use Rattle.nm_script.specs.declared.schedule.PlanItem.{PlanItem}
 use Rattle.nm_script.specs.declared.item.Item.TheVariants as items
-use Rattle.nm_script.specs.Items.{actor_text, kind_text, right_text, place_text, access_text}
+use Rattle.nm_text.specs.Kinds.{kind_text}
+use Rattle.nm_script.specs.Items.{actor_text, right_text, place_text, access_text}
 use Rattle.nm_script.specs.Script.{IsPlanItem}
-use Rattle.nm_script.specs.Fields.{last_of, one_of, two_of, three_of, shuffle_of, right_of, map_of, is_actor, all_kinds, kind_among, go_of, place_of}
+use Rattle.nm_text.specs.Fields.{unspaced_of, one_of, two_of, three_of}
+use Rattle.nm_text.specs.Kinds.{all_kinds, kind_among}
+use Rattle.nm_script.specs.LineFaults.{page_word_of}
+use Rattle.nm_script.specs.Fields.{shuffle_of, right_of, map_of, is_actor, go_of}
 use Rattle.nm_script.specs.Told.{Told}
-use Rattle.nm_script.specs.Grammar.{IsReach}
-use Rattle.nm_script.specs.Reading.{number_in, ranged_in, below_in, is_page_size, page_in, page_line, tiers_in, tiers_line, node_in, node_line, cpus_in, cpus_line, retry_in, retry_line, serial_in, shuffle_in, plan_in, schedule_line, actor_in, cpu_after, go_in, go_line, map_in, map_line, cpu_in, cpu_line, place_in, reached, load_in, store_in, add_in, await_in, access_line}
+use Rattle.nm_script.specs.Following.{IsReach}
+use Rattle.nm_script.specs.LineFaults.{is_page_size}
+use Rattle.nm_script.specs.Reading.{number_in, ranged_in, below_in, page_in, page_line, tiers_in, tiers_line, node_in, node_line, cpus_in, cpus_line, retry_in, retry_line, serial_in, shuffle_in, plan_in, schedule_line, actor_in, cpu_after, go_in, go_line, map_in, map_line, cpu_in, cpu_line, place_in, reached, load_in, store_in, add_in, await_in, access_line}
 use Rattle.nm_script.proofs.FieldLemmas.{cpu_actor, migrator, reclaimer}
 use Rattle.nm_script.proofs.Says.{Ranged}
 
@@ -42,23 +49,6 @@ ranged_in-again low high n h a b = rw (number_in-again n h) (rw (le-leb low n a,
 below_in-again : (end n : ℕ) → n < 2 ^ 64 → n < end → below_in end (decimal n) ≡ Ok n
 unfolding below_in
 below_in-again end n h a = rw (number_in-again n h) (rw (lt-ltb n end a) refl)
-
-last_of-again : (f : List ℕ) → Lacks 32 f → last_of f ≡ Some f
-unfolding last_of
-last_of-again f h = rw (cut_of-lacks 32 f h) refl
-
-pub one_of-again : (word f : List ℕ) → Lacks 32 f → one_of word (word ++ f) ≡ Some f
-unfolding one_of
-one_of-again word f h = rw (strip_of-again word f) (last_of-again f h)
-
-pub two_of-again : (word a b : List ℕ) → Lacks 32 a → Lacks 32 b → two_of word (word ++ (a ++ 32 ∷ b)) ≡ Some (a, b)
-unfolding two_of
-two_of-again word a b h k = rw (strip_of-again word (a ++ 32 ∷ b)) (rw (cut_of-again 32 a b h) (rw (last_of-again b k) refl))
-
-pub three_of-again : (word a b c : List ℕ) → Lacks 32 a → Lacks 32 b → Lacks 32 c → three_of word (word ++ (a ++ 32 ∷ (b ++ 32 ∷ c))) ≡ Some (a, b, c)
-unfolding three_of
-three_of-again word a b c h k l =
-    rw (strip_of-again word (a ++ 32 ∷ (b ++ 32 ∷ c))) (rw (cut_of-again 32 a (b ++ 32 ∷ c) h) (rw (cut_of-again 32 b c k) (rw (last_of-again c l) refl)))
 
 -- ---- the lines
 
@@ -133,38 +123,6 @@ unfolding schedule_line plan_in
 plan-again t h =
     rw (serial_plan (decimal t)) (rw (shuffle_plan (decimal t)) (rw (one_of-again (codes "plan turns ") (decimal t) (lacks t (omega arith))) (rw (ranged_in-again 0 8000000 t (omega arith) (omega arith) h) refl)))
 
-pub kind-again : (k : ActionKind) → (kind_among all_kinds (kind_text k) ≡ Some k) × Lacks 32 (kind_text k)
-kind-again kinds.Load = (refl, refl)
-kind-again kinds.Store = (refl, refl)
-kind-again kinds.Add = (refl, refl)
-kind-again kinds.Look = (refl, refl)
-kind-again kinds.Walk = (refl, refl)
-kind-again kinds.Peek = (refl, refl)
-kind-again kinds.Poll = (refl, refl)
-kind-again kinds.Ack = (refl, refl)
-kind-again kinds.Lock = (refl, refl)
-kind-again kinds.Unlock = (refl, refl)
-kind-again kinds.Bump = (refl, refl)
-kind-again kinds.SeeAck = (refl, refl)
-kind-again kinds.Raise = (refl, refl)
-kind-again kinds.Soften = (refl, refl)
-kind-again kinds.Arm = (refl, refl)
-kind-again kinds.ClearDirty = (refl, refl)
-kind-again kinds.Unmap = (refl, refl)
-kind-again kinds.Map = (refl, refl)
-kind-again kinds.Grant = (refl, refl)
-kind-again kinds.CopyLoad = (refl, refl)
-kind-again kinds.CopyStore = (refl, refl)
-kind-again kinds.SetHome = (refl, refl)
-kind-again kinds.SetShadow = (refl, refl)
-kind-again kinds.TakeTurn = (refl, refl)
-kind-again kinds.Scan = (refl, refl)
-kind-again kinds.GiveFrame = (refl, refl)
-kind-again kinds.PutFrame = (refl, refl)
-kind-again kinds.ReleaseTurn = (refl, refl)
-kind-again kinds.Mark = (refl, refl)
-kind-again kinds.Read = (refl, refl)
-
 actor_form : (b c : Bool) (a : ℕ) → a < 2 ^ 64 → (is_actor (if b then codes "c" ++ decimal a else if c then codes "m" else codes "r") ≡ true) × Lacks 32 (if b then codes "c" ++ decimal a else if c then codes "m" else codes "r")
 unfolding is_actor strip_of
 actor_form true c a h = (refl, lacks a h)
@@ -237,7 +195,7 @@ place_lacks : (v w : ℕ) → v < 2 ^ 64 → w < 2 ^ 64 → Lacks 32 (place_text
 place_lacks v w h k = Lacks-append 32 (decimal v) (46 ∷ decimal w) (lacks v h) (lacks w k)
 
 place_in-again : (words v w : ℕ) → words ≤ 512 → v ≤ 4095 → w < words → place_in words (place_text v w) ≡ Ok (v, w)
-unfolding place_in place_of
+unfolding place_in page_word_of
 place_in-again words v w few h k =
     rw (cut_of-again 46 (decimal v) (decimal w) (decimal-lacks v 46 (omega arith) refl)) (rw (ranged_in-again 0 4095 v (omega arith) (omega arith) h) (rw (below_in-again words w (omega arith) k) refl))
 
@@ -276,11 +234,11 @@ add_await x = refl
 pub access_line-again : (s : Told) (l : Line) → s.words ≤ 512 → IsReach s.words s.vpages l → access_line s (access_text l) ≡ Some (Ok (items.Access l))
 unfolding access_line load_in store_in add_in await_in
 access_line-again s (Load v w) few h =
-    rw (one_of-again (codes "load ") (place_text v w) (place_lacks v w (omega (arith, h.1)) (omega (arith, h.2, few)))) (rw (place_in-again s.words v w few h.1 h.2) (rw (reads-again (slice_index_or s.vpages v None) (Load v w) h.0) refl))
+    rw (one_of-again (codes "load ") (place_text v w) (place_lacks v w (omega (arith, h.1)) (omega (arith, h.0.1, few)))) (rw (place_in-again s.words v w few h.1 h.0.1) (rw (reads-again (slice_index_or s.vpages v None) (Load v w) h.0.0) refl))
 access_line-again s (Store v w x) few h =
-    rw (load_store (place_text v w ++ 32 ∷ decimal x)) (rw (two_of-again (codes "store ") (place_text v w) (decimal x) (place_lacks v w (omega (arith, h.1)) (omega (arith, h.2, few))) (lacks x h.3)) (rw (place_in-again s.words v w few h.1 h.2) (rw (number_in-again x h.3) (rw (writes-again (slice_index_or s.vpages v None) (Store v w x) h.0) refl))))
+    rw (load_store (place_text v w ++ 32 ∷ decimal x)) (rw (two_of-again (codes "store ") (place_text v w) (decimal x) (place_lacks v w (omega (arith, h.1)) (omega (arith, h.0.1, few))) (lacks x h.0.2)) (rw (place_in-again s.words v w few h.1 h.0.1) (rw (number_in-again x h.0.2) (rw (writes-again (slice_index_or s.vpages v None) (Store v w x) h.0.0) refl))))
 access_line-again s (Add v w x) few h =
-    rw (load_add (place_text v w ++ 32 ∷ decimal x)) (rw (store_add (place_text v w ++ 32 ∷ decimal x)) (rw (two_of-again (codes "add ") (place_text v w) (decimal x) (place_lacks v w (omega (arith, h.1)) (omega (arith, h.2, few))) (lacks x h.3)) (rw (place_in-again s.words v w few h.1 h.2) (rw (number_in-again x h.3) (rw (writes-again (slice_index_or s.vpages v None) (Add v w x) h.0) refl)))))
+    rw (load_add (place_text v w ++ 32 ∷ decimal x)) (rw (store_add (place_text v w ++ 32 ∷ decimal x)) (rw (two_of-again (codes "add ") (place_text v w) (decimal x) (place_lacks v w (omega (arith, h.1)) (omega (arith, h.0.1, few))) (lacks x h.0.2)) (rw (place_in-again s.words v w few h.1 h.0.1) (rw (number_in-again x h.0.2) (rw (writes-again (slice_index_or s.vpages v None) (Add v w x) h.0.0) refl)))))
 access_line-again s (Await v w x n) few h =
     rw (load_await (place_text v w ++ 32 ∷ (decimal x ++ 32 ∷ decimal n))) (rw (store_await (place_text v w ++ 32 ∷ (decimal x ++ 32 ∷ decimal n))) (rw (add_await (place_text v w ++ 32 ∷ (decimal x ++ 32 ∷ decimal n))) (
-    rw (three_of-again (codes "await ") (place_text v w) (decimal x) (decimal n) (place_lacks v w (omega (arith, h.1)) (omega (arith, h.2, few))) (lacks x h.3) (lacks n (omega (arith, h.5)))) (rw (place_in-again s.words v w few h.1 h.2) (rw (number_in-again x h.3) (rw (ranged_in-again 1 1000000000 n (omega (arith, h.5)) h.4 h.5) (rw (reads-again (slice_index_or s.vpages v None) (Await v w x n) h.0) refl)))))))
+    rw (three_of-again (codes "await ") (place_text v w) (decimal x) (decimal n) (place_lacks v w (omega (arith, h.1)) (omega (arith, h.0.1, few))) (lacks x h.0.2) (lacks n (omega (arith, h.0.4)))) (rw (place_in-again s.words v w few h.1 h.0.1) (rw (number_in-again x h.0.2) (rw (ranged_in-again 1 1000000000 n (omega (arith, h.0.4)) h.0.3 h.0.4) (rw (reads-again (slice_index_or s.vpages v None) (Await v w x n) h.0.0) refl)))))))

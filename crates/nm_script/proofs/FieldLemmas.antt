@@ -10,11 +10,16 @@ use Rattle.std.proofs.lemmas.Fmt.{decimal_nonempty}
 use Rattle.nm_text.specs.Numbers.{number_of}
 use Rattle.nm_text.specs.Cuts.{cut_of, strip_of}
 use Rattle.nm_text.proofs.NumberLemmas.{number_of-some}
+use Rattle.nm_text.proofs.KindLemmas.{kind_among-some}
+use Rattle.nm_text.proofs.FieldLemmas.{chained_option, three_of-some}
 use Rattle.nm_text.proofs.CutLemmas.{cut_of-some, strip_of-some}
 use Rattle.nm_action.specs.declared.kind.ActionKind.{ActionKind}
-use Rattle.nm_script.specs.Items.{actor_text, kind_text, right_text, place_text}
-use Rattle.nm_script.specs.Fields as fields
-use Rattle.nm_script.specs.Fields.{uncut, last_of, one_of, two_of, three_of, shuffle_of, right_of, map_of, is_actor, all_kinds, kind_among, go_of, dotted, place_of}
+use Rattle.nm_text.specs.Kinds.{kind_text}
+use Rattle.nm_script.specs.Items.{actor_text, right_text, place_text}
+use Rattle.nm_text.specs.Fields.{uncut, unspaced_of, one_of, two_of, three_of}
+use Rattle.nm_text.specs.Kinds.{all_kinds, kind_among}
+use Rattle.nm_script.specs.LineFaults.{dotted, page_word_of}
+use Rattle.nm_script.specs.Fields.{shuffle_of, right_of, map_of, is_actor, go_of}
 use Rattle.nm_script.specs.Reading.{◌>>=◌, either_of, or_bad, number_in, ranged_in, below_in, cpu_after, actor_in, place_in}
 
 -- ---- chains of readings
@@ -22,10 +27,6 @@ use Rattle.nm_script.specs.Reading.{◌>>=◌, either_of, or_bad, number_in, ran
 pub chained : {A B E : Type 0} (r : Result A E) (f : A → Result B E) (y : B) → (r >>= f) ≡ Ok y → (x : A) × ((r ≡ Ok x) × (f x ≡ Ok y))
 chained (Ok x) f y e = (x, (refl, e))
 chained (Err z) f y e = absurd (cc)
-
-pub chained_option : {A B : Type 0} (o : Option A) (f : A → Option B) (y : B) → fields.◌>>=◌ o f ≡ Some y → (x : A) × ((o ≡ Some x) × (f x ≡ Some y))
-chained_option None f y e = absurd (none-some y e)
-chained_option (Some x) f y e = (x, (refl, e))
 
 pub mapped : {A B : Type 0} (o : Option A) (f : A → B) (y : B) → option_map f o ≡ Some y → (x : A) × ((o ≡ Some x) × (f x ≡ y))
 mapped None f y e = absurd (none-some y e)
@@ -70,41 +71,6 @@ below_in-some end field n e =
 
 -- ---- the fields of a line
 
-uncut-some : (o : Option (List ℕ × List ℕ)) (field f : List ℕ) → uncut o field ≡ Some f → field ≡ f
-uncut-some None field f e = same_Some _ _ e
-uncut-some (Some p) field f e = absurd (none-some f e)
-
-last_of-some : (field f : List ℕ) → last_of field ≡ Some f → field ≡ f
-unfolding last_of
-last_of-some field f e = uncut-some (cut_of 32 field) field f e
-
-pub one_of-some : (word line f : List ℕ) → one_of word line ≡ Some f → line ≡ word ++ f
-unfolding one_of
-one_of-some word line f e =
-    let rest = chained_option _ _ _ e in
-    strip_of-some word line rest.0 rest.1.0 ∙ ap (λ r. word ++ r) (last_of-some rest.0 f rest.1.1)
-
-pub two_of-some : (word line : List ℕ) (p : List ℕ × List ℕ) → two_of word line ≡ Some p → line ≡ word ++ (p.0 ++ 32 ∷ p.1)
-unfolding two_of
-two_of-some word line p e =
-    let rest = chained_option _ _ _ e in
-    let a = chained_option _ _ _ rest.1.1 in
-    let b = chained_option _ _ _ a.1.1 in
-    let is : line ≡ word ++ (a.0.0 ++ 32 ∷ b.0) = strip_of-some word line rest.0 rest.1.0 ∙ ap (λ r. word ++ r) ((cut_of-some 32 rest.0 a.0 a.1.0).0 ∙ ap (λ r. a.0.0 ++ 32 ∷ r) (last_of-some a.0.1 b.0 b.1.0)) in
-    subst (λ (q : List ℕ × List ℕ). line ≡ word ++ (q.0 ++ 32 ∷ q.1)) (same_Some _ _ b.1.1) is
-
-pub three_of-some : (word line : List ℕ) (p : List ℕ × List ℕ × List ℕ) → three_of word line ≡ Some p → line ≡ word ++ (p.0 ++ 32 ∷ (p.1 ++ 32 ∷ p.2))
-unfolding three_of
-three_of-some word line p e =
-    let rest = chained_option _ _ _ e in
-    let a = chained_option _ _ _ rest.1.1 in
-    let b = chained_option _ _ _ a.1.1 in
-    let c = chained_option _ _ _ b.1.1 in
-    let tail : b.0.1 ≡ c.0 = last_of-some b.0.1 c.0 c.1.0 in
-    let after : a.0.1 ≡ b.0.0 ++ 32 ∷ c.0 = (cut_of-some 32 a.0.1 b.0 b.1.0).0 ∙ ap (λ r. b.0.0 ++ 32 ∷ r) tail in
-    let is : line ≡ word ++ (a.0.0 ++ 32 ∷ (b.0.0 ++ 32 ∷ c.0)) = strip_of-some word line rest.0 rest.1.0 ∙ ap (λ r. word ++ r) ((cut_of-some 32 rest.0 a.0 a.1.0).0 ∙ ap (λ r. a.0.0 ++ 32 ∷ r) after) in
-    subst (λ (q : List ℕ × List ℕ × List ℕ). line ≡ word ++ (q.0 ++ 32 ∷ (q.1 ++ 32 ∷ q.2))) (same_Some _ _ c.1.1) is
-
 pub shuffle_of-some : (line : List ℕ) (p : List ℕ × List ℕ) → shuffle_of line ≡ Some p → line ≡ codes "shuffle " ++ (p.0 ++ (codes " turns " ++ p.1))
 unfolding shuffle_of
 shuffle_of-some line p e =
@@ -130,14 +96,6 @@ map_of-some line p e =
     let right = chained_option _ _ _ parts.1.1 in
     let is : line ≡ codes "map " ++ (parts.0.0 ++ 32 ∷ (parts.0.1 ++ 32 ∷ right_text right.0)) = three_of-some (codes "map ") line parts.0 parts.1.0 ∙ ap (λ w. codes "map " ++ (parts.0.0 ++ 32 ∷ (parts.0.1 ++ 32 ∷ w))) (right_of-some parts.0.2 right.0 right.1.0) in
     subst (λ (q : List ℕ × List ℕ × Bool). line ≡ codes "map " ++ (q.0 ++ 32 ∷ (q.1 ++ 32 ∷ right_text q.2))) (same_Some _ _ right.1.1) is
-
-kind_case : (b : Bool) (ks : List ActionKind) (k : ActionKind) (word : List ℕ) (kind : ActionKind) → bytes_eq (kind_text k) word ≡ b → (if b then Some k else kind_among ks word) ≡ Some kind → (kind_among ks word ≡ Some kind → word ≡ kind_text kind) → word ≡ kind_text kind
-kind_case true ks k word kind a e later = sym ((bytes_eq-Decides (kind_text k) word).0 a) ∙ ap kind_text (same_Some _ _ e)
-kind_case false ks k word kind a e later = later e
-
-pub kind_among-some : (ks : List ActionKind) (word : List ℕ) (kind : ActionKind) → kind_among ks word ≡ Some kind → word ≡ kind_text kind
-kind_among-some [] word kind e = absurd (none-some kind e)
-kind_among-some (k ∷ ks) word kind e = kind_case (bytes_eq (kind_text k) word) ks k word kind refl e (kind_among-some ks word kind)
 
 pub go_of-some : (line : List ℕ) (p : List ℕ × ActionKind × List ℕ) → go_of line ≡ Some p → line ≡ codes "go " ++ (p.0 ++ 32 ∷ (kind_text p.1 ++ 32 ∷ p.2))
 unfolding go_of
@@ -192,7 +150,7 @@ dotted-some (Some p) words field v w c a b = (cut_of-some 46 field p c).0 ∙ ap
 
 -- a virtual page and a word
 pub place_in-some : (words : ℕ) (field : List ℕ) (p : ℕ × ℕ) → place_in words field ≡ Ok p → (field ≡ place_text p.0 p.1) × (p.0 ≤ 4095) × (p.1 < words)
-unfolding place_in place_of
+unfolding place_in page_word_of
 place_in-some words field p e =
     let v = chained _ _ _ e in
     let w = chained _ _ _ v.1.1 in

@@ -9,16 +9,15 @@ use Rattle.nm_base.specs.Geometry.{IsGeometry, AreTiers, pages_of, made}
 use Rattle.nm_tiers.specs.declared.nodes.Node.{Node}
 use Rattle.nm_tiers.specs.Tiers.{frames_at, quotients_of, tiers_of, tier_count}
 use Rattle.nm_script.specs.declared.script.Line.{Line}
-use Rattle.nm_script.specs.declared.script.Line.TheVariants.{Load, Store, Add, Await}
 use Rattle.nm_script.specs.declared.schedule.PlanItem.{PlanItem}
 use Rattle.nm_script.specs.declared.item.Place.{Place}
 use Rattle.nm_script.specs.declared.item.Place.TheVariants as places
 use Rattle.nm_script.specs.declared.item.Order.{Order}
 use Rattle.nm_script.specs.declared.item.Order.TheVariants as orders
 use Rattle.nm_script.specs.Script.{IsAccess, IsPlanItem, IsSchedule, HasVersion, IsScript}
-use Rattle.nm_script.specs.Grammar.{IsReach}
+use Rattle.nm_script.specs.Following.{IsReach}
 use Rattle.nm_script.specs.Told.{Told, is_program, is_whole, schedule_of, script_of}
-use Rattle.nm_script.specs.Holds.{IsPair, IsMachine, IsOrder, Stands, IsOpen, IsTold}
+use Rattle.nm_script.specs.Holds.{IsPair, IsMachine, IsOrder, Stands, IsOpen, IsToldSoFar}
 use Rattle.nm_script.proofs.FullTiers.{tiers_some}
 
 -- ---- tiers
@@ -57,7 +56,7 @@ machine_tiers version tiers frames nodes retry m low =
 
 -- ---- the geometry
 
-program_place : (p : Place) → is_program p ≡ true → p ≡ places.Program
+pub program_place : (p : Place) → is_program p ≡ true → p ≡ places.Program
 program_place places.Begin e = absurd (cc)
 program_place places.Version e = absurd (cc)
 program_place places.Page e = absurd (cc)
@@ -69,7 +68,7 @@ program_place places.Plan e = absurd (cc)
 program_place places.Map e = absurd (cc)
 program_place places.Program e = refl
 
-whole_open : (s : Told) → IsTold s → s.place ≡ places.Program → IsOpen s
+whole_open : (s : Told) → IsToldSoFar s → s.place ≡ places.Program → IsOpen s
 whole_open s told e = elim told [ inl n ↦ absurd (begins (sym (ap (λ t. t.place) n) ∙ e)) | inr h ↦ h ]
   where
     begins : places.Begin ≡ places.Program → ⊥
@@ -85,7 +84,7 @@ open_geometry s h e =
     }
 
 -- a machine can have the geometry that a whole text told
-pub told-geometry : (s : Told) → IsTold s → is_whole s ≡ true → IsGeometry (made s.words s.tiers s.cpus s.vpages)
+pub told-geometry : (s : Told) → IsToldSoFar s → is_whole s ≡ true → IsGeometry (made s.words s.tiers s.cpus s.vpages)
 told-geometry s told whole =
     let place = program_place s.place (and_parts _ _ whole).0 in
     open_geometry s (whole_open s told place) place
@@ -119,10 +118,7 @@ is_schedule cpus (orders.Shuffle n t) plan h g = h
 is_schedule cpus (orders.Plan t) plan h g = (h, g)
 
 reach_access : (words : ℕ) (tiers : List ℕ) (cpus : ℕ) (vs : List (Option VPage)) (l : Line) → IsReach words vs l → IsAccess (made words tiers cpus vs) l
-reach_access words tiers cpus vs (Load v w) h = (h.0, h.2)
-reach_access words tiers cpus vs (Store v w x) h = (h.0, h.2, h.3)
-reach_access words tiers cpus vs (Add v w x) h = (h.0, h.2, h.3)
-reach_access words tiers cpus vs (Await v w x n) h = (h.0, h.2, h.3, h.4, h.5)
+reach_access words tiers cpus vs l h = h.0
 
 -- what holds of each one
 pub All-map : {X : Type 0} (P Q : X → Type 0) (xs : List X) → ((x : X) → P x → Q x) → AllByRecursion P xs → AllByRecursion Q xs
@@ -142,7 +138,7 @@ open_script s h e count =
     }
 
 -- a whole text told a script
-pub told-script : (s : Told) → IsTold s → is_whole s ≡ true → IsScript (script_of s)
+pub told-script : (s : Told) → IsToldSoFar s → is_whole s ≡ true → IsScript (script_of s)
 told-script s told whole =
     let both = and_parts _ _ whole in
     let place = program_place s.place both.0 in

@@ -7,13 +7,13 @@ use Rattle.nm_script.specs.declared.fault.ScriptFault.TheVariants as faults
 use Rattle.nm_script.specs.declared.fault.ScriptRefusal.{ScriptRefusal}
 use Rattle.nm_script.specs.declared.fault.ScriptRefusal.TheVariants as refusals
 use Rattle.nm_script.specs.Plain.{Script}
-use Rattle.nm_script.specs.Fields.{lines_of}
+use Rattle.nm_text.specs.Fields.{lines_of}
 use Rattle.nm_script.specs.Told.{Told, nothing, with_item, is_whole, script_of}
-use Rattle.nm_script.specs.Grammar.{AreLines}
+use Rattle.nm_script.specs.Following.{AreLines}
 use Rattle.nm_script.specs.LineFaults.{IsLineFault}
-use Rattle.nm_script.specs.Faults.{IsFaultAt, IsFirstFault, IsRefusal}
-use Rattle.nm_script.specs.Holds.{IsTold}
-use Rattle.nm_script.specs.Reading.{◌>>=◌, Reads, step, at_line, told_after, ended, script_in, reading}
+use Rattle.nm_script.specs.Faults.{IsFaultAt, IsFirstFault, IsTextRefusal}
+use Rattle.nm_script.specs.Holds.{IsToldSoFar}
+use Rattle.nm_script.specs.Reading.{◌>>=◌, GivesReading, told_with, at_line, told_after, ended, script_in, reading}
 use Rattle.nm_script.proofs.Tellings.{told-step}
 use Rattle.nm_script.proofs.Steps.{step-again}
 use Rattle.nm_script.proofs.Texts.{step-some, lines-found}
@@ -35,7 +35,7 @@ record Stops (s : Told) (k : ℕ) (ls : List (List ℕ)) (f : ScriptFault) (n : 
   fault : IsLineFault told next f
   count : n ≡ length front + k
 
-stops-after : (s m : Told) (k : ℕ) (l : List ℕ) (ls : List (List ℕ)) (f : ScriptFault) (n : ℕ) → IsTold s → step s l ≡ Ok m → Stops m (k + 1) ls f n → Stops s k (l ∷ ls) f n
+stops-after : (s m : Told) (k : ℕ) (l : List ℕ) (ls : List (List ℕ)) (f : ScriptFault) (n : ℕ) → IsToldSoFar s → told_with s l ≡ Ok m → Stops m (k + 1) ls f n → Stops s k (l ∷ ls) f n
 stops-after s m k l ls f n told taken h =
     let i = step-some s m l told taken in
     record {
@@ -49,16 +49,16 @@ stops-after s m k l ls f n told taken h =
       count = omega (arith, h.count);
     }
 
-stops_case : (s : Told) (k : ℕ) (l : List ℕ) (ls : List (List ℕ)) (f : ScriptFault) (n : ℕ) (r : Result Told ScriptFault) → IsTold s → step s l ≡ r → (at_line k r >>= λ u. told_after u (k + 1) ls) ≡ Err (f, n)
-    → ((m : Told) → IsTold m → told_after m (k + 1) ls ≡ Err (f, n) → Stops m (k + 1) ls f n) → Stops s k (l ∷ ls) f n
+stops_case : (s : Told) (k : ℕ) (l : List ℕ) (ls : List (List ℕ)) (f : ScriptFault) (n : ℕ) (r : Result Told ScriptFault) → IsToldSoFar s → told_with s l ≡ r → (at_line k r >>= λ u. told_after u (k + 1) ls) ≡ Err (f, n)
+    → ((m : Told) → IsToldSoFar m → told_after m (k + 1) ls ≡ Err (f, n) → Stops m (k + 1) ls f n) → Stops s k (l ∷ ls) f n
 stops_case s k l ls f n (Ok m) told is h later = stops-after s m k l ls f n told is (later m (told-step s m l told is) h)
 stops_case s k l ls f n (Err g) told is h later =
     let same = same_fault g f k n h in
     record { front = []; next = l; rest = ls; told = s; split = refl; lines = refl; fault = refused-line s l f told (is ∙ ap (λ x. Err x) same.0); count = omega (arith, same.1) }
 
-stops : (s : Told) (k : ℕ) (ls : List (List ℕ)) (f : ScriptFault) (n : ℕ) → IsTold s → told_after s k ls ≡ Err (f, n) → Stops s k ls f n
+stops : (s : Told) (k : ℕ) (ls : List (List ℕ)) (f : ScriptFault) (n : ℕ) → IsToldSoFar s → told_after s k ls ≡ Err (f, n) → Stops s k ls f n
 stops s k [] f n told e = absurd (cc)
-stops s k (l ∷ ls) f n told e = stops_case s k l ls f n (step s l) told refl e (λ m t h. stops m (k + 1) ls f n t h)
+stops s k (l ∷ ls) f n told e = stops_case s k l ls f n (told_with s l) told refl e (λ m t h. stops m (k + 1) ls f n t h)
 
 missing : (b : Bool) (s : Told) (k n : ℕ) (f : ScriptFault) → is_whole s ≡ b → ◌≡◌ {A = Result Script (ScriptFault × ℕ)} (if b then Ok (script_of s) else Err (faults.MissingLine, k + 1)) (Err (f, n)) → (is_whole s ≡ false) × (f ≡ faults.MissingLine) × (n ≡ k + 1)
 missing true s k n f w e = absurd (cc)
@@ -80,28 +80,28 @@ found bytes (l ∷ ls) f n are e = go (told_after nothing 1 (l ∷ ls)) refl e
         record { front = s.front; rest = s.next ∷ s.rest; told = s.told; split = are ∙ s.split; lines = s.lines; here = s.fault; count = s.count }
 
 -- lines that follow one another are taken
-runs : (s t : Told) (k : ℕ) (front rest : List (List ℕ)) → IsTold s → AreLines s front t → told_after s k (front ++ rest) ≡ told_after t (length front + k) rest
+runs : (s t : Told) (k : ℕ) (front rest : List (List ℕ)) → IsToldSoFar s → AreLines s front t → told_after s k (front ++ rest) ≡ told_after t (length front + k) rest
 runs s t k [] rest told h =
     let line : k ≡ 0 + k = omega arith in
     ap (λ u. told_after u k rest) h ∙ ap (λ j. told_after t j rest) line
 runs s t k (l ∷ front) rest told h =
-    let taken : step s l ≡ Ok (with_item s h.0) = ap (step s) h.1 ∙ step-again s h.0 told h.2 in
+    let taken : told_with s l ≡ Ok (with_item s h.0) = ap (told_with s) h.1 ∙ step-again s h.0 told h.2 in
     let line : length front + (k + 1) ≡ length (l ∷ front) + k = omega arith in
     ap (λ r. at_line k r >>= λ u. told_after u (k + 1) (front ++ rest)) taken
     ∙ runs (with_item s h.0) t (k + 1) front rest (told-step s (with_item s h.0) l told taken) h.3
     ∙ ap (λ j. told_after t j rest) line
 
 -- what holds after lines that follow one another
-told-lines : (s t : Told) (front : List (List ℕ)) → IsTold s → AreLines s front t → IsTold t
-told-lines s t [] told h = subst (λ (u : Told). IsTold u) h told
+told-lines : (s t : Told) (front : List (List ℕ)) → IsToldSoFar s → AreLines s front t → IsToldSoFar t
+told-lines s t [] told h = subst (λ (u : Told). IsToldSoFar u) h told
 told-lines s t (l ∷ front) told h =
-    let taken : step s l ≡ Ok (with_item s h.0) = ap (step s) h.1 ∙ step-again s h.0 told h.2 in
+    let taken : told_with s l ≡ Ok (with_item s h.0) = ap (told_with s) h.1 ∙ step-again s h.0 told h.2 in
     told-lines (with_item s h.0) t front (told-step s (with_item s h.0) l told taken) h.3
 
 only : (front rest : List (List ℕ)) (t : Told) (f : ScriptFault) → AreLines nothing front t → IsFaultAt front t rest f → script_in (front ++ rest) ≡ Err (f, length front + 1)
 only [] [] t f lines here = ap (λ g. Err (g, 1)) (sym here)
 only [] (l ∷ ls) t f lines here =
-    let refused : step t l ≡ Err f = line-refused t l f (told-lines nothing t [] (inl refl) lines) here in
+    let refused : told_with t l ≡ Err f = line-refused t l f (told-lines nothing t [] (inl refl) lines) here in
     let all : told_after nothing 1 (l ∷ ls) ≡ Err (f, 1) = runs nothing t 1 [] (l ∷ ls) (inl refl) lines ∙ ap (λ r. at_line 1 r >>= λ u. told_after u 2 ls) refused in
     ap (λ r. r >>= ended (length (l ∷ ls))) all
 only (k ∷ ks) [] t f lines here =
@@ -110,7 +110,7 @@ only (k ∷ ks) [] t f lines here =
     ap script_in (append-nil (k ∷ ks)) ∙ ap (λ r. r >>= ended n) all ∙ ap (λ b. if b then Ok (script_of t) else Err (faults.MissingLine, n + 1)) here.0 ∙ ap (λ g. Err (g, n + 1)) (sym here.1)
 only (k ∷ ks) (l ∷ ls) t f lines here =
     let n : ℕ = length (k ∷ ks) + 1 in
-    let refused : step t l ≡ Err f = line-refused t l f (told-lines nothing t (k ∷ ks) (inl refl) lines) here in
+    let refused : told_with t l ≡ Err f = line-refused t l f (told-lines nothing t (k ∷ ks) (inl refl) lines) here in
     let all : told_after nothing 1 ((k ∷ ks) ++ l ∷ ls) ≡ Err (f, n) = runs nothing t 1 (k ∷ ks) (l ∷ ls) (inl refl) lines ∙ ap (λ r. at_line n r >>= λ u. told_after u (n + 1) ls) refused in
     ap (λ r. r >>= ended (length ((k ∷ ks) ++ l ∷ ls))) all
 
@@ -118,12 +118,16 @@ only (k ∷ ks) (l ∷ ls) t f lines here =
 pub fault-read : (bytes : List ℕ) (f : ScriptFault) (n : ℕ) → IsFirstFault bytes f n → reading bytes ≡ Err (f, n)
 fault-read bytes f n h = ap script_in h.split ∙ only h.front h.rest h.told f h.lines h.here ∙ ap (λ k. Err (f, k)) (sym h.count)
 
+-- what is read of a text that is refused is its first fault
+pub fault-found : (bytes : List ℕ) (f : ScriptFault) (n : ℕ) → reading bytes ≡ Err (f, n) → IsFirstFault bytes f n
+fault-found bytes f n e = found bytes (lines_of bytes) f n refl e
+
 -- the refusal of what was read is its first fault
-pub fault-of : (r : Result Script ScriptRefusal) (bytes : List ℕ) → Reads r (reading bytes) → IfErr r (IsRefusal bytes)
+pub fault-of : (r : Result Script ScriptRefusal) (bytes : List ℕ) → GivesReading r (reading bytes) → IfErr r (IsTextRefusal bytes)
 fault-of (Ok s) bytes exact = tt
 fault-of (Err refusals.Memory) bytes exact = tt
 fault-of (Err (refusals.At f n)) bytes exact = found bytes (lines_of bytes) f n refl exact
 
 -- where a text has a first fault, what was read is that
-pub fault-only : (r : Result Script ScriptRefusal) (bytes : List ℕ) → Reads r (reading bytes) → (f : ScriptFault) (n : ℕ) → IsFirstFault bytes f n → Reads r (Err (f, n))
-fault-only r bytes exact f n h = subst (λ (o : Result Script (ScriptFault × ℕ)). Reads r o) (fault-read bytes f n h) exact
+pub fault-only : (r : Result Script ScriptRefusal) (bytes : List ℕ) → GivesReading r (reading bytes) → (f : ScriptFault) (n : ℕ) → IsFirstFault bytes f n → GivesReading r (Err (f, n))
+fault-only r bytes exact f n h = subst (λ (o : Result Script (ScriptFault × ℕ)). GivesReading r o) (fault-read bytes f n h) exact

@@ -13,58 +13,22 @@ use Rattle.nm_script.specs.declared.fault.ScriptFault.{ScriptFault}
 use Rattle.nm_script.specs.declared.item.Item.{Item}
 use Rattle.nm_script.specs.declared.item.Place.{Place}
 use Rattle.nm_script.specs.declared.item.Place.TheVariants as places
-use Rattle.nm_script.specs.Items.{kind_text, right_text}
-use Rattle.nm_script.specs.Fields.{uncut, last_of, one_of, two_of, three_of, shuffle_of, map_of, is_actor, all_kinds, go_of}
+use Rattle.nm_text.specs.Kinds.{kind_text}
+use Rattle.nm_script.specs.Items.{right_text}
+use Rattle.nm_text.specs.Fields.{uncut, unspaced_of, one_of, two_of, three_of}
+use Rattle.nm_text.specs.Kinds.{all_kinds}
+use Rattle.nm_script.specs.Fields.{shuffle_of, map_of, is_actor, go_of}
 use Rattle.nm_script.specs.Told.{Told}
-use Rattle.nm_script.specs.Grammar.{IsOneOf}
+use Rattle.nm_script.specs.Following.{IsOneOf, before_of}
 use Rattle.nm_script.specs.LineFaults as forms
-use Rattle.nm_script.specs.LineFaults.{Actor, Form, actor_word, words_of, spaced, IsFormOf, after_of, IsOfVersion, MayStand}
+use Rattle.nm_script.specs.LineFaults.{Actor, Form, actor_word, form_words, spaced, IsFormOf, item_of, IsOfVersion, MayStand}
 use Rattle.nm_script.specs.Reading.{page_line, tiers_line, node_line, cpus_line, retry_line, serial_in, shuffle_in, plan_in, schedule_line, go_in, go_line, map_line, cpu_line, load_in, store_in, add_in, await_in, access_line, tier_line, more_line, form_at}
-use Rattle.nm_script.proofs.FieldLemmas.{chained_option, mapped, either_some, right_of-some, kind_among-some}
+use Rattle.nm_text.proofs.FieldLemmas.{chained_option, one_of-parts, two_of-parts, three_of-parts}
+use Rattle.nm_text.proofs.KindLemmas.{kind_among-some}
+use Rattle.nm_script.proofs.FieldLemmas.{mapped, either_some, right_of-some}
 use Rattle.nm_script.proofs.Questions.{read_as}
 
--- ---- the fields of a line have no spaces
-
-uncut-lacks : (o : Option (List ℕ × List ℕ)) (field f : List ℕ) → cut_of 32 field ≡ o → uncut o field ≡ Some f → (field ≡ f) × Lacks 32 f
-uncut-lacks None field f c e =
-    let same : field ≡ f = same_Some _ _ e in
-    (same, subst (λ g. Lacks 32 g) same (cut_of-none 32 field c))
-uncut-lacks (Some p) field f c e = absurd (none-some f e)
-
-last_of-parts : (field f : List ℕ) → last_of field ≡ Some f → (field ≡ f) × Lacks 32 f
-unfolding last_of
-last_of-parts field f e = uncut-lacks (cut_of 32 field) field f refl e
-
-one_of-parts : (word line f : List ℕ) → one_of word line ≡ Some f → (line ≡ word ++ f) × Lacks 32 f
-unfolding one_of
-one_of-parts word line f e =
-    let rest = chained_option _ _ _ e in
-    let f_ = last_of-parts rest.0 f rest.1.1 in
-    (strip_of-some word line rest.0 rest.1.0 ∙ ap (λ r. word ++ r) f_.0, f_.1)
-
-two_of-parts : (word line : List ℕ) (p : List ℕ × List ℕ) → two_of word line ≡ Some p → (line ≡ word ++ (p.0 ++ 32 ∷ p.1)) × Lacks 32 p.0 × Lacks 32 p.1
-unfolding two_of
-two_of-parts word line p e =
-    let rest = chained_option _ _ _ e in
-    let a = chained_option _ _ _ rest.1.1 in
-    let b = chained_option _ _ _ a.1.1 in
-    let x = cut_of-some 32 rest.0 a.0 a.1.0 in
-    let y = last_of-parts a.0.1 b.0 b.1.0 in
-    subst (λ (q : List ℕ × List ℕ). (line ≡ word ++ (q.0 ++ 32 ∷ q.1)) × Lacks 32 q.0 × Lacks 32 q.1) (same_Some _ _ b.1.1)
-    (strip_of-some word line rest.0 rest.1.0 ∙ ap (λ r. word ++ r) (x.0 ∙ ap (λ r. a.0.0 ++ 32 ∷ r) y.0), x.1, y.1)
-
-three_of-parts : (word line : List ℕ) (p : List ℕ × List ℕ × List ℕ) → three_of word line ≡ Some p → (line ≡ word ++ (p.0 ++ 32 ∷ (p.1 ++ 32 ∷ p.2))) × Lacks 32 p.0 × Lacks 32 p.1 × Lacks 32 p.2
-unfolding three_of
-three_of-parts word line p e =
-    let rest = chained_option _ _ _ e in
-    let a = chained_option _ _ _ rest.1.1 in
-    let b = chained_option _ _ _ a.1.1 in
-    let c = chained_option _ _ _ b.1.1 in
-    let x = cut_of-some 32 rest.0 a.0 a.1.0 in
-    let y = cut_of-some 32 a.0.1 b.0 b.1.0 in
-    let z = last_of-parts b.0.1 c.0 c.1.0 in
-    subst (λ (q : List ℕ × List ℕ × List ℕ). (line ≡ word ++ (q.0 ++ 32 ∷ (q.1 ++ 32 ∷ q.2))) × Lacks 32 q.0 × Lacks 32 q.1 × Lacks 32 q.2) (same_Some _ _ c.1.1)
-    (strip_of-some word line rest.0 rest.1.0 ∙ ap (λ r. word ++ r) (x.0 ∙ ap (λ r. a.0.0 ++ 32 ∷ r) (y.0 ∙ ap (λ r. b.0.0 ++ 32 ∷ r) z.0)), x.1, y.1, z.1)
+-- ---- the fields of a line
 
 shuffle_of-parts : (line : List ℕ) (p : List ℕ × List ℕ) → shuffle_of line ≡ Some p → IsFormOf line (forms.shuffle p.0 p.1)
 unfolding shuffle_of
@@ -127,7 +91,7 @@ go_of-parts line p e =
 -- the line has a form that may stand after p, and this is read by it
 record Found (s : Told) (p : Place) (line : List ℕ) (r : Result Item ScriptFault) : Type 0 where
   form : Form
-  stands : IsOneOf (after_of form) p
+  stands : IsOneOf (before_of (item_of s.cpus form)) p
   has : IsOfVersion s form
   is : IsFormOf line form
   read : read_as s form ≡ r

@@ -7,13 +7,12 @@ pub mod FormsFound
 pub mod FullTiers
 pub mod LineFaultRows
 pub mod LineFaults
-pub mod Lines
 pub mod Mapped
+pub mod Maps
 pub mod Memory
 pub mod MoreTiers
-pub mod NeverLong
 pub mod Printed
-pub mod PrintedAgain
+pub mod OneReading
 pub mod Questions
 pub mod Says
 pub mod Sections
@@ -21,4 +20,6 @@ pub mod Spelled
 pub mod Steps
 pub mod Tellings
 pub mod Texts
+pub mod Walked
 pub mod Whole
+pub mod Written

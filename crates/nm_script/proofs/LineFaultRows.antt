@@ -6,10 +6,10 @@ use Rattle.nm_text.specs.Numbers.{number_of}
 use Rattle.nm_text.proofs.NumberLemmas.{number_of-decimal, number_of-apart, decimal-lacks}
 use Rattle.nm_script.specs.declared.fault.ScriptFault.TheVariants as faults
 use Rattle.nm_script.specs.declared.item.Place.TheVariants as places
-use Rattle.nm_script.specs.Fields.{place_of}
+use Rattle.nm_script.specs.LineFaults.{page_word_of}
 use Rattle.nm_script.specs.Told.{Told, nothing}
 use Rattle.nm_script.specs.LineFaults as forms
-use Rattle.nm_script.specs.LineFaults.{Form, words_of, spaced, MayStand, IsFormOf, questions, IsFirstNo, IsLineFault}
+use Rattle.nm_script.specs.LineFaults.{Form, form_words, spaced, MayStand, IsFormOf, questions, IsFirstNo, IsLineFault}
 
 -- in the program of the first processor, with four words a page and no mapped page
 abbrev here : Told
@@ -28,7 +28,7 @@ letter : number_of (codes "x") ≡ None
 letter = number_of-apart (codes "x") (λ n is. let other : Lacks 120 (codes "x") = subst (λ ds. Lacks 120 ds) (sym is.1) (decimal-lacks n 120 is.0 refl) in absurd (cc))
 
 store_no : IsFirstNo (questions here (forms.store (codes "9.0") (codes "x"))) faults.BadNumber
-unfolding place_of cut_of
+unfolding page_word_of cut_of
 store_no = record {
   before = (faults.BadNumber, true) ∷ (faults.OutOfRange, true) ∷ (faults.BadNumber, true) ∷ (faults.OutOfRange, true) ∷ [];
   after = (faults.Unmapped, false) ∷ (faults.ReadOnly, false) ∷ [];
@@ -41,7 +41,7 @@ pub store-row : IsLineFault here (codes "store 9.0 x") faults.BadNumber
 store-row = inr (inr (forms.store (codes "9.0") (codes "x"), (inl refl, tt), (refl, (refl, (refl, (refl, tt)))), store_no))
 
 load_no : IsFirstNo (questions here (forms.load (codes "9.4"))) faults.OutOfRange
-unfolding place_of cut_of
+unfolding page_word_of cut_of
 load_no = record {
   before = (faults.BadNumber, true) ∷ (faults.OutOfRange, true) ∷ (faults.BadNumber, true) ∷ [];
   after = (faults.Unmapped, false) ∷ [];
@@ -53,7 +53,7 @@ load_no = record {
 pub load-row : IsLineFault here (codes "load 9.4") faults.OutOfRange
 load-row = inr (inr (forms.load (codes "9.4"), (inl refl, tt), (refl, (refl, (refl, tt))), load_no))
 
-some_word : (form : Form) → [] ≡ spaced (words_of form) → ⊥
+some_word : (form : Form) → [] ≡ spaced (form_words form) → ⊥
 some_word (forms.page w) e = absurd (cc)
 some_word (forms.tiers f t) e = absurd (cc)
 some_word (forms.node d f) e = absurd (cc)

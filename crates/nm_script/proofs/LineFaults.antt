@@ -10,16 +10,16 @@ use Rattle.nm_script.specs.declared.item.Item.{Item}
 use Rattle.nm_script.specs.declared.item.Item.TheVariants as items
 use Rattle.nm_script.specs.declared.item.Place.{Place}
 use Rattle.nm_script.specs.declared.item.Place.TheVariants as places
-use Rattle.nm_script.specs.Told.{Told}
-use Rattle.nm_script.specs.Holds.{IsTold}
-use Rattle.nm_script.specs.LineFaults.{IsHeader, Form, IsFormOf, MayStand, questions, IsLineFault}
-use Rattle.nm_script.specs.Reading.{◌>>=◌, header_in, form_at, or_bad_line, item_at, ruled, step}
+use Rattle.nm_script.specs.Told.{Told, with_item}
+use Rattle.nm_script.specs.Holds.{IsToldSoFar}
+use Rattle.nm_script.specs.LineFaults.{IsHeader, Form, item_of, IsFormOf, MayStand, questions, IsLineFault}
+use Rattle.nm_script.specs.Reading.{◌>>=◌, header_in, form_at, or_bad_line, item_at, ruled, told_with}
 use Rattle.nm_script.proofs.Tellings.{opened, few_nodes}
 use Rattle.nm_script.proofs.Questions.{read_as, form-asks, no-refuses, refused-no}
 use Rattle.nm_script.proofs.Forms.{form-reads}
 use Rattle.nm_script.proofs.FormsFound.{Early, form-found}
 
-early : (s : Told) → IsTold s → Early s s.place
+early : (s : Told) → IsToldSoFar s → Early s s.place
 early s told one =
     let h = opened s (places.Version ∷ places.Page ∷ []) ((λ x. cc), ((λ x. cc), tt)) one told in
     (λ v. elim h.machine.parts [ inl q ↦ absurd (v q.0) | inr t ↦ t.0 ], few_nodes s told one)
@@ -28,8 +28,8 @@ early s told one =
 abbrev Taken : Told → Option (Result Item ScriptFault) → Result Told ScriptFault
 Taken s o = or_bad_line o >>= ruled s
 
-step-is : (s : Told) (line : List ℕ) → step s line ≡ Taken s (form_at s s.place line)
-unfolding step item_at
+step-is : (s : Told) (line : List ℕ) → told_with s line ≡ Taken s (form_at s s.place line)
+unfolding told_with item_at
 step-is s line = refl
 
 -- ---- the first line
@@ -58,16 +58,16 @@ refused-header s line f e = header_case (bytes_eq line (codes "nomad 1")) (bytes
 
 -- ---- a further line
 
-unread : (s : Told) (line : List ℕ) (o : Option (Result Item ScriptFault)) → IsTold s → (s.place ≡ places.Begin → ⊥) → ((form : Form) → MayStand s form → ¬ IsFormOf line form) → form_at s s.place line ≡ o → o ≡ None
+unread : (s : Told) (line : List ℕ) (o : Option (Result Item ScriptFault)) → IsToldSoFar s → (s.place ≡ places.Begin → ⊥) → ((form : Form) → MayStand s form → ¬ IsFormOf line form) → form_at s s.place line ≡ o → o ≡ None
 unread s line None told begun none e = refl
 unread s line (Some r) told begun none e = let h = form-found s line r begun (early s told) e in absurd (none h.0 h.1.0 h.1.1)
 
 form-refused : (s : Told) (line : List ℕ) (form : Form) (f : ScriptFault) → Taken s (Some (read_as s form)) ≡ Err f → MayStand s form → IsFormOf line form → IsLineFault s line f
 form-refused s line form f e may is =
     let asks = form-asks s form in
-    inr (inr (form, may, is, refused-no (questions s form) f asks.0 (sym asks.1 ∙ e)))
+    inr (inr (form, may, is, refused-no (questions s form) f (with_item s (item_of s.cpus form)) (sym asks ∙ e)))
 
-refused_case : (s : Told) (line : List ℕ) (f : ScriptFault) (o : Option (Result Item ScriptFault)) → IsTold s → (s.place ≡ places.Begin → ⊥) → form_at s s.place line ≡ o → Taken s o ≡ Err f → IsLineFault s line f
+refused_case : (s : Told) (line : List ℕ) (f : ScriptFault) (o : Option (Result Item ScriptFault)) → IsToldSoFar s → (s.place ≡ places.Begin → ⊥) → form_at s s.place line ≡ o → Taken s o ≡ Err f → IsLineFault s line f
 refused_case s line f None told begun is e =
     inr (inl (begun, (λ form may has. none-some (read_as s form) (sym is ∙ form-reads s line form may has)), cc))
 refused_case s line f (Some r) told begun is e =
@@ -89,7 +89,7 @@ begins places.Map = inr (λ e. cc)
 begins places.Program = inr (λ e. cc)
 
 -- a line with this fault is refused with it
-pub line-refused : (s : Told) (line : List ℕ) (f : ScriptFault) → IsTold s → IsLineFault s line f → step s line ≡ Err f
+pub line-refused : (s : Told) (line : List ℕ) (f : ScriptFault) → IsToldSoFar s → IsLineFault s line f → told_with s line ≡ Err f
 line-refused s line f told fault =
     step-is s line ∙ elim fault [
       | inl a ↦ ap (λ p. Taken s (form_at s p line)) a.0 ∙ header-refused s line a.1 ∙ ap (λ g. Err g) (sym a.2)
@@ -97,12 +97,12 @@ line-refused s line f told fault =
         | inl b ↦ ap (λ o. Taken s o) (unread s line (form_at s s.place line) told b.0 b.1 refl) ∙ ap (λ g. Err g) (sym b.2)
         | inr c ↦ (
             let asks = form-asks s c.0 in
-            ap (λ o. Taken s o) (form-reads s line c.0 c.1 c.2) ∙ asks.1 ∙ no-refuses (questions s c.0) f asks.0 c.3)
+            ap (λ o. Taken s o) (form-reads s line c.0 c.1 c.2) ∙ asks ∙ no-refuses (questions s c.0) f (with_item s (item_of s.cpus c.0)) c.3)
       ]
     ]
 
 -- a line that is refused has this fault
-pub refused-line : (s : Told) (line : List ℕ) (f : ScriptFault) → IsTold s → step s line ≡ Err f → IsLineFault s line f
+pub refused-line : (s : Told) (line : List ℕ) (f : ScriptFault) → IsToldSoFar s → told_with s line ≡ Err f → IsLineFault s line f
 refused-line s line f told e =
     let read : Taken s (form_at s s.place line) ≡ Err f = sym (step-is s line) ∙ e in
     elim (begins s.place) [
@@ -111,7 +111,7 @@ refused-line s line f told e =
     ]
 
 -- a line has one fault
-pub one-fault : (s : Told) (line : List ℕ) (f g : ScriptFault) → IsTold s → IsLineFault s line f → IsLineFault s line g → f ≡ g
+pub one-fault : (s : Told) (line : List ℕ) (f g : ScriptFault) → IsToldSoFar s → IsLineFault s line f → IsLineFault s line g → f ≡ g
 one-fault s line f g told a b =
     let x = line-refused s line f told a in
     let y = line-refused s line g told b in

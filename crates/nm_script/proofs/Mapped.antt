@@ -9,13 +9,13 @@ use Rattle.nm_script.specs.Holds.{AreMaps}
 use Rattle.nm_script.proofs.Memory.{replicate-more}
 
 -- the same by recursion
-put : List (Option VPage) → ℕ → VPage → List (Option VPage)
+unfoldable pub put : List (Option VPage) → ℕ → VPage → List (Option VPage)
 put [] zero p = Some p ∷ []
 put [] (suc v) p = None ∷ put [] v p
 put (x ∷ xs) zero p = Some p ∷ xs
 put (x ∷ xs) (suc v) p = x ∷ put xs v p
 
-with_page-put : (vs : List (Option VPage)) (v : ℕ) (p : VPage) → with_page vs v p ≡ put vs v p
+pub with_page-put : (vs : List (Option VPage)) (v : ℕ) (p : VPage) → with_page vs v p ≡ put vs v p
 unfolding put
 with_page-put [] zero p = refl
 with_page-put [] (suc v) p =
@@ -46,7 +46,7 @@ trimmed-cons : (o : Option VPage) (vs : List (Option VPage)) → 1 ≤ length vs
 trimmed-cons o [] h t = absurd (omega (arith, h))
 trimmed-cons o (p ∷ vs) h t = t
 
-trimmed-tail : (o : Option VPage) (vs : List (Option VPage)) → IsTrimmed (o ∷ vs) → IsTrimmed vs
+pub trimmed-tail : (o : Option VPage) (vs : List (Option VPage)) → IsTrimmed (o ∷ vs) → IsTrimmed vs
 trimmed-tail o [] t = tt
 trimmed-tail o (p ∷ vs) t = t
 
@@ -54,7 +54,7 @@ trimmed-some : (p : VPage) (o : Option VPage) (vs : List (Option VPage)) → IsT
 trimmed-some p o [] t = refl
 trimmed-some p o (q ∷ vs) t = t
 
-trimmed-put : (vs : List (Option VPage)) (v : ℕ) (p : VPage) → IsTrimmed vs → IsTrimmed (put vs v p)
+pub trimmed-put : (vs : List (Option VPage)) (v : ℕ) (p : VPage) → IsTrimmed vs → IsTrimmed (put vs v p)
 unfolding put
 trimmed-put [] zero p t = refl
 trimmed-put [] (suc v) p t = trimmed-cons None (put [] v p) (length-put [] v p).1 (trimmed-put [] v p tt)
@@ -73,48 +73,3 @@ AreMaps-page frames cpus vs v p h few room =
     let left : pages_of (put vs v p) + cpus + 9 ≤ frames = elim h.room [ inl z ↦ omega (arith, z, pages.0) | inr r ↦ omega (arith, r, pages.0) ] in
     let here : AreMaps frames cpus (put vs v p) = record { trimmed = trimmed-put vs v p h.trimmed; few = omega (arith, len.0, h.few); room = inr left } in
     subst (λ (ws : List (Option VPage)). AreMaps frames cpus ws × (1 ≤ pages_of ws)) (sym (with_page-put vs v p)) (here, omega (arith, pages.1))
-
--- ---- virtual pages in ascending order
-
-put_past : (vs : List (Option VPage)) (v : ℕ) (p : VPage) → length vs ≤ v → put vs v p ≡ with_places v vs ++ Some p ∷ []
-unfolding put
-put_past [] zero p h = refl
-put_past [] (suc v) p h =
-    let n : suc v - 0 ≡ suc (v - 0) = omega arith in
-    rw n (ap (λ t. None ∷ t) (put_past [] v p (omega arith)))
-put_past (x ∷ xs) zero p h = absurd (omega (arith, h))
-put_past (x ∷ xs) (suc v) p h =
-    let n : suc v - length (x ∷ xs) ≡ v - length xs = omega arith in
-    rw n (ap (λ t. x ∷ t) (put_past xs v p (omega (arith, h))))
-
--- a virtual page past the others is mapped behind empty places
-pub with_page-past : (vs : List (Option VPage)) (v : ℕ) (p : VPage) → length vs ≤ v → with_page vs v p ≡ with_places v vs ++ Some p ∷ []
-with_page-past vs v p h = with_page-put vs v p ∙ put_past vs v p h
-
-length-with_places : (vs : List (Option VPage)) (v : ℕ) → length vs ≤ v → length (with_places v vs) ≡ v
-length-with_places vs v h =
-    let none : Option VPage = None in
-    omega (arith, length-append vs (replicate (v - length vs) none), length-replicate (v - length vs) none, h)
-
--- the next place after it is then the first that is not there
-pub length-with_page : (vs : List (Option VPage)) (v : ℕ) (p : VPage) → length vs ≤ v → length (with_page vs v p) ≡ v + 1
-length-with_page vs v p h =
-    omega (arith, ap length (with_page-past vs v p h), length-append (with_places v vs) (Some p ∷ []), length-with_places vs v h)
-
--- one empty place more
-pub places-next : (vs rest : List (Option VPage)) (v : ℕ) → length vs ≤ v → with_places (v + 1) vs ++ rest ≡ with_places v vs ++ None ∷ rest
-places-next vs rest v h =
-    let next : v + 1 - length vs ≡ suc (v - length vs) = omega (arith, h) in
-    let more : with_places (v + 1) vs ≡ with_places v vs ++ None ∷ [] = ap (λ n. vs ++ replicate n None) next ∙ ap (λ t. vs ++ t) (replicate-more (v - length vs) None) ∙ sym (append_assoc vs (replicate (v - length vs) None) (None ∷ [])) in
-    ap (λ t. t ++ rest) more ∙ append_assoc (with_places v vs) (None ∷ []) rest
-
--- no place more
-places-full : (vs : List (Option VPage)) (v : ℕ) → length vs ≡ v → with_places v vs ≡ vs
-places-full vs v e =
-    let none : v - length vs ≡ 0 = omega (arith, e) in
-    ap (λ n. vs ++ replicate n None) none ∙ append-nil vs
-
--- one mapped page more
-pub page-next : (vs rest : List (Option VPage)) (v : ℕ) (p : VPage) → length vs ≤ v → with_places (v + 1) (with_page vs v p) ++ rest ≡ with_places v vs ++ Some p ∷ rest
-page-next vs rest v p h =
-    ap (λ t. t ++ rest) (places-full (with_page vs v p) (v + 1) (length-with_page vs v p h) ∙ with_page-past vs v p h) ∙ append_assoc (with_places v vs) (Some p ∷ []) rest

@@ -17,11 +17,12 @@ use Rattle.nm_script.specs.declared.script.Line.{Line}
 use Rattle.nm_script.specs.declared.script.Line.TheVariants.{Load, Store, Add, Await}
 use Rattle.nm_script.specs.declared.item.Item.{Item}
 use Rattle.nm_script.specs.declared.item.Item.TheVariants as items
-use Rattle.nm_script.specs.Fields.{place_of}
+use Rattle.nm_script.specs.LineFaults.{page_word_of}
 use Rattle.nm_script.specs.Told.{Told, with_item}
 use Rattle.nm_script.specs.LineFaults as forms
-use Rattle.nm_script.specs.LineFaults.{Actor, Form, actor_word, Question, is_number, value_of, number, ranged, below, located, known, vpage_of, is_writable, mapped, writable, tiers_with, questions, IsFirstNo}
-use Rattle.nm_script.specs.Reading.{◌>>=◌, or_bad, number_in, ranged_in, below_in, is_page_size, page_in, tiers_in, node_in, cpus_in, retry_in, serial_in, shuffle_in, plan_in, cpu_after, actor_in, go_in, map_in, cpu_in, place_in, reached, load_in, store_in, add_in, await_in, ruled}
+use Rattle.nm_script.specs.LineFaults.{Actor, Form, actor_word, Question, is_number, value_of, actor_of, page_of_place, word_of_place, item_of, number, ranged, below, located, known, vpage_of, may_write, mapped, writable, tiers_with, questions, IsFirstNo}
+use Rattle.nm_script.specs.LineFaults.{is_page_size}
+use Rattle.nm_script.specs.Reading.{◌>>=◌, or_bad, number_in, ranged_in, below_in, page_in, tiers_in, node_in, cpus_in, retry_in, serial_in, shuffle_in, plan_in, cpu_after, actor_in, go_in, map_in, cpu_in, place_in, reached, load_in, store_in, add_in, await_in, ruled}
 use Rattle.nm_script.proofs.Says.{page_size}
 
 -- ---- questions and answers
@@ -144,12 +145,6 @@ plan-asks : (s : Told) (t : List ℕ) → plan_in t ≡ answered (questions s (f
 unfolding plan_in
 plan-asks s t = chain (ranged_in 0 8000000 t) _ (ranged 0 8000000 t) [] (value_of t) (items.Plan (value_of t)) (ranged-asks 0 8000000 t) refl
 
--- the number of an actor among this many processors
-abbrev actor_of : ℕ → Actor → ℕ
-actor_of cpus forms.migrator = cpus
-actor_of cpus forms.reclaimer = cpus + 1
-actor_of cpus (forms.processor p) = value_of p
-
 actor-asks : (s : Told) (a : Actor) → actor_in s.cpus (actor_word a) ≡ answered (known s a) (actor_of s.cpus a)
 unfolding actor_in cpu_after
 actor-asks s forms.migrator = refl
@@ -177,25 +172,18 @@ cpu-asks s p = chain (number_in p) _ (number p) ((faults.OutOfRange, value_of p 
 
 -- ---- accesses
 
--- the virtual page and the word that a field spells
-abbrev page_at : List ℕ → ℕ
-page_at place = value_of (place_of place).0
-
-abbrev word_at : List ℕ → ℕ
-word_at place = value_of (place_of place).1
-
-place-asks : (s : Told) (place : List ℕ) → place_in s.words place ≡ answered (located s place) (page_at place, word_at place)
+place-asks : (s : Told) (place : List ℕ) → place_in s.words place ≡ answered (located s place) (page_of_place place, word_of_place place)
 unfolding place_in
 place-asks s place =
-    let v = (place_of place).0 in
-    let w = (place_of place).1 in
+    let v = (page_word_of place).0 in
+    let w = (page_word_of place).1 in
     chain (ranged_in 0 4095 v) _ (ranged 0 4095 v) (below s.words w) (value_of v) (value_of v, value_of w) (ranged-asks 0 4095 v) (chain (below_in s.words w) _ (below s.words w) [] (value_of w) (value_of v, value_of w) (below-asks s.words w) refl)
 
 reads-asks : (o : Option VPage) (l : Line) → reached o false l ≡ answered ((faults.Unmapped, is_some o) ∷ []) (items.Access l)
 reads-asks None l = refl
 reads-asks (Some p) l = refl
 
-writes-asks : (o : Option VPage) (l : Line) → reached o true l ≡ answered ((faults.Unmapped, is_some o) ∷ (faults.ReadOnly, is_writable o) ∷ []) (items.Access l)
+writes-asks : (o : Option VPage) (l : Line) → reached o true l ≡ answered ((faults.Unmapped, is_some o) ∷ (faults.ReadOnly, may_write o) ∷ []) (items.Access l)
 writes-asks None l = refl
 writes-asks (Some p) l = go p.writable
   where
@@ -203,24 +191,24 @@ writes-asks (Some p) l = go p.writable
     go true = refl
     go false = refl
 
-load-asks : (s : Told) (place : List ℕ) → load_in s place ≡ answered (questions s (forms.load place)) (items.Access (Load (page_at place) (word_at place)))
+load-asks : (s : Told) (place : List ℕ) → load_in s place ≡ answered (questions s (forms.load place)) (items.Access (Load (page_of_place place) (word_of_place place)))
 unfolding load_in
-load-asks s place = chain (place_in s.words place) _ (located s place) (mapped s place) _ _ (place-asks s place) (reads-asks (vpage_of s (place_of place).0) _)
+load-asks s place = chain (place_in s.words place) _ (located s place) (mapped s place) _ _ (place-asks s place) (reads-asks (vpage_of s (page_word_of place).0) _)
 
-store-asks : (s : Told) (place x : List ℕ) → store_in s (place, x) ≡ answered (questions s (forms.store place x)) (items.Access (Store (page_at place) (word_at place) (value_of x)))
+store-asks : (s : Told) (place x : List ℕ) → store_in s (place, x) ≡ answered (questions s (forms.store place x)) (items.Access (Store (page_of_place place) (word_of_place place) (value_of x)))
 unfolding store_in
-store-asks s place x = chain (place_in s.words place) _ (located s place) (number x ++ writable s place) _ _ (place-asks s place) (chain (number_in x) _ (number x) (writable s place) (value_of x) _ (number-asks x) (writes-asks (vpage_of s (place_of place).0) _))
+store-asks s place x = chain (place_in s.words place) _ (located s place) (number x ++ writable s place) _ _ (place-asks s place) (chain (number_in x) _ (number x) (writable s place) (value_of x) _ (number-asks x) (writes-asks (vpage_of s (page_word_of place).0) _))
 
-add-asks : (s : Told) (place x : List ℕ) → add_in s (place, x) ≡ answered (questions s (forms.add place x)) (items.Access (Add (page_at place) (word_at place) (value_of x)))
+add-asks : (s : Told) (place x : List ℕ) → add_in s (place, x) ≡ answered (questions s (forms.add place x)) (items.Access (Add (page_of_place place) (word_of_place place) (value_of x)))
 unfolding add_in
-add-asks s place x = chain (place_in s.words place) _ (located s place) (number x ++ writable s place) _ _ (place-asks s place) (chain (number_in x) _ (number x) (writable s place) (value_of x) _ (number-asks x) (writes-asks (vpage_of s (place_of place).0) _))
+add-asks s place x = chain (place_in s.words place) _ (located s place) (number x ++ writable s place) _ _ (place-asks s place) (chain (number_in x) _ (number x) (writable s place) (value_of x) _ (number-asks x) (writes-asks (vpage_of s (page_word_of place).0) _))
 
-await-asks : (s : Told) (place x n : List ℕ) → await_in s (place, x, n) ≡ answered (questions s (forms.await place x n)) (items.Access (Await (page_at place) (word_at place) (value_of x) (value_of n)))
+await-asks : (s : Told) (place x n : List ℕ) → await_in s (place, x, n) ≡ answered (questions s (forms.await place x n)) (items.Access (Await (page_of_place place) (word_of_place place) (value_of x) (value_of n)))
 unfolding await_in
 await-asks s place x n =
     chain (place_in s.words place) _ (located s place) (number x ++ ranged 1 1000000000 n ++ mapped s place) _ _ (place-asks s place)
     (chain (number_in x) _ (number x) (ranged 1 1000000000 n ++ mapped s place) (value_of x) _ (number-asks x)
-    (chain (ranged_in 1 1000000000 n) _ (ranged 1 1000000000 n) (mapped s place) (value_of n) _ (ranged-asks 1 1000000000 n) (reads-asks (vpage_of s (place_of place).0) _)))
+    (chain (ranged_in 1 1000000000 n) _ (ranged 1 1000000000 n) (mapped s place) (value_of n) _ (ranged-asks 1 1000000000 n) (reads-asks (vpage_of s (page_word_of place).0) _)))
 
 -- ---- a line of a form
 
@@ -243,25 +231,26 @@ read_as s (forms.add place x) = add_in s (place, x)
 read_as s (forms.await place x n) = await_in s (place, x, n)
 
 -- an item that is no node is told with no further question
-told_more : (s : Told) (form : Form) (i : Item) → read_as s form ≡ answered (questions s form) i → ruled s i ≡ Ok (with_item s i) → (t : Told) × ((read_as s form >>= ruled s) ≡ answered (questions s form) t)
-told_more s form i e h =
+told_more : (s : Told) (form : Form) → read_as s form ≡ answered (questions s form) (item_of s.cpus form) → ruled s (item_of s.cpus form) ≡ Ok (with_item s (item_of s.cpus form)) → (read_as s form >>= ruled s) ≡ answered (questions s form) (with_item s (item_of s.cpus form))
+told_more s form e h =
     let qs = questions s form in
-    (with_item s i, chain (read_as s form) (ruled s) qs [] i (with_item s i) e h ∙ ap (λ l. answered l (with_item s i)) (append-nil qs))
+    let i = item_of s.cpus form in
+    chain (read_as s form) (ruled s) qs [] i (with_item s i) e h ∙ ap (λ l. answered l (with_item s i)) (append-nil qs)
 
 -- a line of a form is taken where every answer is yes, and else refused with the fault of the first no
-pub form-asks : (s : Told) (form : Form) → (t : Told) × ((read_as s form >>= ruled s) ≡ answered (questions s form) t)
-form-asks s (forms.page w) = told_more s (forms.page w) (items.Page (value_of w)) (page-asks s w) refl
-form-asks s (forms.tiers f t) = told_more s (forms.tiers f t) (items.Tiers (value_of f) (value_of t)) (tiers-asks s f t) refl
-form-asks s (forms.node d f) = (with_item s (items.Node (node_of d f)), node-asks s d f)
-form-asks s (forms.cpus p) = told_more s (forms.cpus p) (items.Cpus (value_of p)) (cpus-asks s p) refl
-form-asks s (forms.retry r) = told_more s (forms.retry r) (items.Retry (value_of r)) (retry-asks s r) refl
-form-asks s (forms.serial t) = told_more s (forms.serial t) (items.Serial (value_of t)) (serial-asks s t) refl
-form-asks s (forms.shuffle n t) = told_more s (forms.shuffle n t) (items.Shuffle (value_of n) (value_of t)) (shuffle-asks s n t) refl
-form-asks s (forms.plan t) = told_more s (forms.plan t) (items.Plan (value_of t)) (plan-asks s t) refl
-form-asks s (forms.go a kind n) = told_more s (forms.go a kind n) (items.Go (record { actor = actor_of s.cpus a; kind = kind; count = value_of n })) (go-asks s a kind n) refl
-form-asks s (forms.map v b right) = told_more s (forms.map v b right) (items.Map (value_of v) (record { page = value_of b; writable = right })) (map-asks s v b right) refl
-form-asks s (forms.cpu p) = told_more s (forms.cpu p) (items.Cpu (value_of p)) (cpu-asks s p) refl
-form-asks s (forms.load place) = told_more s (forms.load place) (items.Access (Load (page_at place) (word_at place))) (load-asks s place) refl
-form-asks s (forms.store place x) = told_more s (forms.store place x) (items.Access (Store (page_at place) (word_at place) (value_of x))) (store-asks s place x) refl
-form-asks s (forms.add place x) = told_more s (forms.add place x) (items.Access (Add (page_at place) (word_at place) (value_of x))) (add-asks s place x) refl
-form-asks s (forms.await place x n) = told_more s (forms.await place x n) (items.Access (Await (page_at place) (word_at place) (value_of x) (value_of n))) (await-asks s place x n) refl
+pub form-asks : (s : Told) (form : Form) → (read_as s form >>= ruled s) ≡ answered (questions s form) (with_item s (item_of s.cpus form))
+form-asks s (forms.page w) = told_more s (forms.page w) (page-asks s w) refl
+form-asks s (forms.tiers f t) = told_more s (forms.tiers f t) (tiers-asks s f t) refl
+form-asks s (forms.node d f) = node-asks s d f
+form-asks s (forms.cpus p) = told_more s (forms.cpus p) (cpus-asks s p) refl
+form-asks s (forms.retry r) = told_more s (forms.retry r) (retry-asks s r) refl
+form-asks s (forms.serial t) = told_more s (forms.serial t) (serial-asks s t) refl
+form-asks s (forms.shuffle n t) = told_more s (forms.shuffle n t) (shuffle-asks s n t) refl
+form-asks s (forms.plan t) = told_more s (forms.plan t) (plan-asks s t) refl
+form-asks s (forms.go a kind n) = told_more s (forms.go a kind n) (go-asks s a kind n) refl
+form-asks s (forms.map v b right) = told_more s (forms.map v b right) (map-asks s v b right) refl
+form-asks s (forms.cpu p) = told_more s (forms.cpu p) (cpu-asks s p) refl
+form-asks s (forms.load place) = told_more s (forms.load place) (load-asks s place) refl
+form-asks s (forms.store place x) = told_more s (forms.store place x) (store-asks s place x) refl
+form-asks s (forms.add place x) = told_more s (forms.add place x) (add-asks s place x) refl
+form-asks s (forms.await place x n) = told_more s (forms.await place x n) (await-asks s place x n) refl

@@ -18,17 +18,21 @@ use Rattle.nm_script.specs.declared.item.Item.{Item}
 use Rattle.nm_script.specs.declared.item.Item.TheVariants as items
 use Rattle.nm_script.specs.declared.item.Place.{Place}
 use Rattle.nm_script.specs.declared.item.Place.TheVariants as places
-use Rattle.nm_script.specs.Items.{item_text, actor_text, right_text, kind_text, place_text}
-use Rattle.nm_script.specs.Fields.{one_of, two_of, three_of, shuffle_of}
+use Rattle.nm_text.specs.Kinds.{kind_text}
+use Rattle.nm_script.specs.Items.{item_text, actor_text, right_text, place_text}
+use Rattle.nm_text.specs.Fields.{one_of, two_of, three_of}
+use Rattle.nm_script.specs.Fields.{shuffle_of}
 use Rattle.nm_script.specs.Told.{Told}
-use Rattle.nm_script.specs.Grammar.{IsOneOf, before_of, InRange}
-use Rattle.nm_script.specs.Reading.{ranged_in, header_in, is_page_size, page_in, page_line, tiers_in, tiers_line, node_in, node_line, cpus_in, cpus_line, retry_in, retry_line, serial_in, shuffle_in, plan_in, schedule_line, go_in, go_line, map_in, map_line, cpu_in, cpu_line, reached, load_in, store_in, add_in, await_in, access_line, tier_line, more_line, form_at, or_bad_line, item_at}
-use Rattle.nm_script.proofs.FieldLemmas.{chained, mapped, tested, refused, either_some, number_in-some, ranged_in-some, one_of-some, two_of-some, three_of-some, shuffle_of-some, map_of-some, go_of-some, actor_in-some, place_in-some}
+use Rattle.nm_script.specs.Following.{IsOneOf, before_of, IsItemInRange}
+use Rattle.nm_script.specs.LineFaults.{is_page_size}
+use Rattle.nm_script.specs.Reading.{ranged_in, header_in, page_in, page_line, tiers_in, tiers_line, node_in, node_line, cpus_in, cpus_line, retry_in, retry_line, serial_in, shuffle_in, plan_in, schedule_line, go_in, go_line, map_in, map_line, cpu_in, cpu_line, reached, load_in, store_in, add_in, await_in, access_line, tier_line, more_line, form_at, or_bad_line, item_at}
+use Rattle.nm_text.proofs.FieldLemmas.{one_of-some, two_of-some, three_of-some}
+use Rattle.nm_script.proofs.FieldLemmas.{chained, mapped, tested, refused, either_some, number_in-some, ranged_in-some, shuffle_of-some, map_of-some, go_of-some, actor_in-some, place_in-some}
 
 -- a node's number of tiers is looked at when it is added
 abbrev pub Ranged : Told → Item → Type 0
 Ranged s (items.Node n) = (s.version ≢ 1) × (length s.nodes < 16) × (n.distance ≤ 65535) × (1 ≤ n.frames) × (n.frames ≤ 4095) × (s.frames + n.frames ≤ 4096)
-Ranged s i = InRange s i
+Ranged s i = IsItemInRange s i
 
 -- the line is spelled as the item, after one of these places
 pub record Says (s : Told) (line : List ℕ) (after : List Place) (i : Item) : Type 0 where
@@ -204,7 +208,7 @@ load-some s line i e =
     let p = chained _ _ _ m.1.1 in
     let r = reached-reads _ (Load p.0.0 p.0.1) i p.1.1 in
     let a = place_in-some s.words m.0 p.0 p.1.0 in
-    says s line _ (items.Access (Load p.0.0 p.0.1)) i r.0 (one_of-some _ line m.0 m.1.0 ∙ ap (λ f. codes "load " ++ f) a.0) (r.1, a.1, a.2) refl
+    says s line _ (items.Access (Load p.0.0 p.0.1)) i r.0 (one_of-some _ line m.0 m.1.0 ∙ ap (λ f. codes "load " ++ f) a.0) ((r.1, a.2), a.1) refl
 
 store-some : (s : Told) (line : List ℕ) (i : Item) → option_map (store_in s) (two_of (codes "store ") line) ≡ Some (Ok i) → Says s line (places.Program ∷ []) i
 unfolding store_in
@@ -215,7 +219,7 @@ store-some s line i e =
     let r = reached-writes _ (Store p.0.0 p.0.1 x.0) i x.1.1 in
     let a = place_in-some s.words m.0.0 p.0 p.1.0 in
     let b = number_in-some m.0.1 x.0 x.1.0 in
-    says s line _ (items.Access (Store p.0.0 p.0.1 x.0)) i r.0 (two_of-some _ line m.0 m.1.0 ∙ ap (λ f. codes "store " ++ (f ++ 32 ∷ m.0.1)) a.0 ∙ ap (λ f. codes "store " ++ (place_text p.0.0 p.0.1 ++ 32 ∷ f)) b.0) (r.1, a.1, a.2, b.1) refl
+    says s line _ (items.Access (Store p.0.0 p.0.1 x.0)) i r.0 (two_of-some _ line m.0 m.1.0 ∙ ap (λ f. codes "store " ++ (f ++ 32 ∷ m.0.1)) a.0 ∙ ap (λ f. codes "store " ++ (place_text p.0.0 p.0.1 ++ 32 ∷ f)) b.0) ((r.1, a.2, b.1), a.1) refl
 
 add-some : (s : Told) (line : List ℕ) (i : Item) → option_map (add_in s) (two_of (codes "add ") line) ≡ Some (Ok i) → Says s line (places.Program ∷ []) i
 unfolding add_in
@@ -226,7 +230,7 @@ add-some s line i e =
     let r = reached-writes _ (Add p.0.0 p.0.1 x.0) i x.1.1 in
     let a = place_in-some s.words m.0.0 p.0 p.1.0 in
     let b = number_in-some m.0.1 x.0 x.1.0 in
-    says s line _ (items.Access (Add p.0.0 p.0.1 x.0)) i r.0 (two_of-some _ line m.0 m.1.0 ∙ ap (λ f. codes "add " ++ (f ++ 32 ∷ m.0.1)) a.0 ∙ ap (λ f. codes "add " ++ (place_text p.0.0 p.0.1 ++ 32 ∷ f)) b.0) (r.1, a.1, a.2, b.1) refl
+    says s line _ (items.Access (Add p.0.0 p.0.1 x.0)) i r.0 (two_of-some _ line m.0 m.1.0 ∙ ap (λ f. codes "add " ++ (f ++ 32 ∷ m.0.1)) a.0 ∙ ap (λ f. codes "add " ++ (place_text p.0.0 p.0.1 ++ 32 ∷ f)) b.0) ((r.1, a.2, b.1), a.1) refl
 
 await-some : (s : Told) (line : List ℕ) (i : Item) → option_map (await_in s) (three_of (codes "await ") line) ≡ Some (Ok i) → Says s line (places.Program ∷ []) i
 unfolding await_in
@@ -239,7 +243,7 @@ await-some s line i e =
     let a = place_in-some s.words m.0.0 p.0 p.1.0 in
     let b = number_in-some m.0.1 x.0 x.1.0 in
     let c = ranged_in-some 1 1000000000 m.0.2 n.0 n.1.0 in
-    says s line _ (items.Access (Await p.0.0 p.0.1 x.0 n.0)) i r.0 (three_of-some _ line m.0 m.1.0 ∙ ap (λ f. codes "await " ++ (f ++ 32 ∷ (m.0.1 ++ 32 ∷ m.0.2))) a.0 ∙ ap (λ f. codes "await " ++ (place_text p.0.0 p.0.1 ++ 32 ∷ (f ++ 32 ∷ m.0.2))) b.0 ∙ ap (λ f. codes "await " ++ (place_text p.0.0 p.0.1 ++ 32 ∷ (decimal x.0 ++ 32 ∷ f))) c.0) (r.1, a.1, a.2, b.1, c.1, c.2) refl
+    says s line _ (items.Access (Await p.0.0 p.0.1 x.0 n.0)) i r.0 (three_of-some _ line m.0 m.1.0 ∙ ap (λ f. codes "await " ++ (f ++ 32 ∷ (m.0.1 ++ 32 ∷ m.0.2))) a.0 ∙ ap (λ f. codes "await " ++ (place_text p.0.0 p.0.1 ++ 32 ∷ (f ++ 32 ∷ m.0.2))) b.0 ∙ ap (λ f. codes "await " ++ (place_text p.0.0 p.0.1 ++ 32 ∷ (decimal x.0 ++ 32 ∷ f))) c.0) ((r.1, a.2, b.1, c.1, c.2), a.1) refl
 
 access_line-some : (s : Told) (line : List ℕ) (i : Item) → access_line s line ≡ Some (Ok i) → Says s line (places.Program ∷ []) i
 unfolding access_line

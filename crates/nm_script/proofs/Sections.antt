@@ -8,6 +8,7 @@ use Rattle.nm_base.specs.declared.geometry.VPage.{VPage}
 use Rattle.nm_base.specs.Geometry.{pages_of}
 use Rattle.nm_tiers.specs.declared.nodes.Node.{Node}
 use Rattle.nm_tiers.specs.Tiers.{frames_of, tiers_of, tier_count}
+use Rattle.nm_script.specs.declared.limits.TheConstants.{MOST_TURNS}
 use Rattle.nm_script.specs.declared.script.Line.{Line}
 use Rattle.nm_script.specs.declared.schedule.PlanItem.{PlanItem}
 use Rattle.nm_script.specs.declared.schedule.Schedule.{Schedule}
@@ -18,10 +19,9 @@ use Rattle.nm_script.specs.declared.item.Place.{Place}
 use Rattle.nm_script.specs.declared.item.Place.TheVariants as places
 use Rattle.nm_script.specs.declared.item.Order.{Order}
 use Rattle.nm_script.specs.declared.item.Order.TheVariants as orders
-use Rattle.nm_script.specs.Script.{IsNode, IsPlanItem, IsSchedule, IsTrimmed, retry_items, schedule_items, map_items, cpu_items, program_items}
+use Rattle.nm_script.specs.Script.{IsNode, IsPlanItem, IsSchedule, retry_items, schedule_items, cpu_items, program_items}
 use Rattle.nm_script.specs.Told.{Told, with_item, with_line, with_places}
-use Rattle.nm_script.specs.Grammar.{IsOneOf, IsReach, MayFollow}
-use Rattle.nm_script.proofs.Mapped.{with_page-past, length-with_page, places-next, page-next}
+use Rattle.nm_script.specs.Following.{IsOneOf, IsReach, MayFollow}
 use Rattle.nm_script.proofs.MoreTiers.{tier_count-more}
 use Rattle.nm_script.proofs.Spelled.{AreItems, AreItems-append}
 
@@ -29,7 +29,7 @@ use Rattle.nm_script.proofs.Spelled.{AreItems, AreItems-append}
 
 -- what is told after the first lines and some nodes
 abbrev pub with_nodes : ℕ → ℕ → Place → List Node → Told
-with_nodes version words place nodes = record { place = place; version = version; words = words; tiers = tiers_of nodes; frames = frames_of nodes; nodes = nodes; cpus = 0; retry = None; order = orders.Serial 8000000; plan = []; vpages = []; programs = [] }
+with_nodes version words place nodes = record { place = place; version = version; words = words; tiers = tiers_of nodes; frames = frames_of nodes; nodes = nodes; cpus = 0; retry = None; order = orders.Serial MOST_TURNS; plan = []; vpages = []; programs = [] }
 
 one_node : (version words : ℕ) (p : Place) (done : List Node) (n : Node) (rest whole : List Node) → (done ++ n ∷ []) ++ rest ≡ whole → version ≡ 2 → IsOneOf (places.Version ∷ places.Page ∷ places.Tier ∷ []) p
     → IsNode n → length whole ≤ 16 → frames_of whole ≤ 4096 → tier_count whole ≤ 4
@@ -55,10 +55,12 @@ node_items version words cpus p done n (m ∷ rest) whole is two one each few su
     (refl, h.0, subst (λ (t : Told). AreItems cpus t (map (λ k. items.Node k) (m ∷ rest)) (with_nodes version words places.Tier whole)) (sym h.1) later)
 
 -- the lines of all nodes
-pub nodes-items : (version words cpus : ℕ) (nodes : List Node) → version ≡ 2 → 1 ≤ length nodes → AllByRecursion IsNode nodes → length nodes ≤ 16 → frames_of nodes ≤ 4096 → tier_count nodes ≤ 4
-    → AreItems cpus (with_nodes version words places.Page []) (map (λ m. items.Node m) nodes) (with_nodes version words places.Tier nodes)
-nodes-items version words cpus [] two some each few sum count = absurd (omega (arith, some))
-nodes-items version words cpus (n ∷ nodes) two some each few sum count = node_items version words cpus places.Page [] n nodes (n ∷ nodes) refl two (inr (inl refl)) each few sum count
+pub nodes-items : (version words cpus : ℕ) (p : Place) (nodes : List Node) → version ≡ 2 → IsOneOf (places.Version ∷ places.Page ∷ []) p → 1 ≤ length nodes → AllByRecursion IsNode nodes → length nodes ≤ 16 → frames_of nodes ≤ 4096 → tier_count nodes ≤ 4
+    → AreItems cpus (with_nodes version words p []) (map (λ m. items.Node m) nodes) (with_nodes version words places.Tier nodes)
+nodes-items version words cpus p [] two one some each few sum count = absurd (omega (arith, some))
+nodes-items version words cpus p (n ∷ nodes) two one some each few sum count =
+    let first : IsOneOf (places.Version ∷ places.Page ∷ places.Tier ∷ []) p = elim one [ inl a ↦ inl a | inr b ↦ elim b [ inl c ↦ inr (inl c) | inr none ↦ absurd none ] ] in
+    node_items version words cpus p [] n nodes (n ∷ nodes) refl two first each few sum count
 
 -- ---- the retry
 
@@ -101,35 +103,6 @@ schedule-items t (schedules.Shuffle k n) one none h = (refl, (one, h), ap (λ pl
 schedule-items t (schedules.Plan n plan) one none h =
     let later = go_items (with_item t (items.Plan n)) plan refl h.1 in
     (refl, (one, h.0), subst (λ all. AreItems t.cpus (with_item t (items.Plan n)) (map (λ k. items.Go k) plan) (record t { place = places.Plan; order = orders.Plan n; plan = all })) (ap (λ first. first ++ plan) none) later)
-
--- ---- virtual pages
-
-map_items-walk : (t : Told) (v : ℕ) (o : Option VPage) (vs : List (Option VPage)) → IsOneOf (places.Cpus ∷ places.Retry ∷ places.Order ∷ places.Plan ∷ places.Map ∷ []) t.place → IsTrimmed (o ∷ vs) → length t.vpages ≤ v
-    → v + length (o ∷ vs) ≤ 4096 → pages_of (o ∷ vs) + t.cpus + 9 ≤ t.frames → t.frames ≤ 4096
-    → AreItems t.cpus t (map_items v (o ∷ vs)) (record t { place = places.Map; vpages = with_places v t.vpages ++ o ∷ vs })
-map_items-walk t v None [] one trimmed past few room frames = absurd (cc)
-map_items-walk t v None (o ∷ vs) one trimmed past few room frames =
-    let later = map_items-walk t (v + 1) o vs one trimmed (omega (arith, past)) (omega (arith, few)) (omega (arith, room)) frames in
-    subst (λ ws. AreItems t.cpus t (map_items (v + 1) (o ∷ vs)) (record t { place = places.Map; vpages = ws })) (places-next t.vpages (o ∷ vs) v past) later
-map_items-walk t v (Some p) [] one trimmed past few room frames =
-    (refl, (one, (omega (arith, few), omega (arith, room, frames), get_or_past t.vpages v None past, omega (arith, room))), ap (λ ws. record t { place = places.Map; vpages = ws }) (with_page-past t.vpages v p past))
-map_items-walk t v (Some p) (o ∷ vs) one trimmed past few room frames =
-    let next = with_item t (items.Map v p) in
-    let len = length-with_page t.vpages v p past in
-    let later = map_items-walk next (v + 1) o vs (inr (inr (inr (inr (inl refl))))) trimmed (omega (arith, len)) (omega (arith, few)) (omega (arith, room)) frames in (
-      refl,
-      (one, (omega (arith, few), omega (arith, room, frames), get_or_past t.vpages v None past, omega (arith, room))),
-      subst (λ ws. AreItems t.cpus next (map_items (v + 1) (o ∷ vs)) (record t { place = places.Map; vpages = ws })) (page-next t.vpages (o ∷ vs) v p past) later,
-    )
-
--- the lines of all mapped virtual pages
-pub maps-items : (t : Told) (vs : List (Option VPage)) → IsOneOf (places.Cpus ∷ places.Retry ∷ places.Order ∷ places.Plan ∷ places.Map ∷ []) t.place → t.vpages ≡ [] → IsTrimmed vs → 1 ≤ pages_of vs
-    → length vs ≤ 4096 → pages_of vs + t.cpus + 9 ≤ t.frames → t.frames ≤ 4096
-    → AreItems t.cpus t (map_items 0 vs) (record t { place = places.Map; vpages = vs })
-maps-items t [] one none trimmed some few room frames = absurd (omega (arith, some))
-maps-items t (o ∷ vs) one none trimmed some few room frames =
-    let all = map_items-walk t 0 o vs one trimmed (omega (arith, ap length none)) (omega (arith, few)) room frames in
-    subst (λ ws. AreItems t.cpus t (map_items 0 (o ∷ vs)) (record t { place = places.Map; vpages = ws })) (ap (λ ws. with_places 0 ws ++ o ∷ vs) none) all
 
 -- ---- programs
 

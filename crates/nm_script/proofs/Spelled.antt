@@ -1,5 +1,5 @@
 -- Lines that follow one another have no newline within, so their text is cut into them again.
-use Rattle.std.proofs.Common.{◌≡◌, ℕ, ◌<◌, ◌≤◌, ◌^◌, ◌==◌, nat_lt, Bool, true, false, List, [], ◌∷◌, ◌++◌, codes, decimal, refl, sym, ap, ◌∙◌, subst, inl, inr, append_assoc, arith}
+use Rattle.std.proofs.Common.{◌≡◌, ℕ, ◌<◌, ◌≤◌, ◌^◌, ◌==◌, nat_lt, Bool, true, false, List, [], ◌∷◌, ◌++◌, map, codes, decimal, refl, sym, ap, ◌∙◌, subst, inl, inr, append_assoc, arith}
 use Rattle.std.specs.Bool.{if◌then◌else◌}
 use Rattle.nm_text.specs.Cuts.{Lacks}
 use Rattle.nm_text.proofs.NumberLemmas.{decimal-lacks}
@@ -13,13 +13,15 @@ use Rattle.nm_script.specs.declared.script.Line.TheVariants.{Load, Store, Add, A
 use Rattle.nm_script.specs.declared.schedule.PlanItem.{PlanItem}
 use Rattle.nm_script.specs.declared.item.Item.{Item}
 use Rattle.nm_script.specs.declared.item.Item.TheVariants as items
-use Rattle.nm_script.specs.Items.{actor_text, kind_text, right_text, place_text, access_text, item_text, lines_text}
+use Rattle.nm_text.specs.Kinds.{kind_text}
+use Rattle.nm_script.specs.Items.{actor_text, right_text, place_text, access_text, item_text, lines_text}
 use Rattle.nm_script.specs.Script.{IsPlanItem}
-use Rattle.nm_script.specs.Fields.{lines_of}
+use Rattle.nm_text.specs.Fields.{lines_of}
 use Rattle.nm_script.specs.Told.{Told, with_item}
-use Rattle.nm_script.specs.Grammar.{IsReach, InRange, MayFollow, AreLines}
-use Rattle.nm_script.specs.Holds.{IsTold}
-use Rattle.nm_script.proofs.Lines.{lines-joined}
+use Rattle.nm_script.specs.Following.{IsReach, IsItemInRange, MayFollow, AreLines}
+use Rattle.nm_script.specs.Holds.{IsToldSoFar}
+use Rattle.nm_text.proofs.KindLemmas.{kind_lacks}
+use Rattle.nm_text.proofs.LineLemmas.{lines-joined}
 use Rattle.nm_script.proofs.Tellings.{told-step}
 use Rattle.nm_script.proofs.Steps.{step-again, words_few, cpus_few}
 
@@ -30,38 +32,6 @@ lacks n h = decimal-lacks n 10 h refl
 
 two_lack : (a b : ℕ) → a < 2 ^ 64 → b < 2 ^ 64 → Lacks 10 (decimal a ++ 32 ∷ decimal b)
 two_lack a b h k = Lacks-append 10 (decimal a) (32 ∷ decimal b) (lacks a h) (lacks b k)
-
-kind_lacks : (k : ActionKind) → Lacks 10 (kind_text k)
-kind_lacks kinds.Load = refl
-kind_lacks kinds.Store = refl
-kind_lacks kinds.Add = refl
-kind_lacks kinds.Look = refl
-kind_lacks kinds.Walk = refl
-kind_lacks kinds.Peek = refl
-kind_lacks kinds.Poll = refl
-kind_lacks kinds.Ack = refl
-kind_lacks kinds.Lock = refl
-kind_lacks kinds.Unlock = refl
-kind_lacks kinds.Bump = refl
-kind_lacks kinds.SeeAck = refl
-kind_lacks kinds.Raise = refl
-kind_lacks kinds.Soften = refl
-kind_lacks kinds.Arm = refl
-kind_lacks kinds.ClearDirty = refl
-kind_lacks kinds.Unmap = refl
-kind_lacks kinds.Map = refl
-kind_lacks kinds.Grant = refl
-kind_lacks kinds.CopyLoad = refl
-kind_lacks kinds.CopyStore = refl
-kind_lacks kinds.SetHome = refl
-kind_lacks kinds.SetShadow = refl
-kind_lacks kinds.TakeTurn = refl
-kind_lacks kinds.Scan = refl
-kind_lacks kinds.GiveFrame = refl
-kind_lacks kinds.PutFrame = refl
-kind_lacks kinds.ReleaseTurn = refl
-kind_lacks kinds.Mark = refl
-kind_lacks kinds.Read = refl
 
 actor_case : (b c : Bool) (a : ℕ) → a < 2 ^ 64 → Lacks 10 (if b then codes "c" ++ decimal a else if c then codes "m" else codes "r")
 actor_case true c a h = lacks a h
@@ -89,16 +59,16 @@ place_lacks : (words v w : ℕ) → words ≤ 512 → v ≤ 4095 → w < words �
 place_lacks words v w few h k = Lacks-append 10 (decimal v) (46 ∷ decimal w) (lacks v (omega (arith, h))) (lacks w (omega (arith, k, few)))
 
 access_lacks : (words : ℕ) (vs : List _) (l : Line) → words ≤ 512 → IsReach words vs l → Lacks 10 (access_text l)
-access_lacks words vs (Load v w) few h = place_lacks words v w few h.1 h.2
-access_lacks words vs (Store v w x) few h = Lacks-append 10 (place_text v w) (32 ∷ decimal x) (place_lacks words v w few h.1 h.2) (lacks x h.3)
-access_lacks words vs (Add v w x) few h = Lacks-append 10 (place_text v w) (32 ∷ decimal x) (place_lacks words v w few h.1 h.2) (lacks x h.3)
+access_lacks words vs (Load v w) few h = place_lacks words v w few h.1 h.0.1
+access_lacks words vs (Store v w x) few h = Lacks-append 10 (place_text v w) (32 ∷ decimal x) (place_lacks words v w few h.1 h.0.1) (lacks x h.0.2)
+access_lacks words vs (Add v w x) few h = Lacks-append 10 (place_text v w) (32 ∷ decimal x) (place_lacks words v w few h.1 h.0.1) (lacks x h.0.2)
 access_lacks words vs (Await v w x n) few h =
-    Lacks-append 10 (place_text v w) (32 ∷ (decimal x ++ 32 ∷ decimal n)) (place_lacks words v w few h.1 h.2) (two_lack x n h.3 (omega (arith, h.5)))
+    Lacks-append 10 (place_text v w) (32 ∷ (decimal x ++ 32 ∷ decimal n)) (place_lacks words v w few h.1 h.0.1) (two_lack x n h.0.2 (omega (arith, h.0.4)))
 
-version_few : (n : ℕ) (s : Told) → InRange s (items.Version n) → n < 2 ^ 64
+version_few : (n : ℕ) (s : Told) → IsItemInRange s (items.Version n) → n < 2 ^ 64
 version_few n s h = elim h [ inl a ↦ omega (arith, a) | inr b ↦ omega (arith, b) ]
 
-item_lacks : (s : Told) (i : Item) → s.words ≤ 512 → s.cpus ≤ 16 → InRange s i → Lacks 10 (item_text s.cpus i)
+item_lacks : (s : Told) (i : Item) → s.words ≤ 512 → s.cpus ≤ 16 → IsItemInRange s i → Lacks 10 (item_text s.cpus i)
 item_lacks s (items.Version n) words cpus h = lacks n (version_few n s h)
 item_lacks s (items.Page w) words cpus h = lacks w (omega (arith, (page_size w h).1))
 item_lacks s (items.Tiers f t) words cpus h = two_lack f t (omega (arith, h.2)) (omega (arith, h.4))
@@ -125,12 +95,16 @@ pub AreItems-append : (cpus : ℕ) (s t u : Told) (a b : List Item) → AreItems
 AreItems-append cpus s t u [] b h k = subst (λ (r : Told). AreItems cpus r b u) (sym h) k
 AreItems-append cpus s t u (i ∷ a) b h k = (h.0, h.1, AreItems-append cpus (with_item s i) t u a b h.2 k)
 
+-- their spellings follow one another
+pub AreItems-spelled : (cpus : ℕ) (s t : Told) (is : List Item) → AreItems cpus s is t → AreLines s (map (item_text cpus) is) t
+AreItems-spelled cpus s t [] h = h
+AreItems-spelled cpus s t (i ∷ is) h = (i, h.0, h.1, AreItems-spelled cpus (with_item s i) t is h.2)
+
 -- the lines of their text are their spellings, in this order
-pub AreItems-lines : (cpus : ℕ) (s t : Told) (is : List Item) → IsTold s → AreItems cpus s is t → AreLines s (lines_of (lines_text cpus is)) t
-AreItems-lines cpus s t [] told h = h
+pub AreItems-lines : (cpus : ℕ) (s t : Told) (is : List Item) → IsToldSoFar s → AreItems cpus s is t → lines_of (lines_text cpus is) ≡ map (item_text cpus) is
+AreItems-lines cpus s t [] told h = refl
 AreItems-lines cpus s t (i ∷ is) told h =
     let lack : Lacks 10 (item_text cpus i) = subst (λ (l : List ℕ). Lacks 10 l) (sym h.0) (item_lacks s i (words_few s told) (cpus_few s told) h.1.1) in
     let rest : List ℕ = lines_text cpus is in
     let cut : lines_of (lines_text cpus (i ∷ is)) ≡ item_text cpus i ∷ lines_of rest = ap lines_of (append_assoc (item_text cpus i) (10 ∷ []) rest) ∙ lines-joined (item_text cpus i) rest lack in
-    let later = AreItems-lines cpus (with_item s i) t is (told-step s (with_item s i) (item_text s.cpus i) told (step-again s i told h.1)) h.2 in
-    subst (λ (ls : List (List ℕ)). AreLines s ls t) (sym cut) (i, h.0, h.1, later)
+    cut ∙ ap (λ ls. item_text cpus i ∷ ls) (AreItems-lines cpus (with_item s i) t is (told-step s (with_item s i) (item_text s.cpus i) told (step-again s i told h.1)) h.2)

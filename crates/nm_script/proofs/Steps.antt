@@ -15,11 +15,12 @@ use Rattle.nm_script.specs.declared.item.Item.TheVariants as items
 use Rattle.nm_script.specs.declared.item.Place.{Place}
 use Rattle.nm_script.specs.declared.item.Place.TheVariants as places
 use Rattle.nm_script.specs.Items.{item_text, access_text}
-use Rattle.nm_script.specs.Fields.{one_of, two_of, three_of, shuffle_of, map_of, go_of}
+use Rattle.nm_text.specs.Fields.{one_of, two_of, three_of}
+use Rattle.nm_script.specs.Fields.{shuffle_of, map_of, go_of}
 use Rattle.nm_script.specs.Told.{Told, with_item}
-use Rattle.nm_script.specs.Grammar.{IsOneOf, before_of, InRange, MayFollow}
-use Rattle.nm_script.specs.Holds.{IsTold}
-use Rattle.nm_script.specs.Reading.{either_of, header_in, page_line, node_line, retry_line, schedule_line, go_line, map_line, cpu_line, tier_line, more_line, form_at, item_at, ruled, step}
+use Rattle.nm_script.specs.Following.{IsOneOf, before_of, IsItemInRange, MayFollow}
+use Rattle.nm_script.specs.Holds.{IsToldSoFar}
+use Rattle.nm_script.specs.Reading.{either_of, header_in, page_line, node_line, retry_line, schedule_line, go_line, map_line, cpu_line, tier_line, more_line, form_at, item_at, ruled, told_with}
 use Rattle.nm_script.proofs.Again.{page_line-again, tiers_line-again, node_line-again, cpus_line-again, retry_line-again, serial-again, shuffle-again, plan-again, go_line-again, map_line-again, cpu_line-again, access_line-again}
 
 -- ---- lines of other forms
@@ -105,19 +106,19 @@ at_each : (s : Told) (i : Item) (qs : List Place) (p : Place) → AllByRecursion
 at_each s i [] p h one = absurd one
 at_each s i (q ∷ qs) p h one = elim one [ inl e ↦ subst (Reads s i) (sym e) h.0 | inr r ↦ at_each s i qs p h.1 r ]
 
-tier-tiers : (s : Told) (f t : ℕ) → InRange s (items.Tiers f t) → tier_line s (item_text s.cpus (items.Tiers f t)) ≡ Some (Ok (items.Tiers f t))
+tier-tiers : (s : Told) (f t : ℕ) → IsItemInRange s (items.Tiers f t) → tier_line s (item_text s.cpus (items.Tiers f t)) ≡ Some (Ok (items.Tiers f t))
 unfolding tier_line
 tier-tiers s f t h = rw (eq-eqb s.version 1 h.0) (tiers_line-again f t h.1 h.2 h.3 h.4 h.5)
 
-tier-node : (s : Told) (n : Node) → InRange s (items.Node n) → tier_line s (item_text s.cpus (items.Node n)) ≡ Some (Ok (items.Node n))
+tier-node : (s : Told) (n : Node) → IsItemInRange s (items.Node n) → tier_line s (item_text s.cpus (items.Node n)) ≡ Some (Ok (items.Node n))
 unfolding tier_line
 tier-node s n h = rw (ne_eqb s.version 1 (λ e. omega (arith, e, h.0))) (node_line-again s.frames n h.2.0 h.2.1 h.2.2 h.3)
 
-more-node : (s : Told) (n : Node) → InRange s (items.Node n) → more_line s (item_text s.cpus (items.Node n)) ≡ Some (Ok (items.Node n))
+more-node : (s : Told) (n : Node) → IsItemInRange s (items.Node n) → more_line s (item_text s.cpus (items.Node n)) ≡ Some (Ok (items.Node n))
 unfolding more_line
 more-node s n h = rw (eq-eqb s.version 2 h.0, lt-ltb (length s.nodes) 16 h.1) (node_line-again s.frames n h.2.0 h.2.1 h.2.2 h.3)
 
-form_at-again : (s : Told) (p : Place) (i : Item) → s.cpus ≤ 16 → s.words ≤ 512 → IsOneOf (before_of i) p → InRange s i → Reads s i p
+form_at-again : (s : Told) (p : Place) (i : Item) → s.cpus ≤ 16 → s.words ≤ 512 → IsOneOf (before_of i) p → IsItemInRange s i → Reads s i p
 unfolding form_at
 form_at-again s p (items.Version n) cpus words one h =
     at_each s (items.Version n) (places.Begin ∷ []) p (ap (λ r. Some r) (header-again n h), tt) one
@@ -154,7 +155,7 @@ form_at-again s p (items.Cpu k) cpus words one h =
 form_at-again s p (items.Access l) cpus words one h =
     at_each s (items.Access l) (places.Program ∷ []) p (second _ _ _ (cpu_access s l) (access_line-again s l words h), tt) one
 
-ruled-again : (s : Told) (i : Item) → InRange s i → ruled s i ≡ Ok (with_item s i)
+ruled-again : (s : Told) (i : Item) → IsItemInRange s i → ruled s i ≡ Ok (with_item s i)
 ruled-again s (items.Version n) h = refl
 ruled-again s (items.Page n) h = refl
 ruled-again s (items.Tiers f t) h = refl
@@ -170,16 +171,16 @@ ruled-again s (items.Cpu p) h = refl
 ruled-again s (items.Access l) h = refl
 
 -- a page has at most 512 words
-pub words_few : (s : Told) → IsTold s → s.words ≤ 512
+pub words_few : (s : Told) → IsToldSoFar s → s.words ≤ 512
 words_few s told = elim told [ inl e ↦ omega (arith, ap (λ t. t.words) e) | inr h ↦ (page_size s.words h.words).1 ]
 
 -- there are at most 16 processors
-pub cpus_few : (s : Told) → IsTold s → s.cpus ≤ 16
+pub cpus_few : (s : Told) → IsToldSoFar s → s.cpus ≤ 16
 cpus_few s told = elim told [ inl e ↦ omega (arith, ap (λ t. t.cpus) e) | inr h ↦ h.few ]
 
 -- the spelling of a line that may follow is taken as that line
-pub step-again : (s : Told) (i : Item) → IsTold s → MayFollow s i → step s (item_text s.cpus i) ≡ Ok (with_item s i)
-unfolding step item_at
+pub step-again : (s : Told) (i : Item) → IsToldSoFar s → MayFollow s i → told_with s (item_text s.cpus i) ≡ Ok (with_item s i)
+unfolding told_with item_at
 step-again s i told may =
     let read : form_at s s.place (item_text s.cpus i) ≡ Some (Ok i) = form_at-again s s.place i (cpus_few s told) (words_few s told) may.0 may.1 in
     rw read (ruled-again s i may.1)

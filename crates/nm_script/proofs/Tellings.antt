@@ -15,9 +15,9 @@ use Rattle.nm_script.specs.declared.item.Place.{Place}
 use Rattle.nm_script.specs.declared.item.Place.TheVariants as places
 use Rattle.nm_script.specs.Script.{IsNode, IsPlanItem}
 use Rattle.nm_script.specs.Told.{Told, nothing, with_item, with_line}
-use Rattle.nm_script.specs.Grammar.{IsOneOf, before_of, IsReach}
-use Rattle.nm_script.specs.Holds.{HasNodes, IsMachine, IsLate, Stands, IsOpen, IsTold, Fits}
-use Rattle.nm_script.specs.Reading.{item_at, ruled, step}
+use Rattle.nm_script.specs.Following.{IsOneOf, before_of, IsReach}
+use Rattle.nm_script.specs.Holds.{HasNodes, IsMachine, IsLate, Stands, IsOpen, IsToldSoFar, ItemFits}
+use Rattle.nm_script.specs.Reading.{item_at, ruled, told_with}
 use Rattle.nm_script.proofs.FieldLemmas.{chained, refused}
 use Rattle.nm_script.proofs.Says.{Ranged, Follows, item_at-some}
 use Rattle.nm_script.proofs.Mapped.{AreMaps-none, AreMaps-page}
@@ -33,13 +33,13 @@ apart : (qs : List Place) (p : Place) → AllByRecursion (λ q. q ≡ places.Beg
 apart [] p h one e = one
 apart (q ∷ qs) p h one e = elim one [ inl a ↦ h.0 (sym a ∙ e) | inr r ↦ apart qs p h.1 r e ]
 
-pub opened : (s : Told) (qs : List Place) → AllByRecursion (λ q. q ≡ places.Begin → ⊥) qs → IsOneOf qs s.place → IsTold s → IsOpen s
+pub opened : (s : Told) (qs : List Place) → AllByRecursion (λ q. q ≡ places.Begin → ⊥) qs → IsOneOf qs s.place → IsToldSoFar s → IsOpen s
 opened s qs h one told = elim told [ inl e ↦ absurd (apart qs s.place h one (ap (λ t. t.place) e)) | inr o ↦ o ]
 
-at : (s : Told) (q : Place) → IsOpen s → s.place ≡ q → Stands q s
+pub at : (s : Told) (q : Place) → IsOpen s → s.place ≡ q → Stands q s
 at s q h e = subst (λ p. Stands p s) e h.stands
 
-begun : (s : Told) → s.place ≡ places.Begin → IsTold s → s ≡ nothing
+pub begun : (s : Told) → s.place ≡ places.Begin → IsToldSoFar s → s ≡ nothing
 begun s e told = elim told [ inl n ↦ n | inr o ↦ absurd (at s places.Begin o e) ]
 
 -- ---- one line more
@@ -206,7 +206,7 @@ alone : (q p : Place) → IsOneOf (q ∷ []) p → p ≡ q
 alone q p one = elim one [ inl e ↦ e | inr n ↦ absurd n ]
 
 -- what holds after an item that follows
-pub told_item : (s : Told) (i : Item) (t : Told) → IsTold s → IsOneOf (before_of i) s.place → Ranged s i → ruled s i ≡ Ok t → IsTold t
+pub told_item : (s : Told) (i : Item) (t : Told) → IsToldSoFar s → IsOneOf (before_of i) s.place → Ranged s i → ruled s i ≡ Ok t → IsToldSoFar t
 told_item s (items.Version n) t told one r e =
     let none = begun s (alone _ _ one) told in
     let is : with_item s (items.Version n) ≡ t = cc in
@@ -255,24 +255,24 @@ told_item s (items.Access l) t told one r e =
 -- ---- what the code needs
 
 -- before the first tiers there are no nodes
-pub few_nodes : (s : Told) → IsTold s → IsOneOf (places.Version ∷ places.Page ∷ []) s.place → length s.nodes < 16
+pub few_nodes : (s : Told) → IsToldSoFar s → IsOneOf (places.Version ∷ places.Page ∷ []) s.place → length s.nodes < 16
 few_nodes s told one =
     let h = opened s (places.Version ∷ places.Page ∷ []) ((λ x. cc), ((λ x. cc), tt)) one told in
     let none : s.nodes ≡ [] = elim one [ inl a ↦ (at s places.Version h a).1 | inr r ↦ elim r [ inl b ↦ (at s places.Page h b).1 | inr n ↦ absurd n ] ] in
     omega (arith, ap length none)
 
 -- an item that was read follows
-pub item-follows : (s : Told) (line : List ℕ) (i : Item) → IsTold s → item_at s line ≡ Ok i → Follows s s.place line i
+pub item-follows : (s : Told) (line : List ℕ) (i : Item) → IsToldSoFar s → item_at s line ≡ Ok i → Follows s s.place line i
 item-follows s line i told e = item_at-some s line i (few_nodes s told) e
 
 -- there are at most 16 processors and 4,096 frames
-pub told-few : (s : Told) → IsTold s → (s.frames ≤ 4096) × (s.cpus ≤ 16)
+pub told-few : (s : Told) → IsToldSoFar s → (s.frames ≤ 4096) × (s.cpus ≤ 16)
 told-few s told = elim told [ inl e ↦ (omega (arith, ap (λ t. t.frames) e), omega (arith, ap (λ t. t.cpus) e)) | inr h ↦ (h.machine.few, h.few) ]
 
 node_frames : (s : Told) → IsOpen s → (s.version ≡ 1 → ⊥) → s.frames ≡ frames_of s.nodes
 node_frames s h v = elim h.machine.parts [ inl q ↦ absurd (v q.0) | inr t ↦ t.1.frames_are ]
 
-fits : (s : Told) (i : Item) → IsTold s → IsOneOf (before_of i) s.place → Ranged s i → Fits s i
+fits : (s : Told) (i : Item) → IsToldSoFar s → IsOneOf (before_of i) s.place → Ranged s i → ItemFits s i
 fits s (items.Version n) told one r = tt
 fits s (items.Page n) told one r = tt
 fits s (items.Tiers f t) told one r = omega (arith, r.5)
@@ -289,12 +289,12 @@ fits s (items.Access l) told one r =
     let st = at s places.Program (opened s (before_of (items.Access l)) ((λ x. cc), tt) one told) (alone _ _ one) in
     omega (arith, st.2)
 
-pub item-fits : (s : Told) (line : List ℕ) (i : Item) → IsTold s → item_at s line ≡ Ok i → Fits s i
+pub item-fits : (s : Told) (line : List ℕ) (i : Item) → IsToldSoFar s → item_at s line ≡ Ok i → ItemFits s i
 item-fits s line i told e = let f = item-follows s line i told e in fits s i told f.stands f.range
 
 -- what holds after a line that was taken
-pub told-step : (s t : Told) (line : List ℕ) → IsTold s → step s line ≡ Ok t → IsTold t
-unfolding step
+pub told-step : (s t : Told) (line : List ℕ) → IsToldSoFar s → told_with s line ≡ Ok t → IsToldSoFar t
+unfolding told_with
 told-step s t line told e =
     let i = chained _ _ _ e in
     let f = item-follows s line i.0 told i.1.0 in

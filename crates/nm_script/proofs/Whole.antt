@@ -7,17 +7,17 @@ use Rattle.nm_script.specs.declared.fault.ReadError.{ReadError}
 use Rattle.nm_script.specs.declared.fault.ReadError.TheVariants as errors
 use Rattle.nm_script.specs.declared.fault.ScriptRefusal.{ScriptRefusal}
 use Rattle.nm_script.specs.declared.fault.ScriptRefusal.TheVariants as refusals
-use Rattle.nm_script.specs.Fields.{first_byte, lines_of}
+use Rattle.nm_text.specs.Fields.{first_byte, lines_of}
 use Rattle.nm_script.specs.Told.{Told, nothing, is_whole, script_of}
-use Rattle.nm_script.specs.Reading.{◌>>=◌, Fails, Refuses, refusal_of, step, at_line, told_after, ended, script_in, reading}
+use Rattle.nm_script.specs.Reading.{◌>>=◌, Fails, Refuses, refusal_of, told_with, at_line, told_after, ended, script_in, reading}
 
 -- one line was taken
-pub goes_on : (s t : Told) (n : ℕ) (line : List ℕ) (rest lines : List (List ℕ)) (total : Result Told (ScriptFault × ℕ)) → step s line ≡ Ok t → lines ≡ line ∷ rest → told_after s n lines ≡ total → told_after t (n + 1) rest ≡ total
+pub goes_on : (s t : Told) (n : ℕ) (line : List ℕ) (rest lines : List (List ℕ)) (total : Result Told (ScriptFault × ℕ)) → told_with s line ≡ Ok t → lines ≡ line ∷ rest → told_after s n lines ≡ total → told_after t (n + 1) rest ≡ total
 goes_on s t n line rest lines total e is h =
     sym (ap (λ r. at_line n r >>= λ u. told_after u (n + 1) rest) e) ∙ sym (ap (told_after s n) is) ∙ h
 
 -- one line was refused
-pub stops : (e : ReadError) (s : Told) (n : ℕ) (line : List ℕ) (rest lines : List (List ℕ)) (total : Result Told (ScriptFault × ℕ)) → Fails e (step s line) → lines ≡ line ∷ rest → told_after s n lines ≡ total → Refuses (refusal_of e n) total
+pub stops : (e : ReadError) (s : Told) (n : ℕ) (line : List ℕ) (rest lines : List (List ℕ)) (total : Result Told (ScriptFault × ℕ)) → Fails e (told_with s line) → lines ≡ line ∷ rest → told_after s n lines ≡ total → Refuses (refusal_of e n) total
 stops errors.Memory s n line rest lines total f is h = tt
 stops (errors.Fault g) s n line rest lines total f is h =
     sym h ∙ ap (told_after s n) is ∙ ap (λ r. at_line n r >>= λ u. told_after u (n + 1) rest) f

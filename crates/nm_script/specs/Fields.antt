@@ -1,56 +1,10 @@
--- The lines of a text, and the fields of a line.
-use Rattle.std.specs.Prelude.{ℕ, ◌==◌, if◌then◌else◌, Bool, true, false, ◌||◌, List, [], ◌∷◌, Option, Some, None, option_and_then, is_some, codes}
+-- Mirrors the reader: how it cuts the lines of a script into fields.
+use Rattle.std.specs.Prelude.{ℕ, if◌then◌else◌, Bool, true, false, ◌||◌, List, [], ◌∷◌, Option, Some, None, is_some, codes}
 use Rattle.std.specs.Str.{bytes_eq}
-use Rattle.nm_text.specs.Cuts.{cut_of, strip_of}
+use Rattle.nm_text.specs.Cuts.{strip_of}
+use Rattle.nm_text.specs.Fields.{◌>>=◌, three_of}
+use Rattle.nm_text.specs.Kinds.{all_kinds, kind_among}
 use Rattle.nm_action.specs.declared.kind.ActionKind.{ActionKind}
-use Rattle.nm_action.specs.declared.kind.ActionKind.TheVariants as kinds
-use Rattle.nm_script.specs.Items.{kind_text}
-
-infixl 10 ◌>>=◌
-abbrev pub ◌>>=◌ : {A B : Type 0} → Option A → (A → Option B) → Option B
-o >>= f = option_and_then f o
-
--- the line that a byte begins
-abbrev pub first_byte : ℕ → List (List ℕ) → List (List ℕ)
-first_byte x [] = (x ∷ []) ∷ []
-first_byte x (l ∷ ls) = (x ∷ l) ∷ ls
-
--- the lines of a text: each ends with a newline, which the last may lack
-abbrev pub lines_of : List ℕ → List (List ℕ)
-lines_of [] = []
-lines_of (x ∷ xs) = if x == 10 then [] ∷ lines_of xs else first_byte x (lines_of xs)
-
--- the field, where nothing was cut from it
-abbrev pub uncut : Option (List ℕ × List ℕ) → List ℕ → Option (List ℕ)
-uncut None field = Some field
-uncut (Some parts) field = None
-
--- the last field of a line: it has no space
-unfoldable pub last_of : List ℕ → Option (List ℕ)
-last_of field = uncut (cut_of 32 field) field
-
--- the one field after a word
-unfoldable pub one_of : List ℕ → List ℕ → Option (List ℕ)
-one_of word line = do
-  rest ← strip_of word line
-  last_of rest
-
--- the two fields after a word
-unfoldable pub two_of : List ℕ → List ℕ → Option (List ℕ × List ℕ)
-two_of word line = do
-  rest ← strip_of word line
-  a ← cut_of 32 rest
-  b ← last_of a.1
-  Some (a.0, b)
-
--- the three fields after a word
-unfoldable pub three_of : List ℕ → List ℕ → Option (List ℕ × List ℕ × List ℕ)
-three_of word line = do
-  rest ← strip_of word line
-  a ← cut_of 32 rest
-  b ← cut_of 32 a.1
-  c ← last_of b.1
-  Some (a.0, b.0, c)
 
 -- the number and the turns of a shuffle: its third field is the word turns
 unfoldable pub shuffle_of : List ℕ → Option (List ℕ × List ℕ)
@@ -73,29 +27,9 @@ map_of line = do
 unfoldable pub is_actor : List ℕ → Bool
 is_actor field = bytes_eq field (codes "m") || bytes_eq field (codes "r") || is_some (strip_of (codes "c") field)
 
--- every kind of action
-abbrev pub all_kinds : List ActionKind
-all_kinds =
-    kinds.Load ∷ kinds.Store ∷ kinds.Add ∷ kinds.Look ∷ kinds.Walk ∷ kinds.Peek ∷ kinds.Poll ∷ kinds.Ack ∷ kinds.Lock ∷ kinds.Unlock ∷
-    kinds.Bump ∷ kinds.SeeAck ∷ kinds.Raise ∷ kinds.Soften ∷ kinds.Arm ∷ kinds.ClearDirty ∷ kinds.Unmap ∷ kinds.Map ∷ kinds.Grant ∷ kinds.CopyLoad ∷
-    kinds.CopyStore ∷ kinds.SetHome ∷ kinds.SetShadow ∷ kinds.TakeTurn ∷ kinds.Scan ∷ kinds.GiveFrame ∷ kinds.PutFrame ∷ kinds.ReleaseTurn ∷ kinds.Mark ∷ kinds.Read ∷ []
-
--- the first of the kinds that a word spells
-abbrev pub kind_among : List ActionKind → List ℕ → Option ActionKind
-kind_among [] word = None
-kind_among (k ∷ ks) word = if bytes_eq (kind_text k) word then Some k else kind_among ks word
-
 -- an actor, a kind of action and a count
 unfoldable pub go_of : List ℕ → Option (List ℕ × ActionKind × List ℕ)
 go_of line = do
   parts ← three_of (codes "go ") line
   kind ← kind_among all_kinds parts.1
   if is_actor parts.0 then Some (parts.0, kind, parts.2) else None
-
--- a field split at its first dot; without a dot the second part has nothing
-abbrev pub dotted : Option (List ℕ × List ℕ) → List ℕ → List ℕ × List ℕ
-dotted None field = (field, [])
-dotted (Some parts) field = parts
-
-unfoldable pub place_of : List ℕ → List ℕ × List ℕ
-place_of field = dotted (cut_of 46 field) field

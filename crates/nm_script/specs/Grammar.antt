@@ -1,76 +1,32 @@
--- Which texts are scripts.
-use Rattle.std.specs.Prelude.{◌≡◌, ℕ, ◌+◌, ◌<◌, ◌≤◌, ◌^◌, ◌⊎◌, List, [], ◌∷◌, ◌++◌, length, Option, None, IsSome, IsTrue, IsSomeAnd, slice_index_or}
-use Rattle.nm_base.specs.declared.geometry.VPage.{VPage}
-use Rattle.nm_base.specs.Geometry.{IsPageSize}
-use Rattle.nm_tiers.specs.Tiers.{tier_count}
-use Rattle.nm_script.specs.declared.script.Line.{Line}
-use Rattle.nm_script.specs.declared.script.Line.TheVariants.{Load, Store, Add, Await}
+-- Which texts are scripts. The lines of the bytes are the canonical lines of the script, but that the two lines which say
+-- what holds without them may lack, and that the lines of virtual pages may stand in any order.
+use Rattle.std.specs.Prelude.{◌≡◌, ℕ, ◌⊎◌, List, [], ◌∷◌, map}
+use Rattle.std.specs.List.Sorted.{IsPermutation}
+use Rattle.nm_text.specs.Fields.{lines_of}
+use Rattle.nm_script.specs.declared.limits.TheConstants.{MOST_TURNS}
 use Rattle.nm_script.specs.declared.item.Item.{Item}
-use Rattle.nm_script.specs.declared.item.Item.TheVariants.{Version, Page, Tiers, Node, Cpus, Retry, Serial, Shuffle, Plan, Go, Map, Cpu, Access}
-use Rattle.nm_script.specs.declared.item.Place.{Place}
-use Rattle.nm_script.specs.declared.item.Place.TheVariants as places
-use Rattle.nm_script.specs.Script.{IsNode, IsPlanItem}
-use Rattle.nm_script.specs.Told.{Told, nothing, with_item, is_whole, script_of}
-use Rattle.nm_script.specs.Items.{item_text}
-use Rattle.nm_script.specs.Fields.{lines_of}
+use Rattle.nm_script.specs.declared.item.Item.TheVariants.{Page, Serial}
 use Rattle.nm_script.specs.Plain.{Script}
+use Rattle.nm_script.specs.Items.{item_text}
+use Rattle.nm_script.specs.Script.{IsScript, schedule_items, map_items, items_with}
 
--- what stood last is one of these
-abbrev pub IsOneOf : List Place → Place → Type 0
-IsOneOf [] p = ⊥
-IsOneOf (q ∷ qs) p = (p ≡ q) ⊎ IsOneOf qs p
+-- the lines are written as they are canonical, or there is none where the canonical line is this one
+abbrev pub MayLack : Item → List Item → List Item → Type 0
+MayLack i canonical written = (written ≡ canonical) ⊎ ((canonical ≡ i ∷ []) × (written ≡ []))
 
--- an access to a word of a mapped page, which a store and an add may write
-abbrev pub IsReach : ℕ → List (Option VPage) → Line → Type 0
-IsReach words vs (Load v w) = IsSome (slice_index_or vs v None) × (v ≤ 4095) × (w < words)
-IsReach words vs (Store v w x) = IsSomeAnd (slice_index_or vs v None) (λ p. IsTrue p.writable) × (v ≤ 4095) × (w < words) × (x < 2 ^ 64)
-IsReach words vs (Add v w x) = IsSomeAnd (slice_index_or vs v None) (λ p. IsTrue p.writable) × (v ≤ 4095) × (w < words) × (x < 2 ^ 64)
-IsReach words vs (Await v w x n) = IsSome (slice_index_or vs v None) × (v ≤ 4095) × (w < words) × (x < 2 ^ 64) × (1 ≤ n) × (n ≤ 1000000000)
+-- lines that a text of the script may have, in their order
+pub record AreItemsOf (s : Script) (items : List Item) : Type 0 where
+  pub page : List Item
+  pub schedule : List Item
+  pub maps : List Item
+  pub are : items ≡ items_with s page schedule maps
+  pub page_lacks : MayLack (Page 512) (Page s.geometry.words ∷ []) page
+  pub schedule_lacks : MayLack (Serial MOST_TURNS) (schedule_items s.schedule) schedule
+  pub any_order : IsPermutation (map_items 0 s.geometry.vpages) maps
 
--- what may stand last before a line
-abbrev pub before_of : Item → List Place
-before_of (Version n) = places.Begin ∷ []
-before_of (Page w) = places.Version ∷ []
-before_of (Tiers f t) = places.Version ∷ places.Page ∷ []
-before_of (Node n) = places.Version ∷ places.Page ∷ places.Tier ∷ []
-before_of (Cpus p) = places.Tier ∷ []
-before_of (Retry r) = places.Cpus ∷ []
-before_of (Serial t) = places.Cpus ∷ places.Retry ∷ []
-before_of (Shuffle n t) = places.Cpus ∷ places.Retry ∷ []
-before_of (Plan t) = places.Cpus ∷ places.Retry ∷ []
-before_of (Go g) = places.Plan ∷ []
-before_of (Map v p) = places.Cpus ∷ places.Retry ∷ places.Order ∷ places.Plan ∷ places.Map ∷ []
-before_of (Cpu p) = places.Map ∷ places.Program ∷ []
-before_of (Access l) = places.Program ∷ []
-
--- the ranges of a line's numbers, after what was told
-abbrev pub InRange : Told → Item → Type 0
-InRange s (Version n) = (n ≡ 1) ⊎ (n ≡ 2)
-InRange s (Page w) = IsPageSize w
-InRange s (Tiers f t) = (s.version ≡ 1) × (1 ≤ f) × (f ≤ 4095) × (1 ≤ t) × (t ≤ 4095) × (f + t ≤ 4096)
-InRange s (Node n) = (s.version ≡ 2) × (length s.nodes < 16) × IsNode n × (s.frames + n.frames ≤ 4096) × (tier_count (s.nodes ++ n ∷ []) ≤ 4)
-InRange s (Cpus p) = (1 ≤ p) × (p ≤ 16) × (2 ≤ length s.tiers)
-InRange s (Retry r) = (s.version ≡ 2) × (r ≤ 1000)
-InRange s (Serial t) = t ≤ 8000000
-InRange s (Shuffle n t) = (n < 2 ^ 64) × (t ≤ 8000000)
-InRange s (Plan t) = t ≤ 8000000
-InRange s (Go g) = IsPlanItem s.cpus g
-InRange s (Map v p) = (v ≤ 4095) × (p.page ≤ 4095) × (slice_index_or s.vpages v None ≡ None) × (p.page + 1 + s.cpus + 9 ≤ s.frames)
-InRange s (Cpu p) = (p ≡ length s.programs) × (p < s.cpus)
-InRange s (Access l) = IsReach s.words s.vpages l
-
--- a line that may stand after what was told
-abbrev pub MayFollow : Told → Item → Type 0
-MayFollow s i = IsOneOf (before_of i) s.place × InRange s i
-
--- the lines are the spellings of items, each of which may follow what the ones before it told
-abbrev pub AreLines : Told → List (List ℕ) → Told → Type 0
-AreLines s [] t = s ≡ t
-AreLines s (l ∷ ls) t = (i : Item) × (l ≡ item_text s.cpus i) × MayFollow s i × AreLines (with_item s i) ls t
-
--- the bytes are the text of a script: lines that may follow one another, up to the line of the last processor at least
+-- the bytes are a text of the script: each of their lines is spelled as the line of it, and the last may lack its newline
 pub record IsScriptText (bytes : List ℕ) (script : Script) : Type 0 where
-  pub told : Told
-  pub lines : AreLines nothing (lines_of bytes) told
-  pub whole : IsTrue (is_whole told)
-  pub are : script ≡ script_of told
+  pub is : IsScript script
+  pub items : List Item
+  pub items_are : AreItemsOf script items
+  pub spelled : lines_of bytes ≡ map (item_text script.geometry.cpus) items

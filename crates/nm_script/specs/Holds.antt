@@ -1,10 +1,11 @@
--- What holds of what the lines of a text have told.
+-- Mirrors the reader: what holds of what it keeps between two lines.
 use Rattle.std.specs.Prelude.{◌≡◌, ℕ, ◌+◌, ◌<◌, ◌≤◌, ◌^◌, ◌⊎◌, List, [], ◌∷◌, length, sum, Option, None, IfSome}
 use Rattle.std.specs.List.{AllByRecursion}
 use Rattle.nm_base.specs.declared.geometry.VPage.{VPage}
 use Rattle.nm_base.specs.Geometry.{IsPageSize, pages_of}
 use Rattle.nm_tiers.specs.declared.nodes.Node.{Node}
 use Rattle.nm_tiers.specs.Tiers.{frames_of, tiers_of, tier_count}
+use Rattle.nm_script.specs.declared.limits.TheConstants.{MOST_FRAMES, MOST_TURNS}
 use Rattle.nm_script.specs.declared.item.Item.{Item}
 use Rattle.nm_script.specs.declared.item.Item.TheVariants as items
 use Rattle.nm_script.specs.declared.item.Place.{Place}
@@ -12,7 +13,7 @@ use Rattle.nm_script.specs.declared.item.Place.TheVariants as places
 use Rattle.nm_script.specs.declared.item.Order.{Order}
 use Rattle.nm_script.specs.declared.item.Order.TheVariants as orders
 use Rattle.nm_script.specs.Script.{IsNode, IsPlanItem, IsTrimmed}
-use Rattle.nm_script.specs.Grammar.{IsReach}
+use Rattle.nm_script.specs.Following.{IsReach}
 use Rattle.nm_script.specs.Told.{Told, nothing}
 
 -- two tiers, of 1 to 4,095 frames each
@@ -32,15 +33,15 @@ pub record HasNodes (tiers : List ℕ) (frames : ℕ) (nodes : List Node) : Type
 
 -- the frames and the tiers so far, by version
 pub record IsMachine (version : ℕ) (tiers : List ℕ) (frames : ℕ) (nodes : List Node) (retry : Option ℕ) : Type 0 where
-  pub few : frames ≤ 4096
+  pub few : frames ≤ MOST_FRAMES
   pub sum : frames ≡ sum tiers
   pub parts : ((version ≡ 1) × (nodes ≡ []) × (retry ≡ None) × ((tiers ≡ []) ⊎ IsPair tiers))
       ⊎ ((version ≡ 2) × HasNodes tiers frames nodes × IfSome retry (λ r. r ≤ 1000))
 
 abbrev pub IsOrder : Order → Type 0
-IsOrder (orders.Serial t) = t ≤ 8000000
-IsOrder (orders.Shuffle n t) = (n < 2 ^ 64) × (t ≤ 8000000)
-IsOrder (orders.Plan t) = t ≤ 8000000
+IsOrder (orders.Serial t) = t ≤ MOST_TURNS
+IsOrder (orders.Shuffle n t) = (n < 2 ^ 64) × (t ≤ MOST_TURNS)
+IsOrder (orders.Plan t) = t ≤ MOST_TURNS
 
 -- virtual pages that leave frames enough
 pub record AreMaps (frames cpus : ℕ) (vs : List (Option VPage)) : Type 0 where
@@ -82,12 +83,12 @@ pub record IsOpen (s : Told) : Type 0 where
   pub stands : Stands s.place s
 
 -- nothing, or what some lines have told
-abbrev pub IsTold : Told → Type 0
-IsTold s = (s ≡ nothing) ⊎ IsOpen s
+abbrev pub IsToldSoFar : Told → Type 0
+IsToldSoFar s = (s ≡ nothing) ⊎ IsOpen s
 
 -- what is added to fits the code's numbers and lists
-abbrev pub Fits : Told → Item → Type 0
-Fits s (items.Tiers f t) = f + t < 2 ^ 32
-Fits s (items.Node n) = (s.frames + n.frames ≤ 4096) × (s.frames ≡ frames_of s.nodes)
-Fits s (items.Access l) = 0 < length s.programs
-Fits s i = Unit {0}
+abbrev pub ItemFits : Told → Item → Type 0
+ItemFits s (items.Tiers f t) = f + t < 2 ^ 32
+ItemFits s (items.Node n) = (s.frames + n.frames ≤ MOST_FRAMES) × (s.frames ≡ frames_of s.nodes)
+ItemFits s (items.Access l) = 0 < length s.programs
+ItemFits s i = Unit {0}

@@ -1,8 +1,7 @@
 -- The lines of a script's text, and how each is spelled.
 use Rattle.std.specs.Prelude.{ℕ, ◌==◌, nat_lt, if◌then◌else◌, Bool, true, false, List, [], ◌∷◌, ◌++◌, flat_map, codes}
 use Rattle.std.specs.Fmt.{decimal}
-use Rattle.nm_action.specs.declared.kind.ActionKind.{ActionKind}
-use Rattle.nm_action.specs.declared.kind.ActionKind.TheVariants as kinds
+use Rattle.nm_text.specs.Kinds.{kind_text}
 use Rattle.nm_script.specs.declared.script.Line.{Line}
 use Rattle.nm_script.specs.declared.script.Line.TheVariants.{Load, Store, Add, Await}
 use Rattle.nm_script.specs.declared.item.Item.{Item}
@@ -11,39 +10,6 @@ use Rattle.nm_script.specs.declared.item.Item.TheVariants.{Version, Page, Tiers,
 -- a line of the text: its bytes, and a newline
 abbrev pub line : List ℕ → List ℕ
 line bytes = bytes ++ 10 ∷ []
-
--- the kinds of action in lower case
-abbrev pub kind_text : ActionKind → List ℕ
-kind_text kinds.Load = codes "load"
-kind_text kinds.Store = codes "store"
-kind_text kinds.Add = codes "add"
-kind_text kinds.Look = codes "look"
-kind_text kinds.Walk = codes "walk"
-kind_text kinds.Peek = codes "peek"
-kind_text kinds.Poll = codes "poll"
-kind_text kinds.Ack = codes "ack"
-kind_text kinds.Lock = codes "lock"
-kind_text kinds.Unlock = codes "unlock"
-kind_text kinds.Bump = codes "bump"
-kind_text kinds.SeeAck = codes "seeack"
-kind_text kinds.Raise = codes "raise"
-kind_text kinds.Soften = codes "soften"
-kind_text kinds.Arm = codes "arm"
-kind_text kinds.ClearDirty = codes "cleardirty"
-kind_text kinds.Unmap = codes "unmap"
-kind_text kinds.Map = codes "map"
-kind_text kinds.Grant = codes "grant"
-kind_text kinds.CopyLoad = codes "copyload"
-kind_text kinds.CopyStore = codes "copystore"
-kind_text kinds.SetHome = codes "sethome"
-kind_text kinds.SetShadow = codes "setshadow"
-kind_text kinds.TakeTurn = codes "taketurn"
-kind_text kinds.Scan = codes "scan"
-kind_text kinds.GiveFrame = codes "giveframe"
-kind_text kinds.PutFrame = codes "putframe"
-kind_text kinds.ReleaseTurn = codes "releaseturn"
-kind_text kinds.Mark = codes "mark"
-kind_text kinds.Read = codes "read"
 
 -- among this many processors an actor is c and its number, m for the migrator, or r for the reclaimer
 abbrev pub actor_text : ℕ → ℕ → List ℕ

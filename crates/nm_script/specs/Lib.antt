@@ -4,6 +4,7 @@ pub mod Script
 pub mod Told
 pub mod Fields
 pub mod Reading
+pub mod Following
 pub mod Grammar
 pub mod Holds
 pub mod LineFaults

@@ -1,21 +1,23 @@
 -- The fault of a line: the forms of lines, what each may stand after, and its questions in their order.
-use Rattle.std.specs.Prelude.{◌≡◌, ◌≢◌, ℕ, ◌<◌, ◌+◌, ◌==◌, nat_lt, nat_le, ◌&&◌, ◌⊎◌, Bool, false, IsTrue, List, [], ◌∷◌, ◌++◌, length, Option, Some, None, is_some, is_none, slice_index_or, codes}
+use Rattle.std.specs.Prelude.{◌≡◌, ◌≢◌, ℕ, ◌<◌, ◌+◌, ◌==◌, nat_lt, nat_le, ◌&&◌, ◌||◌, ◌⊎◌, Bool, false, IsTrue, List, [], ◌∷◌, ◌++◌, length, Option, Some, None, is_some, is_none, slice_index_or, codes}
 use Rattle.std.specs.Option.{unwrap_or}
 use Rattle.std.specs.List.{AllByRecursion}
 use Rattle.nm_text.specs.Numbers.{number_of}
-use Rattle.nm_text.specs.Cuts.{Lacks}
+use Rattle.nm_text.specs.Cuts.{Lacks, cut_of}
 use Rattle.nm_base.specs.declared.geometry.VPage.{VPage}
 use Rattle.nm_tiers.specs.Tiers.{tier_count}
 use Rattle.nm_action.specs.declared.kind.ActionKind.{ActionKind}
+use Rattle.nm_script.specs.declared.limits.TheConstants.{MOST_FRAMES, MOST_TURNS}
 use Rattle.nm_script.specs.declared.fault.ScriptFault.{ScriptFault}
 use Rattle.nm_script.specs.declared.fault.ScriptFault.TheVariants as faults
 use Rattle.nm_script.specs.declared.item.Place.TheVariants as places
-use Rattle.nm_script.specs.declared.item.Place.{Place}
-use Rattle.nm_script.specs.Items.{kind_text, right_text}
-use Rattle.nm_script.specs.Fields.{place_of}
+use Rattle.nm_script.specs.declared.script.Line.TheVariants.{Load, Store, Add, Await}
+use Rattle.nm_script.specs.declared.item.Item.{Item}
+use Rattle.nm_script.specs.declared.item.Item.TheVariants as items
+use Rattle.nm_text.specs.Kinds.{kind_text}
+use Rattle.nm_script.specs.Items.{right_text}
 use Rattle.nm_script.specs.Told.{Told}
-use Rattle.nm_script.specs.Grammar.{IsOneOf}
-use Rattle.nm_script.specs.Reading.{is_page_size}
+use Rattle.nm_script.specs.Following.{IsOneOf, before_of}
 
 -- ---- forms
 
@@ -53,22 +55,22 @@ actor_word reclaimer = codes "r"
 actor_word (processor p) = codes "c" ++ p
 
 -- the words and fields of a line
-abbrev pub words_of : Form → List (List ℕ)
-words_of (page w) = codes "page" ∷ w ∷ []
-words_of (tiers f t) = codes "tiers" ∷ f ∷ t ∷ []
-words_of (node d f) = codes "node" ∷ d ∷ f ∷ []
-words_of (cpus p) = codes "cpus" ∷ p ∷ []
-words_of (retry r) = codes "retry" ∷ r ∷ []
-words_of (serial t) = codes "serial" ∷ codes "turns" ∷ t ∷ []
-words_of (shuffle n t) = codes "shuffle" ∷ n ∷ codes "turns" ∷ t ∷ []
-words_of (plan t) = codes "plan" ∷ codes "turns" ∷ t ∷ []
-words_of (go a kind n) = codes "go" ∷ actor_word a ∷ kind_text kind ∷ n ∷ []
-words_of (map v b right) = codes "map" ∷ v ∷ b ∷ right_text right ∷ []
-words_of (cpu p) = codes "cpu" ∷ p ∷ []
-words_of (load place) = codes "load" ∷ place ∷ []
-words_of (store place x) = codes "store" ∷ place ∷ x ∷ []
-words_of (add place x) = codes "add" ∷ place ∷ x ∷ []
-words_of (await place x n) = codes "await" ∷ place ∷ x ∷ n ∷ []
+abbrev pub form_words : Form → List (List ℕ)
+form_words (page w) = codes "page" ∷ w ∷ []
+form_words (tiers f t) = codes "tiers" ∷ f ∷ t ∷ []
+form_words (node d f) = codes "node" ∷ d ∷ f ∷ []
+form_words (cpus p) = codes "cpus" ∷ p ∷ []
+form_words (retry r) = codes "retry" ∷ r ∷ []
+form_words (serial t) = codes "serial" ∷ codes "turns" ∷ t ∷ []
+form_words (shuffle n t) = codes "shuffle" ∷ n ∷ codes "turns" ∷ t ∷ []
+form_words (plan t) = codes "plan" ∷ codes "turns" ∷ t ∷ []
+form_words (go a kind n) = codes "go" ∷ actor_word a ∷ kind_text kind ∷ n ∷ []
+form_words (map v b right) = codes "map" ∷ v ∷ b ∷ right_text right ∷ []
+form_words (cpu p) = codes "cpu" ∷ p ∷ []
+form_words (load place) = codes "load" ∷ place ∷ []
+form_words (store place x) = codes "store" ∷ place ∷ x ∷ []
+form_words (add place x) = codes "add" ∷ place ∷ x ∷ []
+form_words (await place x n) = codes "await" ∷ place ∷ x ∷ n ∷ []
 
 -- words with a space between each two
 abbrev pub spaced : List (List ℕ) → List ℕ
@@ -78,27 +80,58 @@ spaced (w ∷ v ∷ ws) = w ++ 32 ∷ spaced (v ∷ ws)
 
 -- the line has the form: it is these words and fields, joined by single spaces, and none of them has a space
 abbrev pub IsFormOf : List ℕ → Form → Type 0
-IsFormOf line form = (line ≡ spaced (words_of form)) × AllByRecursion (Lacks 32) (words_of form)
+IsFormOf line form = (line ≡ spaced (form_words form)) × AllByRecursion (Lacks 32) (form_words form)
+
+-- ---- what a line says
+
+abbrev pub is_number : List ℕ → Bool
+is_number field = is_some (number_of field)
+
+-- the number that a field spells; it matters only where the field is one
+abbrev pub value_of : List ℕ → ℕ
+value_of field = unwrap_or (number_of field) 0
+
+-- a field split at its first dot; without a dot the second part has nothing
+abbrev pub dotted : Option (List ℕ × List ℕ) → List ℕ → List ℕ × List ℕ
+dotted None field = (field, [])
+dotted (Some parts) field = parts
+
+-- V and w of a field V.w
+unfoldable pub page_word_of : List ℕ → List ℕ × List ℕ
+page_word_of field = dotted (cut_of 46 field) field
+
+-- the number of an actor among this many processors
+abbrev pub actor_of : ℕ → Actor → ℕ
+actor_of n migrator = n
+actor_of n reclaimer = n + 1
+actor_of n (processor p) = value_of p
+
+-- the virtual page and the word that V.w spells
+abbrev pub page_of_place : List ℕ → ℕ
+page_of_place place = value_of (page_word_of place).0
+
+abbrev pub word_of_place : List ℕ → ℕ
+word_of_place place = value_of (page_word_of place).1
+
+-- what a line of the form says among this many processors, by the values of its fields
+abbrev pub item_of : ℕ → Form → Item
+item_of p (page w) = items.Page (value_of w)
+item_of p (tiers f t) = items.Tiers (value_of f) (value_of t)
+item_of p (node d f) = items.Node (record { distance = value_of d; frames = value_of f })
+item_of p (cpus n) = items.Cpus (value_of n)
+item_of p (retry r) = items.Retry (value_of r)
+item_of p (serial t) = items.Serial (value_of t)
+item_of p (shuffle n t) = items.Shuffle (value_of n) (value_of t)
+item_of p (plan t) = items.Plan (value_of t)
+item_of p (go a kind n) = items.Go (record { actor = actor_of p a; kind = kind; count = value_of n })
+item_of p (map v b right) = items.Map (value_of v) (record { page = value_of b; writable = right })
+item_of p (cpu n) = items.Cpu (value_of n)
+item_of p (load place) = items.Access (Load (page_of_place place) (word_of_place place))
+item_of p (store place x) = items.Access (Store (page_of_place place) (word_of_place place) (value_of x))
+item_of p (add place x) = items.Access (Add (page_of_place place) (word_of_place place) (value_of x))
+item_of p (await place x n) = items.Access (Await (page_of_place place) (word_of_place place) (value_of x) (value_of n))
 
 -- ---- where a line may stand
-
--- what may stand last before a line of the form
-abbrev pub after_of : Form → List Place
-after_of (page w) = places.Version ∷ []
-after_of (tiers f t) = places.Version ∷ places.Page ∷ []
-after_of (node d f) = places.Version ∷ places.Page ∷ places.Tier ∷ []
-after_of (cpus p) = places.Tier ∷ []
-after_of (retry r) = places.Cpus ∷ []
-after_of (serial t) = places.Cpus ∷ places.Retry ∷ []
-after_of (shuffle n t) = places.Cpus ∷ places.Retry ∷ []
-after_of (plan t) = places.Cpus ∷ places.Retry ∷ []
-after_of (go a kind n) = places.Plan ∷ []
-after_of (map v b right) = places.Cpus ∷ places.Retry ∷ places.Order ∷ places.Plan ∷ places.Map ∷ []
-after_of (cpu p) = places.Map ∷ places.Program ∷ []
-after_of (load place) = places.Program ∷ []
-after_of (store place x) = places.Program ∷ []
-after_of (add place x) = places.Program ∷ []
-after_of (await place x n) = places.Program ∷ []
 
 -- two tiers are of version 1; a node and a retry are of version 2, which has at most sixteen nodes
 abbrev pub IsOfVersion : Told → Form → Type 0
@@ -109,7 +142,7 @@ IsOfVersion s form = Unit {0}
 
 -- a line of the form may stand after lines that told s
 abbrev pub MayStand : Told → Form → Type 0
-MayStand s form = IsOneOf (after_of form) s.place × IsOfVersion s form
+MayStand s form = IsOneOf (before_of (item_of s.cpus form)) s.place × IsOfVersion s form
 
 -- ---- questions
 
@@ -117,12 +150,9 @@ MayStand s form = IsOneOf (after_of form) s.place × IsOfVersion s form
 abbrev pub Question : Type 0
 Question = ScriptFault × Bool
 
-abbrev pub is_number : List ℕ → Bool
-is_number field = is_some (number_of field)
-
--- the number that a field spells; it matters only where the field is one
-abbrev pub value_of : List ℕ → ℕ
-value_of field = unwrap_or (number_of field) 0
+-- a power of two, 1 to 512
+abbrev pub is_page_size : ℕ → Bool
+is_page_size w = w == 1 || w == 2 || w == 4 || w == 8 || w == 16 || w == 32 || w == 64 || w == 128 || w == 256 || w == 512
 
 -- is the field a number?
 abbrev pub number : List ℕ → List Question
@@ -138,7 +168,7 @@ below end field = number field ++ (faults.OutOfRange, nat_lt (value_of field) en
 
 -- V.w: is V the number of a virtual page, and w that of a word of a page?
 abbrev pub located : Told → List ℕ → List Question
-located s place = ranged 0 4095 (place_of place).0 ++ below s.words (place_of place).1
+located s place = ranged 0 4095 (page_word_of place).0 ++ below s.words (page_word_of place).1
 
 -- a processor: is its number one, and below P? m and r have no question
 abbrev pub known : Told → Actor → List Question
@@ -150,17 +180,17 @@ known s (processor p) = below s.cpus p
 abbrev pub vpage_of : Told → List ℕ → Option VPage
 vpage_of s v = slice_index_or s.vpages (value_of v) None
 
-abbrev pub is_writable : Option VPage → Bool
-is_writable None = false
-is_writable (Some p) = p.writable
+abbrev pub may_write : Option VPage → Bool
+may_write None = false
+may_write (Some p) = p.writable
 
 -- is the page of V.w mapped?
 abbrev pub mapped : Told → List ℕ → List Question
-mapped s place = (faults.Unmapped, is_some (vpage_of s (place_of place).0)) ∷ []
+mapped s place = (faults.Unmapped, is_some (vpage_of s (page_word_of place).0)) ∷ []
 
 -- is it mapped, and writable?
 abbrev pub writable : Told → List ℕ → List Question
-writable s place = mapped s place ++ (faults.ReadOnly, is_writable (vpage_of s (place_of place).0)) ∷ []
+writable s place = mapped s place ++ (faults.ReadOnly, may_write (vpage_of s (page_word_of place).0)) ∷ []
 
 -- the tiers of the nodes with one more
 abbrev pub tiers_with : Told → List ℕ → List ℕ → ℕ
@@ -169,15 +199,15 @@ tiers_with s d f = tier_count (s.nodes ++ record { distance = value_of d; frames
 -- the questions of a line in their order: all fields from the left, then what was told before
 abbrev pub questions : Told → Form → List Question
 questions s (page w) = number w ++ (faults.OutOfRange, is_page_size (value_of w)) ∷ []
-questions s (tiers f t) = ranged 1 4095 f ++ ranged 1 4095 t ++ (faults.OutOfRange, nat_le (value_of f + value_of t) 4096) ∷ []
+questions s (tiers f t) = ranged 1 4095 f ++ ranged 1 4095 t ++ (faults.OutOfRange, nat_le (value_of f + value_of t) MOST_FRAMES) ∷ []
 questions s (node d f) =
-    ranged 0 65535 d ++ ranged 1 4095 f ++ (faults.OutOfRange, nat_le (s.frames + value_of f) 4096) ∷
+    ranged 0 65535 d ++ ranged 1 4095 f ++ (faults.OutOfRange, nat_le (s.frames + value_of f) MOST_FRAMES) ∷
     (faults.TooManyTiers, nat_le (tiers_with s d f) 4) ∷ []
 questions s (cpus p) = ranged 1 16 p ++ (faults.TooFewTiers, nat_le 2 (length s.tiers)) ∷ []
 questions s (retry r) = ranged 0 1000 r
-questions s (serial t) = ranged 0 8000000 t
-questions s (shuffle n t) = number n ++ ranged 0 8000000 t
-questions s (plan t) = ranged 0 8000000 t
+questions s (serial t) = ranged 0 MOST_TURNS t
+questions s (shuffle n t) = number n ++ ranged 0 MOST_TURNS t
+questions s (plan t) = ranged 0 MOST_TURNS t
 questions s (go a kind n) = known s a ++ ranged 1 1000000 n
 questions s (map v b right) =
     ranged 0 4095 v ++ ranged 0 4095 b ++ (faults.DuplicateMap, is_none (vpage_of s v)) ∷

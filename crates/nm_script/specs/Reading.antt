@@ -1,4 +1,4 @@
--- What a line says after the lines before it, or its first fault.
+-- Mirrors the reader: what a line says after the lines before it, or its first fault, as a function.
 use Rattle.std.specs.Prelude.{◌≡◌, ℕ, ◌<◌, ◌+◌, ◌==◌, nat_lt, nat_le, ◌&&◌, ◌||◌, if◌then◌else◌, Bool, true, false, List, [], ◌∷◌, ◌++◌, length, Option, Some, None, option_map, is_some, slice_index_or, Result, Ok, Err, codes}
 use Rattle.std.specs.Str.{bytes_eq}
 use Rattle.nm_text.specs.Numbers.{number_of}
@@ -7,6 +7,7 @@ use Rattle.nm_base.specs.declared.geometry.VPage.{VPage}
 use Rattle.nm_tiers.specs.declared.nodes.Node.{Node}
 use Rattle.nm_tiers.specs.Tiers.{tier_count}
 use Rattle.nm_action.specs.declared.kind.ActionKind.{ActionKind}
+use Rattle.nm_script.specs.declared.limits.TheConstants.{MOST_FRAMES, MOST_TURNS}
 use Rattle.nm_script.specs.declared.fault.ScriptFault.{ScriptFault}
 use Rattle.nm_script.specs.declared.fault.ScriptFault.TheVariants as faults
 use Rattle.nm_script.specs.declared.fault.ScriptRefusal.{ScriptRefusal}
@@ -19,7 +20,10 @@ use Rattle.nm_script.specs.declared.item.Item.{Item}
 use Rattle.nm_script.specs.declared.item.Item.TheVariants.{Version, Page, Tiers, Node as NodeLine, Cpus, Retry, Serial, Shuffle, Plan, Go, Map, Cpu, Access}
 use Rattle.nm_script.specs.declared.item.Place.{Place}
 use Rattle.nm_script.specs.declared.item.Place.TheVariants as places
-use Rattle.nm_script.specs.Fields.{one_of, two_of, three_of, shuffle_of, map_of, go_of, place_of, lines_of}
+use Rattle.nm_text.specs.Fields.{one_of, two_of, three_of, lines_of}
+use Rattle.nm_script.specs.LineFaults.{page_word_of}
+use Rattle.nm_script.specs.Fields.{shuffle_of, map_of, go_of}
+use Rattle.nm_script.specs.LineFaults.{is_page_size}
 use Rattle.nm_script.specs.Told.{Told, nothing, with_item, is_whole, script_of}
 use Rattle.nm_script.specs.Plain.{Script}
 
@@ -61,10 +65,6 @@ below_in end field = do
 unfoldable pub header_in : List ℕ → Result Item ScriptFault
 header_in line = if bytes_eq line (codes "nomad 1") then Ok (Version 1) else if bytes_eq line (codes "nomad 2") then Ok (Version 2) else Err faults.BadHeader
 
--- a power of two, 1 to 512
-abbrev pub is_page_size : ℕ → Bool
-is_page_size w = w == 1 || w == 2 || w == 4 || w == 8 || w == 16 || w == 32 || w == 64 || w == 128 || w == 256 || w == 512
-
 unfoldable pub page_in : List ℕ → Result Item ScriptFault
 page_in width = do
   w ← ranged_in 1 512 width
@@ -77,7 +77,7 @@ unfoldable pub tiers_in : List ℕ × List ℕ → Result Item ScriptFault
 tiers_in fields = do
   f ← ranged_in 1 4095 fields.0
   s ← ranged_in 1 4095 fields.1
-  if nat_le (f + s) 4096 then Ok (Tiers f s) else Err faults.OutOfRange
+  if nat_le (f + s) MOST_FRAMES then Ok (Tiers f s) else Err faults.OutOfRange
 
 unfoldable pub tiers_line : List ℕ → Option (Result Item ScriptFault)
 tiers_line line = option_map tiers_in (two_of (codes "tiers ") line)
@@ -87,7 +87,7 @@ unfoldable pub node_in : ℕ → List ℕ × List ℕ → Result Item ScriptFaul
 node_in frames fields = do
   d ← ranged_in 0 65535 fields.0
   f ← ranged_in 1 4095 fields.1
-  if nat_le (frames + f) 4096 then Ok (NodeLine (record { distance = d; frames = f })) else Err faults.OutOfRange
+  if nat_le (frames + f) MOST_FRAMES then Ok (NodeLine (record { distance = d; frames = f })) else Err faults.OutOfRange
 
 unfoldable pub node_line : ℕ → List ℕ → Option (Result Item ScriptFault)
 node_line frames line = option_map (node_in frames) (two_of (codes "node ") line)
@@ -114,18 +114,18 @@ retry_line version line = if version == 2 then option_map retry_in (one_of (code
 
 unfoldable pub serial_in : List ℕ → Result Item ScriptFault
 serial_in field = do
-  t ← ranged_in 0 8000000 field
+  t ← ranged_in 0 MOST_TURNS field
   Ok (Serial t)
 
 unfoldable pub shuffle_in : List ℕ × List ℕ → Result Item ScriptFault
 shuffle_in fields = do
   n ← number_in fields.0
-  t ← ranged_in 0 8000000 fields.1
+  t ← ranged_in 0 MOST_TURNS fields.1
   Ok (Shuffle n t)
 
 unfoldable pub plan_in : List ℕ → Result Item ScriptFault
 plan_in field = do
-  t ← ranged_in 0 8000000 field
+  t ← ranged_in 0 MOST_TURNS field
   Ok (Plan t)
 
 unfoldable pub schedule_line : List ℕ → Option (Result Item ScriptFault)
@@ -175,8 +175,8 @@ cpu_line s line = option_map (cpu_in s) (one_of (codes "cpu ") line)
 -- V.w, the word one of a page
 unfoldable pub place_in : ℕ → List ℕ → Result (ℕ × ℕ) ScriptFault
 place_in words field = do
-  v ← ranged_in 0 4095 (place_of field).0
-  w ← below_in words (place_of field).1
+  v ← ranged_in 0 4095 (page_word_of field).0
+  w ← below_in words (page_word_of field).1
   Ok (v, w)
 
 -- an access to a page that is mapped, which a store and an add may write
@@ -251,8 +251,8 @@ ruled s (NodeLine n) = if nat_lt 4 (tier_count (s.nodes ++ n ∷ [])) then Err f
 ruled s i = Ok (with_item s i)
 
 -- what is told after a line, or the first fault of the line
-unfoldable pub step : Told → List ℕ → Result Told ScriptFault
-step s line = do
+unfoldable pub told_with : Told → List ℕ → Result Told ScriptFault
+told_with s line = do
   i ← item_at s line
   ruled s i
 
@@ -265,7 +265,7 @@ at_line n (Err f) = Err (f, n)
 -- what is told after some lines, of which the first has the number n, or the first fault and its line
 abbrev pub told_after : Told → ℕ → List (List ℕ) → Result Told (ScriptFault × ℕ)
 told_after s n [] = Ok s
-told_after s n (l ∷ ls) = at_line n (step s l) >>= λ t. told_after t (n + 1) ls
+told_after s n (l ∷ ls) = at_line n (told_with s l) >>= λ t. told_after t (n + 1) ls
 
 -- a text that ends before a line that must stand has a fault at the line after its last
 abbrev pub ended : ℕ → Told → Result Script (ScriptFault × ℕ)
@@ -288,9 +288,9 @@ Fails errors.Memory read = Unit {0}
 Fails (errors.Fault f) read = read ≡ Err f
 
 -- what is told now is what the reading gives, or the error is its fault
-abbrev pub Tells : {U : Type 0} → Told → Result U ReadError → Result Told ScriptFault → Type 0
-Tells t (Ok u) read = read ≡ Ok t
-Tells t (Err e) read = Fails e read
+abbrev pub GivesTold : {U : Type 0} → Told → Result U ReadError → Result Told ScriptFault → Type 0
+GivesTold t (Ok u) read = read ≡ Ok t
+GivesTold t (Err e) read = Fails e read
 
 -- the only fault of nodes is that they form more than four tiers
 abbrev pub AreMany : List Node → ReadError → Type 0
@@ -308,6 +308,6 @@ Refuses refusals.Memory read = Unit {0}
 Refuses (refusals.At f n) read = read ≡ Err (f, n)
 
 -- a script that was read, or a refusal, is what the reading gives
-abbrev pub Reads : Result Script ScriptRefusal → Result Script (ScriptFault × ℕ) → Type 0
-Reads (Ok s) read = read ≡ Ok s
-Reads (Err e) read = Refuses e read
+abbrev pub GivesReading : Result Script ScriptRefusal → Result Script (ScriptFault × ℕ) → Type 0
+GivesReading (Ok s) read = read ≡ Ok s
+GivesReading (Err e) read = Refuses e read

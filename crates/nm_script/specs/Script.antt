@@ -1,10 +1,11 @@
 -- Scripts: which values are scripts, and the one canonical text of each.
-use Rattle.std.specs.Prelude.{◌≡◌, ℕ, ◌+◌, ◌^◌, ◌<◌, ◌≤◌, ◌==◌, ◌⊎◌, if◌then◌else◌, IsSome, List, [], ◌∷◌, ◌++◌, length, map, slice_index_or, Option, Some, None, IfSome}
+use Rattle.std.specs.Prelude.{◌≡◌, ℕ, ◌+◌, ◌^◌, ◌<◌, ◌≤◌, ◌==◌, ◌⊎◌, if◌then◌else◌, IsSome, IsSomeAnd, IsTrue, List, [], ◌∷◌, ◌++◌, length, map, slice_index_or, Option, Some, None, IfSome}
 use Rattle.std.specs.List.{AllByRecursion}
 use Rattle.nm_base.specs.declared.geometry.VPage.{VPage}
-use Rattle.nm_base.specs.Geometry.{Geometry, IsGeometry, IsWritable, vpage_at}
+use Rattle.nm_base.specs.Geometry.{Geometry, IsGeometry}
 use Rattle.nm_tiers.specs.declared.nodes.Node.{Node}
 use Rattle.nm_tiers.specs.Tiers.{frames_of, tiers_of}
+use Rattle.nm_script.specs.declared.limits.TheConstants.{MOST_FRAMES, MOST_TURNS}
 use Rattle.nm_script.specs.declared.script.Line.{Line}
 use Rattle.nm_script.specs.declared.script.Line.TheVariants.{Load, Store, Add, Await}
 use Rattle.nm_script.specs.declared.schedule.PlanItem.{PlanItem}
@@ -54,13 +55,21 @@ abbrev pub program_items : ℕ → List (List Line) → List Item
 program_items p [] = []
 program_items p (lines ∷ programs) = cpu_items p lines ++ program_items (p + 1) programs
 
+-- the lines before the schedule, with this line of the page or none
+abbrev pub head_with : Script → List Item → List Item
+head_with s page = items.Version s.version ∷ page ++ tier_items s ++ items.Cpus s.geometry.cpus ∷ retry_items s.retry
+
 -- the lines before the schedule
 abbrev pub head_items : Script → List Item
-head_items s = items.Version s.version ∷ items.Page s.geometry.words ∷ tier_items s ++ items.Cpus s.geometry.cpus ∷ retry_items s.retry
+head_items s = head_with s (items.Page s.geometry.words ∷ [])
+
+-- every line of the script in its order, with these lines of the page, of the schedule and of the virtual pages
+abbrev pub items_with : Script → List Item → List Item → List Item → List Item
+items_with s page schedule maps = head_with s page ++ schedule ++ maps ++ program_items 0 s.programs
 
 -- every line of the script in its order
 abbrev pub items_of : Script → List Item
-items_of s = head_items s ++ schedule_items s.schedule ++ map_items 0 s.geometry.vpages ++ program_items 0 s.programs
+items_of s = items_with s (items.Page s.geometry.words ∷ []) (schedule_items s.schedule) (map_items 0 s.geometry.vpages)
 
 -- the canonical text of a script
 abbrev pub script_text : Script → List ℕ
@@ -68,12 +77,16 @@ script_text s = lines_text s.geometry.cpus (items_of s)
 
 -- ---- which values are scripts
 
--- an access to a word of a mapped page, which a store and an add may write
+-- an access to a word of a page of this many words that is mapped, and that a store and an add may write
+abbrev pub IsAccessTo : ℕ → List (Option VPage) → Line → Type 0
+IsAccessTo words vs (Load v w) = IsSome (slice_index_or vs v None) × (w < words)
+IsAccessTo words vs (Store v w x) = IsSomeAnd (slice_index_or vs v None) (λ p. IsTrue p.writable) × (w < words) × (x < 2 ^ 64)
+IsAccessTo words vs (Add v w x) = IsSomeAnd (slice_index_or vs v None) (λ p. IsTrue p.writable) × (w < words) × (x < 2 ^ 64)
+IsAccessTo words vs (Await v w x n) = IsSome (slice_index_or vs v None) × (w < words) × (x < 2 ^ 64) × (1 ≤ n) × (n ≤ 1000000000)
+
+-- the same of the pages of a machine
 abbrev pub IsAccess : Geometry → Line → Type 0
-IsAccess g (Load v w) = IsSome (vpage_at g v) × (w < g.words)
-IsAccess g (Store v w x) = IsWritable g v × (w < g.words) × (x < 2 ^ 64)
-IsAccess g (Add v w x) = IsWritable g v × (w < g.words) × (x < 2 ^ 64)
-IsAccess g (Await v w x n) = IsSome (vpage_at g v) × (w < g.words) × (x < 2 ^ 64) × (1 ≤ n) × (n ≤ 1000000000)
+IsAccess g l = IsAccessTo g.words g.vpages l
 
 -- an item of a plan: a processor, the migrator or the reclaimer, and 1 to 1,000,000 actions
 abbrev pub IsPlanItem : ℕ → PlanItem → Type 0
@@ -81,9 +94,9 @@ IsPlanItem cpus g = (g.actor ≤ cpus + 1) × (1 ≤ g.count) × (g.count ≤ 10
 
 -- at most 8,000,000 turns
 abbrev pub IsSchedule : ℕ → Schedule → Type 0
-IsSchedule cpus (schedules.Serial t) = t ≤ 8000000
-IsSchedule cpus (schedules.Shuffle n t) = (n < 2 ^ 64) × (t ≤ 8000000)
-IsSchedule cpus (schedules.Plan t plan) = (t ≤ 8000000) × AllByRecursion (IsPlanItem cpus) plan
+IsSchedule cpus (schedules.Serial t) = t ≤ MOST_TURNS
+IsSchedule cpus (schedules.Shuffle n t) = (n < 2 ^ 64) × (t ≤ MOST_TURNS)
+IsSchedule cpus (schedules.Plan t plan) = (t ≤ MOST_TURNS) × AllByRecursion (IsPlanItem cpus) plan
 
 -- a node with a distance of at most 65,535 and 1 to 4,095 frames
 abbrev pub IsNode : Node → Type 0
@@ -94,7 +107,7 @@ pub record AreNodes (tiers : List ℕ) (nodes : List Node) : Type 0 where
   pub some : 1 ≤ length nodes
   pub few : length nodes ≤ 16
   pub each : AllByRecursion IsNode nodes
-  pub sum : frames_of nodes ≤ 4096
+  pub sum : frames_of nodes ≤ MOST_FRAMES
   pub formed : tiers ≡ tiers_of nodes
 
 -- in version 1 two tiers, and neither nodes nor a retry; in version 2 the tiers of the nodes

@@ -4,6 +4,7 @@ use Rattle.nm_base.specs.declared.geometry.VPage.{VPage}
 use Rattle.nm_base.specs.Geometry.{made}
 use Rattle.nm_tiers.specs.declared.nodes.Node.{Node}
 use Rattle.nm_tiers.specs.Tiers.{tiers_of}
+use Rattle.nm_script.specs.declared.limits.TheConstants.{MOST_TURNS}
 use Rattle.nm_script.specs.declared.script.Line.{Line}
 use Rattle.nm_script.specs.declared.schedule.PlanItem.{PlanItem}
 use Rattle.nm_script.specs.declared.schedule.Schedule.{Schedule}
@@ -31,9 +32,9 @@ pub record Told : Type 0 where
   pub vpages : List (Option VPage)
   pub programs : List (List Line)
 
--- before the first line: a page has 512 words and the schedule is serial turns 8000000 where no line says otherwise
+-- before the first line: a page has 512 words and the schedule is serial with the most turns where no line says otherwise
 abbrev pub nothing : Told
-nothing = record { place = places.Begin; version = 0; words = 512; tiers = []; frames = 0; nodes = []; cpus = 0; retry = None; order = orders.Serial 8000000; plan = []; vpages = []; programs = [] }
+nothing = record { place = places.Begin; version = 0; words = 512; tiers = []; frames = 0; nodes = []; cpus = 0; retry = None; order = orders.Serial MOST_TURNS; plan = []; vpages = []; programs = [] }
 
 -- at least n places, the new ones empty
 abbrev pub with_places : ℕ → List (Option VPage) → List (Option VPage)

@@ -1,16 +1,15 @@
 //! What the lines so far have told.
 
-ghost use Rattle.std.specs.Prelude.{◌≡◌, ◌≢◌, ◌≤◌, ◌+◌, ◌^◌, ◌<◌, [], length, slice_index_or, Some, None, Ok, IfOk, IfErr, IsTrue, OnOk, map};
+ghost use Rattle.std.specs.Prelude.{◌≡◌, ◌≢◌, ◌≤◌, ◌+◌, ◌^◌, ◌<◌, [], length, slice_index_or, Some, None, Ok, Err, IfOk, IfErr, IsTrue, OnOk, map};
 ghost use Rattle.nm_tiers.specs.Tiers.{frames_of, tiers_of, tier_count};
 ghost use Rattle.nm_base.specs.Geometry.{IsGeometry, made};
 ghost use Rattle.nm_script.specs.Told.{with_page, with_line, schedule_of};
 ghost use Rattle.nm_script.specs.Reading.{place_in, reached, AreMany};
 
 use crate::fault::{ReadError, ScriptFault};
-use crate::fields::{
-    below_in, map_fields, number_in, one_field, place_fields, ranged_in, three_fields, two_fields,
-};
+use crate::fields::{below_in, map_fields, number_in, place_fields, ranged_in};
 use crate::item::{Item, Order, Place};
+use crate::limits::{MOST_FRAMES, MOST_TURNS};
 use crate::reading::{
     Read, cpus_line, go_line, header_in, node_line, page_line, retry_line, schedule_line,
     tiers_line,
@@ -18,6 +17,7 @@ use crate::reading::{
 use crate::schedule::{PlanItem, PlanItems, Schedule};
 use crate::script::{Line, Script};
 use nm_base::{Geometry, VPage};
+use nm_text::{one_field, three_fields, two_fields};
 use nm_tiers::{Node, TierRefusal, tiers_from_nodes};
 use std::alloc::{AllocError, Global};
 use std::marker::Model;
@@ -55,8 +55,8 @@ const MOST_NODES: usize = 16;
 
 impl Draft {
     ghost use Rattle.nm_script.specs.Told.{nothing, with_item, is_whole, script_of};
-    ghost use Rattle.nm_script.specs.Reading.{map_in, map_line, cpu_in, cpu_line, load_in, store_in, add_in, await_in, access_line, tier_line, more_line, form_at, item_at, step, ruled, either_of, schedule_line, Tells};
-    ghost use Rattle.nm_script.specs.Holds.{IsTold, Fits};
+    ghost use Rattle.nm_script.specs.Reading.{map_in, map_line, cpu_in, cpu_line, load_in, store_in, add_in, await_in, access_line, tier_line, more_line, form_at, item_at, told_with, ruled, either_of, schedule_line, GivesTold};
+    ghost use Rattle.nm_script.specs.Holds.{IsToldSoFar, ItemFits};
 
     /// Before the first line.
     pub fn new(alloc: Global) -> Draft
@@ -71,7 +71,7 @@ impl Draft {
             nodes: Vec::new(alloc),
             cpus: 0,
             retry: None,
-            order: Order::Serial(8_000_000),
+            order: Order::Serial(MOST_TURNS),
             plan: Vec::new(alloc),
             vpages: Vec::new(alloc),
             programs: Vec::new(alloc),
@@ -192,7 +192,7 @@ impl Draft {
     /// The tiers of version 1, or the first node of version 2.
     #[tactic(auto, unfolding(crate::specs::Reading::tier_line))]
     fn tier_line(&self, line: &[u8]) -> Read
-        requires { self.now.frames ≤ 4096 }
+        requires { self.now.frames ≤ MOST_FRAMES }
         ensures { result ≡ tier_line self.now line.now }
     {
         if self.version == 1 {
@@ -205,7 +205,7 @@ impl Draft {
     /// A further node.
     #[tactic(auto, unfolding(crate::specs::Reading::more_line))]
     fn more_line(&self, line: &[u8]) -> Read
-        requires { self.now.frames ≤ 4096 }
+        requires { self.now.frames ≤ MOST_FRAMES }
         ensures { result ≡ more_line self.now line.now }
     {
         if self.version == 2 && self.nodes.len() < MOST_NODES {
@@ -218,39 +218,23 @@ impl Draft {
     /// A line of a form that may stand after what stood last.
     #[tactic(auto, unfolding(crate::specs::Reading::form_at))]
     fn form_at(&self, line: &[u8]) -> Read
-        requires frames { self.now.frames ≤ 4096 }
+        requires frames { self.now.frames ≤ MOST_FRAMES }
         requires cpus { self.now.cpus ≤ 16 }
         ensures { result ≡ form_at self.now self.now.place line.now }
     {
         match self.place {
             Place::Begin => Some(header_in(line)),
-            Place::Version => match page_line(line) {
-                None => self.tier_line(line),
-                read => read,
-            },
+            Place::Version => page_line(line).or_else(|| self.tier_line(line)),
             Place::Page => self.tier_line(line),
-            Place::Tier => match self.more_line(line) {
-                None => cpus_line(self.tiers.len(), line),
-                read => read,
-            },
-            Place::Cpus => match retry_line(self.version, line) {
-                None => self.schedule_or_map(line),
-                read => read,
-            },
+            Place::Tier => self
+                .more_line(line)
+                .or_else(|| cpus_line(self.tiers.len(), line)),
+            Place::Cpus => retry_line(self.version, line).or_else(|| self.schedule_or_map(line)),
             Place::Retry => self.schedule_or_map(line),
             Place::Order => self.map_line(line),
-            Place::Plan => match go_line(self.cpus, line) {
-                None => self.map_line(line),
-                read => read,
-            },
-            Place::Map => match self.map_line(line) {
-                None => self.cpu_line(line),
-                read => read,
-            },
-            Place::Program => match self.cpu_line(line) {
-                None => self.access_line(line),
-                read => read,
-            },
+            Place::Plan => go_line(self.cpus, line).or_else(|| self.map_line(line)),
+            Place::Map => self.map_line(line).or_else(|| self.cpu_line(line)),
+            Place::Program => self.cpu_line(line).or_else(|| self.access_line(line)),
         }
     }
 
@@ -259,39 +243,17 @@ impl Draft {
         requires { self.now.cpus ≤ 16 }
         ensures { result ≡ either_of (schedule_line line.now) (map_line self.now line.now) }
     {
-        match schedule_line(line) {
-            None => self.map_line(line),
-            read => read,
-        }
+        schedule_line(line).or_else(|| self.map_line(line))
     }
 
     /// What a line says, or its first fault.
     #[tactic(auto, unfolding(crate::specs::Reading::item_at))]
     fn item_at(&self, line: &[u8]) -> Result<Item, ScriptFault>
-        requires frames { self.now.frames ≤ 4096 }
+        requires frames { self.now.frames ≤ MOST_FRAMES }
         requires cpus { self.now.cpus ≤ 16 }
         ensures { result ≡ item_at self.now line.now }
     {
-        match self.form_at(line) {
-            None => Err(ScriptFault::BadLine),
-            Some(read) => read,
-        }
-    }
-
-    /// Begins with the version.
-    fn set_version(&mut self, version: u32)
-        ensures { self.new ≡ with_item self.old (Item.Version version) }
-    {
-        self.place = Place::Version;
-        self.version = version;
-    }
-
-    /// Sets the words of a page.
-    fn set_words(&mut self, words: u32)
-        ensures { self.new ≡ with_item self.old (Item.Page words) }
-    {
-        self.place = Place::Page;
-        self.words = words;
+        self.form_at(line).unwrap_or(Err(ScriptFault::BadLine))
     }
 
     /// Sets the frames of both tiers.
@@ -309,31 +271,15 @@ impl Draft {
 
     /// Adds a node, where it brings no fifth tier.
     fn add_node(&mut self, alloc: Global, node: Node) -> Result<(), ReadError>
-        requires frames { self.old.frames + node.frames ≤ 4096 }
+        requires frames { self.old.frames + node.frames ≤ MOST_FRAMES }
         requires nodes { self.old.frames ≡ frames_of self.old.nodes }
-        ensures { Tells self.new result (ruled self.old (Item.Node node)) }
+        ensures { GivesTold self.new result (ruled self.old (Item.Node node)) }
     {
         self.place = Place::Tier;
         self.frames += node.frames;
         self.nodes.push(node)?;
         self.tiers = form_tiers(alloc, &self.nodes)?;
         Ok(())
-    }
-
-    /// Sets the number of processors.
-    fn set_cpus(&mut self, cpus: u32)
-        ensures { self.new ≡ with_item self.old (Item.Cpus cpus) }
-    {
-        self.place = Place::Cpus;
-        self.cpus = cpus;
-    }
-
-    /// Sets the aborts after which a page goes to the locked move.
-    fn set_retry(&mut self, retry: u32)
-        ensures { self.new ≡ with_item self.old (Item.Retry retry) }
-    {
-        self.place = Place::Retry;
-        self.retry = Some(retry);
     }
 
     /// Sets how turns are picked.
@@ -363,16 +309,28 @@ impl Draft {
 
     /// Adds what a line says.
     fn add(&mut self, alloc: Global, item: Item) -> Result<(), ReadError>
-        requires { Fits self.old item }
-        ensures { Tells self.new result (ruled self.old item) }
+        requires { ItemFits self.old item }
+        ensures { GivesTold self.new result (ruled self.old item) }
     {
         match item {
-            Item::Version(version) => self.set_version(version),
-            Item::Page(words) => self.set_words(words),
+            Item::Version(version) => {
+                self.place = Place::Version;
+                self.version = version;
+            }
+            Item::Page(words) => {
+                self.place = Place::Page;
+                self.words = words;
+            }
             Item::Tiers(fast, slow) => self.set_tiers(fast, slow)?,
             Item::Node(node) => self.add_node(alloc, node)?,
-            Item::Cpus(cpus) => self.set_cpus(cpus),
-            Item::Retry(retry) => self.set_retry(retry),
+            Item::Cpus(cpus) => {
+                self.place = Place::Cpus;
+                self.cpus = cpus;
+            }
+            Item::Retry(retry) => {
+                self.place = Place::Retry;
+                self.retry = Some(retry);
+            }
             Item::Serial(turns) => self.set_order(Place::Order, Order::Serial(turns)),
             Item::Shuffle(n, turns) => self.set_order(Place::Order, Order::Shuffle(n, turns)),
             Item::Plan(turns) => self.set_order(Place::Plan, Order::Plan(turns)),
@@ -385,10 +343,10 @@ impl Draft {
     }
 
     /// Takes a line.
-    #[tactic(auto, unfolding(crate::specs::Reading::step))]
+    #[tactic(auto, unfolding(crate::specs::Reading::told_with))]
     pub fn take(&mut self, alloc: Global, line: &[u8]) -> Result<(), ReadError>
-        requires { IsTold self.old }
-        ensures { Tells self.new result (step self.old line.now) }
+        requires { IsToldSoFar self.old }
+        ensures { GivesTold self.new result (told_with self.old line.now) }
     {
         let item = self.item_at(line)?;
         self.add(alloc, item)
@@ -398,15 +356,12 @@ impl Draft {
     pub fn is_whole(&self) -> bool
         ensures { result ≡ is_whole self.now }
     {
-        match self.place {
-            Place::Program => self.programs.len() == self.cpus as usize,
-            _ => false,
-        }
+        self.place == Place::Program && self.programs.len() == self.cpus as usize
     }
 
     /// The script that was told.
     pub fn finish(self, alloc: Global) -> Result<Script, AllocError>
-        requires told { IsTold self }
+        requires told { IsToldSoFar self }
         requires whole { IsTrue (is_whole self) }
         ensures { IfOk result (λ s. s ≡ script_of self) }
     {
@@ -433,10 +388,7 @@ fn make_geometry(
     requires { IsGeometry (made words tiers.now cpus vpages.now) }
     ensures { IfOk result (λ g. g ≡ made words tiers.now cpus vpages.now) }
 {
-    match Geometry::new(alloc, words, tiers, cpus, vpages) {
-        Ok(geometry) => Ok(geometry),
-        Err(_) => Err(AllocError),
-    }
+    Geometry::new(alloc, words, tiers, cpus, vpages).map_err(|_| AllocError)
 }
 
 /// The schedule of this order and these items of a plan.
@@ -457,8 +409,7 @@ fn make_schedule(order: Order, plan: Vec<PlanItem>) -> Schedule
 fn vpage_at(vpages: &[Option<VPage>], v: u32) -> Option<VPage>
     ensures { result ≡ slice_index_or vpages.now v None }
 {
-    let v = v as usize;
-    if v < vpages.len() { vpages[v] } else { None }
+    vpages.get(v as usize).copied().flatten()
 }
 
 /// A virtual page and a word of it.
@@ -491,9 +442,11 @@ fn reached(vpage: Option<VPage>, writes: bool, line: Line) -> Result<Item, Scrip
 /// The tiers that nodes form, or the fault that there are more than four.
 fn form_tiers(alloc: Global, nodes: &[Node]) -> Result<Vec<u32>, ReadError>
     requires some { nodes.now ≢ [] }
-    requires frames { frames_of nodes.now ≤ 4096 }
+    requires frames { frames_of nodes.now ≤ MOST_FRAMES }
     ensures ok { IfOk result (λ v. (v.items ≡ tiers_of nodes.now) × (tier_count nodes.now ≤ 4)) }
     ensures fault { IfErr result (AreMany nodes.now) }
+    // Want of memory is no excuse where they form more.
+    ensures many { 4 < tier_count nodes.now → result ≡ Err (ReadError.Fault ScriptFault.TooManyTiers) }
 {
     match tiers_from_nodes(alloc, nodes) {
         Ok(tiers) => Ok(tiers),

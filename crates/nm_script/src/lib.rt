@@ -5,6 +5,7 @@ mod draft;
 mod fault;
 mod fields;
 mod item;
+pub mod limits;
 mod parsing;
 mod printing;
 mod reading;
@@ -12,10 +13,8 @@ pub mod schedule;
 pub mod script;
 
 pub use fault::{ScriptFault, ScriptRefusal};
-pub use parsing::parse;
+pub use limits::{MOST_FRAMES, MOST_TURNS};
+pub use parsing::{one_reading, parse};
 pub use printing::print;
 pub use schedule::{PlanItem, PlanItems, Schedule};
 pub use script::{Line, Script};
-
-#[cfg(test)]
-mod tests;

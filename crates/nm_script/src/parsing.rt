@@ -1,18 +1,19 @@
 //! Reading a text.
 
-ghost use Rattle.std.specs.Prelude.{◌≡◌, ◌≤◌, ◌<◌, ◌-◌, ◌^◌, length, Ok, Err, IfOk, IfErr};
-ghost use Rattle.nm_script.specs.Fields.{lines_of};
+ghost use Rattle.std.specs.Prelude.{◌≡◌, ℕ, List, ◌≤◌, ◌<◌, ◌-◌, ◌^◌, length, Ok, Err, IfOk, IfErr};
+ghost use Rattle.nm_text.specs.Fields.{lines_of};
 ghost use Rattle.nm_script.specs.Script.{IsScript};
 ghost use Rattle.nm_script.specs.Grammar.{IsScriptText};
-ghost use Rattle.nm_script.specs.Faults.{IsFirstFault, IsRefusal, IsOfText};
+ghost use Rattle.nm_script.specs.Faults.{IsFirstFault, IsTextRefusal, IsOfText, HasOneReading, HasOneText};
+ghost use Rattle.nm_script.specs.Plain as script;
 ghost use Rattle.nm_script.specs.Told.{nothing};
-ghost use Rattle.nm_script.specs.Holds.{IsTold};
-ghost use Rattle.nm_script.specs.Reading.{told_after, reading, refusal_of, Refuses, Reads};
+ghost use Rattle.nm_script.specs.Holds.{IsToldSoFar};
+ghost use Rattle.nm_script.specs.Reading.{told_after, reading, refusal_of, Refuses, GivesReading};
 
 use crate::draft::Draft;
 use crate::fault::{ReadError, ScriptFault, ScriptRefusal};
-use crate::fields::first_line;
 use crate::script::Script;
+use nm_text::first_line;
 use std::alloc::Global;
 
 /// The script that a text says.
@@ -24,23 +25,30 @@ pub fn parse(alloc: Global, bytes: &[u8]) -> Result<Script, ScriptRefusal>
     // The script is the one that the text says by the grammar.
     ensures found { IfOk result (IsScriptText bytes.now) }
     // The text of a script is read as that script, unless memory runs out.
-    ensures only { (s : _) → IsScriptText bytes.now s → Reads result (Ok s) }
+    ensures only { (s : _) → IsScriptText bytes.now s → GivesReading result (Ok s) }
     // A refusal is the first fault, and a first fault is refused so, unless memory runs out.
-    ensures fault { IfErr result (IsRefusal bytes.now) }
-    ensures first { (f : _) (n : _) → IsFirstFault bytes.now f n → Reads result (Err (f, n)) }
+    ensures fault { IfErr result (IsTextRefusal bytes.now) }
+    ensures first { (f : _) (n : _) → IsFirstFault bytes.now f n → GivesReading result (Err (f, n)) }
     // No text is too long for the grammar.
     ensures of_text { IfErr result IsOfText }
     // The same, by a function of the bytes.
-    ensures exact { Reads result (reading bytes.now) }
+    ensures exact { GivesReading result (reading bytes.now) }
     ensures script { IfOk result IsScript }
 {
     read_script(alloc, bytes)
 }
 
+/// Every text is that of one script, or has one first fault at one line, and never both. A script has one canonical
+/// text, which is that of no other script.
+pub fn one_reading()
+    ensures reading { (bytes : List ℕ) → HasOneReading bytes }
+    ensures text { (s : script.Script) → IsScript s → HasOneText s }
+{}
+
 /// The script that a text says.
 fn read_script(alloc: Global, bytes: &[u8]) -> Result<Script, ScriptRefusal>
     requires { length bytes.now < 2 ^ 32 - 1 }
-    ensures exact { Reads result (reading bytes.now) }
+    ensures exact { GivesReading result (reading bytes.now) }
     ensures script { IfOk result IsScript }
 {
     if bytes.is_empty() {
@@ -66,7 +74,7 @@ fn read_script(alloc: Global, bytes: &[u8]) -> Result<Script, ScriptRefusal>
 fn read_lines(alloc: Global, bytes: &[u8]) -> Result<(Draft, u32), ScriptRefusal>
     requires { length bytes.now < 2 ^ 32 - 1 }
     ensures read { IfOk result (λ p. told_after nothing 1 (lines_of bytes.now) ≡ Ok p.0) }
-    ensures told { IfOk result (λ p. IsTold p.0) }
+    ensures told { IfOk result (λ p. IsToldSoFar p.0) }
     ensures count { IfOk result (λ p. (p.1 ≡ length (lines_of bytes.now)) × (p.1 ≤ length bytes.now)) }
     ensures fault { IfErr result (λ e. Refuses e (told_after nothing 1 (lines_of bytes.now))) }
 {

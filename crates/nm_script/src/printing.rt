@@ -2,7 +2,7 @@
 
 ghost use Rattle.std.specs.Prelude.{◌≡◌, ◌≤◌, ◌++◌, ◌∷◌, length, map, Ok, OnOk, IfOk};
 ghost use Rattle.std.specs.Fmt.{decimal};
-ghost use Rattle.nm_script.specs.Items.{line, item_text, access_text, actor_text, kind_text, right_text, place_text, lines_text};
+ghost use Rattle.nm_script.specs.Items.{line, item_text, access_text, actor_text, right_text, place_text, lines_text};
 ghost use Rattle.nm_script.specs.Script.{IsScript, script_text, head_items, tier_items, retry_items, schedule_items, map_item, map_items, cpu_items, program_items};
 ghost use Rattle.nm_script.specs.Grammar.{IsScriptText};
 ghost use Rattle.nm_script.specs.Reading.{reading};
@@ -10,9 +10,8 @@ ghost use Rattle.nm_script.specs.Reading.{reading};
 use crate::item::Item;
 use crate::schedule::{PlanItem, Schedule};
 use crate::script::{Line, Script};
-use nm_action::ActionKind;
 use nm_base::VPage;
-use nm_text::push_number;
+use nm_text::{kind_word, push_field, push_fields};
 use nm_tiers::Node;
 use std::alloc::{AllocError, Global};
 
@@ -172,32 +171,31 @@ fn push_text(out: &mut Vec<u8>, cpus: u32, item: Item) -> Result<(), AllocError>
     ensures { OnOk result (out.new.items ≡ out.old.items ++ item_text cpus item) }
 {
     match item {
-        Item::Version(version) => push_one(out, b"nomad ", version),
-        Item::Page(words) => push_one(out, b"page ", words),
-        Item::Tiers(fast, slow) => push_two(out, b"tiers ", fast, slow),
-        Item::Node(node) => push_two(out, b"node ", node.distance, node.frames),
-        Item::Cpus(cpus) => push_one(out, b"cpus ", cpus),
-        Item::Retry(retry) => push_one(out, b"retry ", retry),
-        Item::Serial(turns) => push_one(out, b"serial turns ", turns),
+        Item::Version(version) => push_field(out, b"nomad ", u64::from(version)),
+        Item::Page(words) => push_field(out, b"page ", u64::from(words)),
+        Item::Tiers(fast, slow) => push_fields(out, b"tiers ", u64::from(fast), u64::from(slow)),
+        Item::Node(node) => push_fields(out, b"node ", u64::from(node.distance), u64::from(node.frames)),
+        Item::Cpus(cpus) => push_field(out, b"cpus ", u64::from(cpus)),
+        Item::Retry(retry) => push_field(out, b"retry ", u64::from(retry)),
+        Item::Serial(turns) => push_field(out, b"serial turns ", u64::from(turns)),
         Item::Shuffle(number, turns) => {
-            out.extend_from_slice(b"shuffle ")?;
-            push_number(out, number)?;
-            push_one(out, b" turns ", turns)
+            push_field(out, b"shuffle ", number)?;
+            push_field(out, b" turns ", u64::from(turns))
         }
-        Item::Plan(turns) => push_one(out, b"plan turns ", turns),
+        Item::Plan(turns) => push_field(out, b"plan turns ", u64::from(turns)),
         Item::Go(go) => {
             out.extend_from_slice(b"go ")?;
             push_actor(out, cpus, go.actor)?;
             out.push(b' ')?;
             out.extend_from_slice(kind_word(go.kind))?;
-            push_one(out, b" ", go.count)
+            push_field(out, b" ", u64::from(go.count))
         }
         Item::Map(v, vpage) => {
-            push_two(out, b"map ", v, vpage.page)?;
+            push_fields(out, b"map ", u64::from(v), u64::from(vpage.page))?;
             out.push(b' ')?;
             out.extend_from_slice(right_word(vpage.writable))
         }
-        Item::Cpu(cpu) => push_one(out, b"cpu ", cpu),
+        Item::Cpu(cpu) => push_field(out, b"cpu ", u64::from(cpu)),
         Item::Access(line) => push_access(out, line),
     }
 }
@@ -210,19 +208,16 @@ fn push_access(out: &mut Vec<u8>, line: Line) -> Result<(), AllocError>
         Line::Load { v, w } => push_place(out, b"load ", v, w),
         Line::Store { v, w, x } => {
             push_place(out, b"store ", v, w)?;
-            out.push(b' ')?;
-            push_number(out, x)
+            push_field(out, b" ", x)
         }
         Line::Add { v, w, x } => {
             push_place(out, b"add ", v, w)?;
-            out.push(b' ')?;
-            push_number(out, x)
+            push_field(out, b" ", x)
         }
         Line::Await { v, w, x, max } => {
             push_place(out, b"await ", v, w)?;
-            out.push(b' ')?;
-            push_number(out, x)?;
-            push_one(out, b" ", max)
+            push_field(out, b" ", x)?;
+            push_field(out, b" ", u64::from(max))
         }
     }
 }
@@ -231,24 +226,8 @@ fn push_access(out: &mut Vec<u8>, line: Line) -> Result<(), AllocError>
 fn push_place(out: &mut Vec<u8>, word: &[u8], v: u32, w: u32) -> Result<(), AllocError>
     ensures { OnOk result (out.new.items ≡ out.old.items ++ (word.now ++ place_text v w)) }
 {
-    push_one(out, word, v)?;
-    push_one(out, b".", w)
-}
-
-/// Writes a word and a number.
-fn push_one(out: &mut Vec<u8>, word: &[u8], number: u32) -> Result<(), AllocError>
-    ensures { OnOk result (out.new.items ≡ out.old.items ++ (word.now ++ decimal number)) }
-{
-    out.extend_from_slice(word)?;
-    push_number(out, u64::from(number))
-}
-
-/// Writes a word and two numbers.
-fn push_two(out: &mut Vec<u8>, word: &[u8], a: u32, b: u32) -> Result<(), AllocError>
-    ensures { OnOk result (out.new.items ≡ out.old.items ++ (word.now ++ (decimal a ++ 32 ∷ decimal b))) }
-{
-    push_one(out, word, a)?;
-    push_one(out, b" ", b)
+    push_field(out, word, u64::from(v))?;
+    push_field(out, b".", u64::from(w))
 }
 
 /// Writes an actor, among this many processors.
@@ -256,7 +235,7 @@ fn push_actor(out: &mut Vec<u8>, cpus: u32, actor: u32) -> Result<(), AllocError
     ensures { OnOk result (out.new.items ≡ out.old.items ++ actor_text cpus actor) }
 {
     if actor < cpus {
-        push_one(out, b"c", actor)
+        push_field(out, b"c", u64::from(actor))
     } else if actor == cpus {
         out.extend_from_slice(b"m")
     } else {
@@ -269,42 +248,4 @@ fn right_word(writable: bool) -> &'static [u8]
     ensures { result.now ≡ right_text writable }
 {
     if writable { b"rw" } else { b"ro" }
-}
-
-/// The kind of an action in lower case.
-pub fn kind_word(kind: ActionKind) -> &'static [u8]
-    ensures { result.now ≡ kind_text kind }
-{
-    match kind {
-        ActionKind::Load => b"load",
-        ActionKind::Store => b"store",
-        ActionKind::Add => b"add",
-        ActionKind::Look => b"look",
-        ActionKind::Walk => b"walk",
-        ActionKind::Peek => b"peek",
-        ActionKind::Poll => b"poll",
-        ActionKind::Ack => b"ack",
-        ActionKind::Lock => b"lock",
-        ActionKind::Unlock => b"unlock",
-        ActionKind::Bump => b"bump",
-        ActionKind::SeeAck => b"seeack",
-        ActionKind::Raise => b"raise",
-        ActionKind::Soften => b"soften",
-        ActionKind::Arm => b"arm",
-        ActionKind::ClearDirty => b"cleardirty",
-        ActionKind::Unmap => b"unmap",
-        ActionKind::Map => b"map",
-        ActionKind::Grant => b"grant",
-        ActionKind::CopyLoad => b"copyload",
-        ActionKind::CopyStore => b"copystore",
-        ActionKind::SetHome => b"sethome",
-        ActionKind::SetShadow => b"setshadow",
-        ActionKind::TakeTurn => b"taketurn",
-        ActionKind::Scan => b"scan",
-        ActionKind::GiveFrame => b"giveframe",
-        ActionKind::PutFrame => b"putframe",
-        ActionKind::ReleaseTurn => b"releaseturn",
-        ActionKind::Mark => b"mark",
-        ActionKind::Read => b"read",
-    }
 }

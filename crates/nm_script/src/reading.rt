@@ -2,23 +2,18 @@
 
 ghost use Rattle.std.specs.Prelude.{◌≡◌, ◌≤◌, Some, None, IfOk, is_some, codes};
 ghost use Rattle.nm_text.specs.Cuts.{strip_of};
-ghost use Rattle.nm_script.specs.Reading.{header_in, is_page_size, page_in, page_line, tiers_in, tiers_line, node_in, node_line, cpus_in, cpus_line, retry_in, retry_line, serial_in, shuffle_in, plan_in, schedule_line, cpu_after, actor_in, go_in, go_line};
+ghost use Rattle.nm_script.specs.LineFaults.{is_page_size};
+ghost use Rattle.nm_script.specs.Reading.{header_in, page_in, page_line, tiers_in, tiers_line, node_in, node_line, cpus_in, cpus_line, ranged_in, retry_line, serial_in, shuffle_in, plan_in, schedule_line, cpu_after, actor_in, go_in, go_line};
 ghost use Rattle.std.specs.Option.{option_map};
 
 use crate::fault::ScriptFault;
-use crate::fields::{
-    below_in, go_fields, is_text, number_in, one_field, ranged_in, shuffle_fields, two_fields,
-};
+use crate::fields::{below_in, go_fields, number_in, ranged_in, shuffle_fields};
 use crate::item::Item;
+use crate::limits::{MOST_FRAMES, MOST_TURNS};
 use crate::schedule::PlanItem;
 use nm_action::ActionKind;
-use nm_text::strip;
+use nm_text::{is_text, one_field, strip, two_fields};
 use nm_tiers::Node;
-
-/// The most frames of all tiers.
-const MOST_FRAMES: u32 = 4096;
-/// The most turns.
-const MOST_TURNS: u32 = 8_000_000;
 
 /// What a line says, or its first fault. None where the line is of another form.
 pub type Read = Option<Result<Item, ScriptFault>>;
@@ -41,16 +36,7 @@ pub fn header_in(line: &[u8]) -> Result<Item, ScriptFault>
 fn is_page_size(words: u32) -> bool
     ensures { result ≡ is_page_size words }
 {
-    words == 1
-        || words == 2
-        || words == 4
-        || words == 8
-        || words == 16
-        || words == 32
-        || words == 64
-        || words == 128
-        || words == 256
-        || words == 512
+    matches!(words, 1 | 2 | 4 | 8 | 16 | 32 | 64 | 128 | 256 | 512)
 }
 
 /// The words of a page.
@@ -101,7 +87,7 @@ pub fn tiers_line(line: &[u8]) -> Read
 /// A node after nodes with this many frames.
 #[tactic(auto, unfolding(crate::specs::Reading::node_in))]
 fn node_in(before: u32, distance: &[u8], frames: &[u8]) -> Result<Item, ScriptFault>
-    requires { before ≤ 4096 }
+    requires { before ≤ MOST_FRAMES }
     ensures { result ≡ node_in before (distance.now, frames.now) }
 {
     let distance = ranged_in(0, 65535, distance)?;
@@ -116,7 +102,7 @@ fn node_in(before: u32, distance: &[u8], frames: &[u8]) -> Result<Item, ScriptFa
 /// The line of a node after nodes with this many frames.
 #[tactic(auto, unfolding(crate::specs::Reading::node_line))]
 pub fn node_line(before: u32, line: &[u8]) -> Read
-    requires { before ≤ 4096 }
+    requires { before ≤ MOST_FRAMES }
     ensures { result ≡ node_line before line.now }
 {
     let (distance, frames) = two_fields(line, b"node ")?;
@@ -145,17 +131,8 @@ pub fn cpus_line(tiers: usize, line: &[u8]) -> Read
     Some(cpus_in(tiers, field))
 }
 
-/// The aborts after which a page goes to the locked move.
-#[tactic(auto, unfolding(crate::specs::Reading::retry_in))]
-fn retry_in(field: &[u8]) -> Result<Item, ScriptFault>
-    ensures { result ≡ retry_in field.now }
-{
-    let retry = ranged_in(0, 1000, field)?;
-    Ok(Item::Retry(retry))
-}
-
 /// The line of the retry, which version 2 may have.
-#[tactic(auto, unfolding(crate::specs::Reading::retry_line))]
+#[tactic(auto, unfolding(crate::specs::Reading::retry_line, crate::specs::Reading::retry_in))]
 pub fn retry_line(version: u32, line: &[u8]) -> Read
     ensures { result ≡ retry_line version line.now }
 {
@@ -163,7 +140,7 @@ pub fn retry_line(version: u32, line: &[u8]) -> Read
         return None;
     }
     let field = one_field(line, b"retry ")?;
-    Some(retry_in(field))
+    Some(ranged_in(0, 1000, field).map(Item::Retry))
 }
 
 /// The turns of a serial schedule.
@@ -171,8 +148,7 @@ pub fn retry_line(version: u32, line: &[u8]) -> Read
 fn serial_in(field: &[u8]) -> Result<Item, ScriptFault>
     ensures { result ≡ serial_in field.now }
 {
-    let turns = ranged_in(0, MOST_TURNS, field)?;
-    Ok(Item::Serial(turns))
+    ranged_in(0, MOST_TURNS, field).map(Item::Serial)
 }
 
 /// The number and the turns of a shuffle.
@@ -190,8 +166,7 @@ fn shuffle_in(number: &[u8], turns: &[u8]) -> Result<Item, ScriptFault>
 fn plan_in(field: &[u8]) -> Result<Item, ScriptFault>
     ensures { result ≡ plan_in field.now }
 {
-    let turns = ranged_in(0, MOST_TURNS, field)?;
-    Ok(Item::Plan(turns))
+    ranged_in(0, MOST_TURNS, field).map(Item::Plan)
 }
 
 /// The line of the schedule.

@@ -2,7 +2,5 @@
 #![tactic(auto)]
 
 mod set_cache;
-#[cfg(test)]
-mod tests;
 
 pub use set_cache::SetCache;

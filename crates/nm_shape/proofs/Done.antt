@@ -12,11 +12,12 @@ use Rattle.nm_view.specs.Views.{Op, View}
 use Rattle.nm_view.specs.Operations.{page_of, cached_page, owned_frame, op_on, known_home}
 use Rattle.nm_view.specs.Opening.{opened, unscanned}
 use Rattle.nm_base.specs.HomeWord.{IsHomeWord}
-use Rattle.nm_base.specs.Ranges.{IsPage, IsVPage, IsFrame}
+use Rattle.nm_base.specs.Ranges.{IsPage, IsFrame}
 use Rattle.nm_permit.specs.Permitted.{Allowed, MayLock, MayCopyStore, MaySetShadow}
 use Rattle.nm_step.specs.Table.{acked_word}
 use Rattle.nm_event.specs.After.{after_of, walked, is_confirmed, kept_entries, mapped_at, copied_one, homed_at, shaded, edit_under, edit_of, let_go, shading, spoiled_under, stored_fill}
-use Rattle.nm_shape.specs.Keyed.{IsOpKeyed, IsScanInRange, IsKeyed}
+use Rattle.nm_event.specs.Ranged.{IsInRangeDone}
+use Rattle.nm_shape.specs.Keyed.{IsEntryInRange, IsOpKeyed, IsScanInRange, IsKeyed}
 use Rattle.nm_view.proofs.Items.{all_find, all_join, none_left, all_put, all_filter, all_erase}
 use Rattle.nm_view.proofs.Finds.{once_put, once_filter, once_erase, once_join, length_erase}
 use Rattle.nm_shape.proofs.Ops.{keyed_opened, keyed_mapped, keyed_copied, keyed_homed, keyed_shaded}
@@ -36,9 +37,9 @@ pub few_frames : (g : Geometry) → IsGeometry g → frame_count g ≤ 4096
 few_frames g is = is.ranges.1.3
 
 keyed_ack : (g : Geometry) (view : View) (to : AckTo) → IsKeyed g view → IsKeyed g (record view { acked = acked_word view to; cache = kept_entries view to })
-keyed_ack g view Seen k = with_cache g (record view { acked = view.req_seen }) (kept_entries view Seen) (once_filter cached_page (is_confirmed view.peeked) view.cache k.cache_once) (all_filter (λ e. IsVPage g e.vpage) (is_confirmed view.peeked) view.cache k.cache) (with_counts g view view.req_seen view.bumps view.req_seen view.raises k.bumps k.raises k)
-keyed_ack g view Off k = with_cache g (record view { acked = acked_word view Off }) [] tt (none_left (λ e. IsVPage g e.vpage)) (with_counts g view view.req_seen view.bumps (acked_word view Off) view.raises k.bumps k.raises k)
-keyed_ack g view End k = with_cache g (record view { acked = acked_word view End }) [] tt (none_left (λ e. IsVPage g e.vpage)) (with_counts g view view.req_seen view.bumps (acked_word view End) view.raises k.bumps k.raises k)
+keyed_ack g view Seen k = with_cache g (record view { acked = view.req_seen }) (kept_entries view Seen) (once_filter cached_page (is_confirmed view.peeked) view.cache k.cache_once) (all_filter (IsEntryInRange g) (is_confirmed view.peeked) view.cache k.cache) (with_counts g view view.req_seen view.bumps view.req_seen view.raises k.bumps k.raises k)
+keyed_ack g view Off k = with_cache g (record view { acked = acked_word view Off }) [] tt (none_left (IsEntryInRange g)) (with_counts g view view.req_seen view.bumps (acked_word view Off) view.raises k.bumps k.raises k)
+keyed_ack g view End k = with_cache g (record view { acked = acked_word view End }) [] tt (none_left (IsEntryInRange g)) (with_counts g view view.req_seen view.bumps (acked_word view End) view.raises k.bumps k.raises k)
 
 keyed_lock : (g : Geometry) (view : View) (b : ℕ) → IsPage g b → MayLock view b → IsKeyed g view → IsKeyed g (record view { ops = view.ops ++ opened b view.room.aliases ∷ [] })
 keyed_lock g view b p may k =
@@ -91,15 +92,15 @@ keyed_set_shadow g view b m s is p r may k =
     with_owned g (record view { ops = edit page_of b (shaded b s) view.ops }) (shading g b (op_on view b) s view.owned) h.once h.all
     (edit_op g view b (shaded b s) (λ o. refl) (λ o e ko. keyed_shaded g b s o p r ko) k)
 
-pub keyed_done : (g : Geometry) (view : View) (action : Action) → IsGeometry g → IsKeyed g view → Allowed g view action → IsKeyed g (after_of g view action Done)
-keyed_done g view (Walk v e write) is k a = with_cache g view (put cached_page (walked view v e write) view.cache) (once_put cached_page (walked view v e write) view.cache k.cache_once) (all_put cached_page (λ x. IsVPage g x.vpage) (walked view v e write) view.cache a.range k.cache) k
-keyed_done g view (Ack to) is k a = keyed_ack g view to k
-keyed_done g view (Lock b) is k a = keyed_lock g view b a.range a.permitted k
-keyed_done g view (Unlock b) is k a = let f : AreOwned g _ = owned_spoiled g b view.owned (frames_of g view k) in with_owned g (record view { ops = erase page_of b view.ops }) _ f.once f.all (keyed_unlock g view b k)
-keyed_done g view (Map v word) is k a = keyed_map g view v word k
-keyed_done g view (CopyStore b f i x) is k a = let h : AreOwned g _ = owned_filled g f (stored_fill b (i + 1)) view.owned (stored_in_range g b i a.range.page a.range.index) (frames_of g view k) in with_owned g (record view { ops = edit_under b copied_one view.ops }) _ h.once h.all (copied_under g view b f i x a.range.index a.permitted k)
-keyed_done g view (SetHome b f) is k a = keyed_set_home g view b f a.range.page a.range.frame k
-keyed_done g view (SetShadow b m s) is k a = keyed_set_shadow g view b m s is a.range.page a.range.shadow a.permitted k
-keyed_done g view (TakeTurn t) is k a = with_scan g view (Some t) unscanned a.range (no_turn g (Some t)) k
-keyed_done g view (ReleaseTurn t) is k a = with_scan g view None unscanned tt (no_turn g None) k
-keyed_done g view action is k a = k
+pub keyed_done : (g : Geometry) (view : View) (action : Action) → IsGeometry g → IsKeyed g view → Allowed g view action → IsInRangeDone g action → IsKeyed g (after_of g view action Done)
+keyed_done g view (Walk v e write) is k a r = with_cache g view (put cached_page (walked view v e write) view.cache) (once_put cached_page (walked view v e write) view.cache k.cache_once) (all_put cached_page (IsEntryInRange g) (walked view v e write) view.cache (record { vpage = a.range; frame = r.frame }) k.cache) k
+keyed_done g view (Ack to) is k a r = keyed_ack g view to k
+keyed_done g view (Lock b) is k a r = keyed_lock g view b a.range a.permitted k
+keyed_done g view (Unlock b) is k a r = let f : AreOwned g _ = owned_spoiled g b view.owned (frames_of g view k) in with_owned g (record view { ops = erase page_of b view.ops }) _ f.once f.all (keyed_unlock g view b k)
+keyed_done g view (Map v word) is k a r = keyed_map g view v word k
+keyed_done g view (CopyStore b f i x) is k a r = let h : AreOwned g _ = owned_filled g f (stored_fill b (i + 1)) view.owned (stored_in_range g b i a.range.page a.range.index) (frames_of g view k) in with_owned g (record view { ops = edit_under b copied_one view.ops }) _ h.once h.all (copied_under g view b f i x a.range.index a.permitted k)
+keyed_done g view (SetHome b f) is k a r = keyed_set_home g view b f a.range.page a.range.frame k
+keyed_done g view (SetShadow b m s) is k a r = keyed_set_shadow g view b m s is a.range.page a.range.shadow a.permitted k
+keyed_done g view (TakeTurn t) is k a r = with_scan g view (Some t) unscanned a.range (no_turn g (Some t)) k
+keyed_done g view (ReleaseTurn t) is k a r = with_scan g view None unscanned tt (no_turn g None) k
+keyed_done g view action is k a r = k

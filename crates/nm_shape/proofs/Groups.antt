@@ -11,7 +11,7 @@ use Rattle.nm_view.specs.Views.{Op, View, most_ops, own_bumps, own_raises}
 use Rattle.nm_view.specs.Operations.{page_of, cached_page, peeked_page, owned_frame, op_of}
 use Rattle.nm_base.specs.Ranges.{IsVPage, IsTier}
 use Rattle.nm_event.specs.After.{edit_under, edit_of}
-use Rattle.nm_shape.specs.Keyed.{IsOpKeyed, IsOwnedInRange, IsScanInRange, IsKeyed}
+use Rattle.nm_shape.specs.Keyed.{IsEntryInRange, IsOpKeyed, IsOwnedInRange, IsScanInRange, IsKeyed}
 use Rattle.nm_view.proofs.Items.{all_edit, all_map}
 use Rattle.nm_view.proofs.Finds.{find_number, once_edit, once_map, length_edit}
 use Rattle.std.specs.Option.{IfSome}
@@ -24,7 +24,7 @@ some_and o x P e h = let Q : Option _ → Type 0 = λ y. IsSomeAnd y P in subst 
 pub with_ops : (g : Geometry) (view : View) (ops : List Op) → length ops ≤ most_ops → Once page_of ops → All (IsOpKeyed g) ops → IsKeyed g view → IsKeyed g (record view { ops = ops })
 with_ops g view ops few once all k = record { actor = k.actor; few = few; ops_once = once; ops = all; cache_once = k.cache_once; cache = k.cache; peeked_once = k.peeked_once; peeked = k.peeked; owned_once = k.owned_once; owned = k.owned; turn = k.turn; scan = k.scan; bumps = k.bumps; raises = k.raises; room = k.room }
 
-pub with_cache : (g : Geometry) (view : View) (cache : List CacheEntry) → Once cached_page cache → All (λ e. IsVPage g e.vpage) cache → IsKeyed g view → IsKeyed g (record view { cache = cache })
+pub with_cache : (g : Geometry) (view : View) (cache : List CacheEntry) → Once cached_page cache → All (IsEntryInRange g) cache → IsKeyed g view → IsKeyed g (record view { cache = cache })
 with_cache g view cache once all k = record { actor = k.actor; few = k.few; ops_once = k.ops_once; ops = k.ops; cache_once = once; cache = all; peeked_once = k.peeked_once; peeked = k.peeked; owned_once = k.owned_once; owned = k.owned; turn = k.turn; scan = k.scan; bumps = k.bumps; raises = k.raises; room = k.room }
 
 pub with_peeked : (g : Geometry) (view : View) (peeked : List Peeked) → Once peeked_page peeked → All (λ p. IsVPage g p.vpage) peeked → IsKeyed g view → IsKeyed g (record view { peeked = peeked })

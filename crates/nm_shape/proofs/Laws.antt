@@ -13,7 +13,7 @@ use Rattle.nm_permit.specs.Permitted.{Allowed}
 use Rattle.nm_event.specs.After.{after_of}
 use Rattle.nm_event.specs.Fitting.{Fits}
 use Rattle.nm_event.specs.Room.{IsWithinRoom, HasRoom}
-use Rattle.nm_shape.specs.Keyed.{IsOpKeyed, IsOwnedInRange, IsKeyed}
+use Rattle.nm_shape.specs.Keyed.{IsEntryInRange, IsOpKeyed, IsOwnedInRange, IsKeyed}
 use Rattle.nm_event.specs.Ranged.{IsInRangeReply}
 use Rattle.nm_view.proofs.Items.{none_left}
 use Rattle.nm_shape.proofs.Done.{no_turn, keyed_done}
@@ -30,7 +30,7 @@ keyed_opening g number is = record {
   ops_once = tt;
   ops = none_left (IsOpKeyed g);
   cache_once = tt;
-  cache = none_left (λ e. IsVPage g e.vpage);
+  cache = none_left (IsEntryInRange g);
   peeked_once = tt;
   peeked = none_left (λ p. IsVPage g p.vpage);
   owned_once = tt;
@@ -44,7 +44,7 @@ keyed_opening g number is = record {
 
 -- a permitted action with a reply in range keeps the numbers of the view in range, and no number twice in a list
 pub keyed_after : (g : Geometry) (view : View) (action : Action) (reply : Reply) → IsGeometry g → IsKeyed g view → Allowed g view action → IsInRangeReply g action reply → IsKeyed g (after_of g view action reply)
-keyed_after g view action Done is k a r = keyed_done g view action is k a
+keyed_after g view action Done is k a r = keyed_done g view action is k a r
 keyed_after g view action (Word n) is k a r = keyed_told g view action n is k a r
 keyed_after g view action (Busy n) is k a r = let P : View → Type 0 = λ v. IsKeyed g v in subst P (sym (busy_still g view action n)) k
 keyed_after g view action (Lost n) is k a r = let P : View → Type 0 = λ v. IsKeyed g v in subst P (sym (lost_still g view action n)) k

@@ -21,7 +21,7 @@ use Rattle.nm_base.specs.ShadowWord.{IsShadowWord}
 use Rattle.nm_base.specs.Ranges.{IsPage}
 use Rattle.nm_permit.specs.Permitted.{Allowed, IsFreeWordAt, MayScan}
 use Rattle.nm_event.specs.Room.{IsOpWithin, IsWithinRoom, NumbersFit}
-use Rattle.nm_shape.specs.Keyed.{IsOpKeyed, IsOwnedInRange, IsScanOfTier, IsScanInRange, IsKeyed}
+use Rattle.nm_shape.specs.Keyed.{IsEntryInRange, IsOpKeyed, IsOwnedInRange, IsScanOfTier, IsScanInRange, IsKeyed}
 use Rattle.nm_event.specs.Ranged.{IsInRangeReply}
 use Rattle.nm_view.specs.Opening.{is_mapped_to, alias_count, most_below, most_aliases}
 use Rattle.nm_view.proofs.Items.{all_same}
@@ -88,7 +88,7 @@ within_room g view is k =
     let frames : view.room.frames ≡ frame_count g = ap (λ r. r.frames) k.room in
     let P : ℕ → Type 0 = λ n. All (IsOpWithin n) view.ops in
     record {
-      cache = rw vpages (pigeon cached_page (length g.vpages) view.cache k.cache_once k.cache);
+      cache = rw vpages (pigeon cached_page (length g.vpages) view.cache k.cache_once (all_same (IsEntryInRange g) (λ e. e.vpage < length g.vpages) view.cache (λ e h. h.vpage) k.cache));
       peeked = rw vpages (pigeon peeked_page (length g.vpages) view.peeked k.peeked_once k.peeked);
       owned = rw frames (pigeon owned_frame (frame_count g) view.owned k.owned_once (all_same (IsOwnedInRange g) (λ w. w.frame < frame_count g) view.owned (λ w h. h.frame) k.owned));
       ops = subst P (sym aliases) (all_same (IsOpKeyed g) (IsOpWithin (most_aliases g)) view.ops (λ o h. op_within g o is h) k.ops);

@@ -1,6 +1,7 @@
 -- Views whose numbers are in range, and in whose lists no number stands twice.
 use Rattle.std.specs.Prelude.{◌≡◌, ℕ, ◌*◌, ◌^◌, ◌<◌, ◌≤◌, List, length, Option, Some, None, IfSome, All}
 use Rattle.nm_base.specs.Geometry.{Geometry, IsInTier, backing_page}
+use Rattle.nm_view.specs.declared.view.CacheEntry.{CacheEntry}
 use Rattle.nm_view.specs.declared.view.Fill.{Fill}
 use Rattle.nm_view.specs.declared.view.Fill.TheVariants.{Raw, Zeroed, Copied, Equal}
 use Rattle.nm_view.specs.declared.view.Owned.{Owned}
@@ -53,6 +54,11 @@ pub record IsOwnedInRange (g : Geometry) (w : Owned) : Type 0 where
   pub frame : IsFrame g w.frame
   pub fill : IsFillInRange g w.fill
 
+-- a cached translation: there is such a virtual page, and such a frame
+pub record IsEntryInRange (g : Geometry) (e : CacheEntry) : Type 0 where
+  pub vpage : IsVPage g e.vpage
+  pub frame : IsFrame g e.frame
+
 -- a scan of a tier: no more words than it has, no more frames than they can have, and the least is a frame of the tier
 pub record IsScanOfTier (g : Geometry) (scan : Scanned) (t : ℕ) : Type 0 where
   pub words : scan.words ≤ free_words g t
@@ -71,7 +77,7 @@ pub record IsKeyed (g : Geometry) (view : View) : Type 0 where
   pub ops_once : Once page_of view.ops
   pub ops : All (IsOpKeyed g) view.ops
   pub cache_once : Once cached_page view.cache
-  pub cache : All (λ e. IsVPage g e.vpage) view.cache
+  pub cache : All (IsEntryInRange g) view.cache
   pub peeked_once : Once peeked_page view.peeked
   pub peeked : All (λ p. IsVPage g p.vpage) view.peeked
   pub owned_once : Once owned_frame view.owned

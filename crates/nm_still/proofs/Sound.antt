@@ -10,7 +10,7 @@ use Rattle.std.specs.Prelude.{nat_lt, IsSome}
 use Rattle.nm_base.specs.declared.geometry.VPage.{VPage}
 use Rattle.nm_base.specs.Geometry.{page_count, frame_count, backing_among}
 use Rattle.nm_base.proofs.Pages.{page_size}
-use Rattle.nm_flat.specs.Memory.{place, page_of}
+use Rattle.nm_flat.specs.Memory.{place, mapped_page}
 use Rattle.nm_flat.proofs.Places.{place-same}
 use Rattle.nm_still.specs.Inside.{Parts, IsStillSound, IsMapping, IsPlaceOf, homed_word, value_at, page_words}
 use Rattle.nm_still.proofs.Words.{page_words-same, page_words-set, page_words-get}
@@ -56,7 +56,7 @@ unfolding page_words
 page_words-with_page_word p v word = refl
 
 -- a table word that maps the frame of its page keeps the machine sound
-pub IsStillSound-with_page_word : (p : Parts) (v word : ℕ) → IsStillSound p → v < length p.table → IsMapping (get_or p.homes (page_of p.geometry v) 0) word → IsStillSound (with_page_word p v word)
+pub IsStillSound-with_page_word : (p : Parts) (v word : ℕ) → IsStillSound p → v < length p.table → IsMapping (get_or p.homes (mapped_page p.geometry v) 0) word → IsStillSound (with_page_word p v word)
 IsStillSound-with_page_word p v word s within is = record {
   geometry = s.geometry;
   table_size = length-set p.table v word ∙ s.table_size;
@@ -71,7 +71,7 @@ IsStillSound-with_page_word p v word s within is = record {
       frame = is.frame;
       writable = is.writable;
       is = get_or-set_at p.table v u word 0 here within ∙ is.is;
-      here = ap (λ n. get_or p.homes (page_of p.geometry n) 0) here ∙ is.here;
+      here = ap (λ n. get_or p.homes (mapped_page p.geometry n) 0) here ∙ is.here;
     })
     | inr away ↦ rw (get_or-set_other p.table v u word 0 away) (s.words u)
   ];

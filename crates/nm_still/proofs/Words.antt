@@ -7,7 +7,7 @@ use Rattle.std.proofs.Math.Nat.{mod-lt}
 use Rattle.std.proofs.lemmas.List.{length-set, length-replicate, get_or-replicate}
 use Rattle.std.proofs.lemmas.List.FromFn.{length-map-range_with_len, get_or-map-range_with_len, fill_by_all}
 use Rattle.nm_base.specs.Geometry.{Geometry, page_count}
-use Rattle.nm_flat.specs.Memory.{place, word_count}
+use Rattle.nm_flat.specs.Memory.{place, flat_size}
 use Rattle.nm_flat.proofs.Places.{place-lt}
 use Rattle.nm_still.specs.Inside.{Parts, value_at, page_words}
 
@@ -15,23 +15,23 @@ use Rattle.nm_still.specs.Inside.{Parts, value_at, page_words}
 abbrev number_at : Parts → ℕ → ℕ → ℕ
 number_at p size n = value_at p (n / size) (n % size)
 
-length-page_words : (p : Parts) → length (page_words p) ≡ word_count p.geometry
+length-page_words : (p : Parts) → length (page_words p) ≡ flat_size p.geometry
 unfolding page_words
-length-page_words p = length-map-range_with_len (number_at p p.geometry.words) 0 (word_count p.geometry)
+length-page_words p = length-map-range_with_len (number_at p p.geometry.words) 0 (flat_size p.geometry)
 
-get-page_words : (p : Parts) (n : ℕ) → n < word_count p.geometry → get_or (page_words p) n 0 ≡ number_at p p.geometry.words n
+get-page_words : (p : Parts) (n : ℕ) → n < flat_size p.geometry → get_or (page_words p) n 0 ≡ number_at p p.geometry.words n
 unfolding page_words
-get-page_words p n h = get_or-map-range_with_len (number_at p p.geometry.words) 0 (word_count p.geometry) n n 0 h (omega arith)
+get-page_words p n h = get_or-map-range_with_len (number_at p p.geometry.words) 0 (flat_size p.geometry) n n 0 h (omega arith)
 
 -- a list that has each number at its place is the list of the words
-is-page_words : (p : Parts) (xs : List ℕ) → length xs ≡ word_count p.geometry → ((n : ℕ) → n < word_count p.geometry → get_or xs n 0 ≡ number_at p p.geometry.words n) → xs ≡ page_words p
+is-page_words : (p : Parts) (xs : List ℕ) → length xs ≡ flat_size p.geometry → ((n : ℕ) → n < flat_size p.geometry → get_or xs n 0 ≡ number_at p p.geometry.words n) → xs ≡ page_words p
 unfolding page_words
-is-page_words p xs size each = fill_by_all (number_at p p.geometry.words) xs (word_count p.geometry) 0 size each
+is-page_words p xs size each = fill_by_all (number_at p p.geometry.words) xs (flat_size p.geometry) 0 size each
 
 -- the same, of a machine that has the geometry g
-is-words_of_at : (p : Parts) (g : Geometry) (xs : List ℕ) → p.geometry ≡ g → length xs ≡ word_count g → ((n : ℕ) → n < word_count g → get_or xs n 0 ≡ number_at p g.words n) → xs ≡ page_words p
+is-words_of_at : (p : Parts) (g : Geometry) (xs : List ℕ) → p.geometry ≡ g → length xs ≡ flat_size g → ((n : ℕ) → n < flat_size g → get_or xs n 0 ≡ number_at p g.words n) → xs ≡ page_words p
 is-words_of_at p g xs e size each =
-    let count : word_count p.geometry ≡ word_count g = ap word_count e in
+    let count : flat_size p.geometry ≡ flat_size g = ap flat_size e in
     let w : p.geometry.words ≡ g.words = ap (λ x. x.words) e in
     is-page_words p xs (size ∙ sym count) (λ n h. each n (omega (arith, h, count)) ∙ ap (λ w. number_at p w n) (sym w))
 
@@ -70,6 +70,6 @@ page_words-set p q b i x g page word new rest =
     ]))
 
 -- at first every word is 0
-pub page_words-new : (p : Parts) → ((b i : ℕ) → value_at p b i ≡ 0) → page_words p ≡ replicate (word_count p.geometry) 0
+pub page_words-new : (p : Parts) → ((b i : ℕ) → value_at p b i ≡ 0) → page_words p ≡ replicate (flat_size p.geometry) 0
 page_words-new p each =
-    sym (is-page_words p (replicate (word_count p.geometry) 0) (length-replicate (word_count p.geometry) 0) (λ n h. get_or-replicate (word_count p.geometry) n 0 0 h ∙ sym (each (n / p.geometry.words) (n % p.geometry.words))))
+    sym (is-page_words p (replicate (flat_size p.geometry) 0) (length-replicate (flat_size p.geometry) 0) (λ n h. get_or-replicate (flat_size p.geometry) n 0 0 h ∙ sym (each (n / p.geometry.words) (n % p.geometry.words))))

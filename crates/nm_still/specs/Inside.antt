@@ -4,7 +4,7 @@ use Rattle.std.specs.List.{range_with_len}
 use Rattle.nm_base.specs.Geometry.{Geometry, IsGeometry, page_count, frame_count}
 use Rattle.nm_base.specs.PageWord.{word_of}
 use Rattle.nm_base.specs.declared.page_word.PageWord.TheVariants.{Present}
-use Rattle.nm_flat.specs.Memory.{page_of, word_count}
+use Rattle.nm_flat.specs.Memory.{mapped_page, flat_size}
 use Rattle.nm_still.specs.declared.machine.Machine.{Machine}
 use Rattle.nm_still.specs.Still as plain
 
@@ -30,7 +30,7 @@ value_at p b i = homed_word p.geometry.words p.memory (slice_index p.homes b) i
 
 -- the words of all backing pages, page by page
 unfoldable pub page_words : Parts → List ℕ
-page_words p = map (λ n. value_at p (n / p.geometry.words) (n % p.geometry.words)) (range_with_len 0 (word_count p.geometry))
+page_words p = map (λ n. value_at p (n / p.geometry.words) (n % p.geometry.words)) (range_with_len 0 (flat_size p.geometry))
 
 abbrev pub still_of : Parts → plain.Still
 still_of p = record { geometry = p.geometry; words = page_words p }
@@ -59,4 +59,4 @@ pub record IsStillSound (p : Parts) : Type 0 where
   pub within : (b : ℕ) → slice_index p.homes b ≤ p.taken
   pub own : (b c : ℕ) → 0 < slice_index p.homes b → slice_index p.homes b ≡ slice_index p.homes c → b ≡ c
   pub fresh : (i : ℕ) → p.taken * p.geometry.words ≤ i → slice_index p.memory i ≡ 0
-  pub words : (v : ℕ) → (slice_index p.table v ≡ 0) ⊎ IsMapping (slice_index p.homes (page_of p.geometry v)) (slice_index p.table v)
+  pub words : (v : ℕ) → (slice_index p.table v ≡ 0) ⊎ IsMapping (slice_index p.homes (mapped_page p.geometry v)) (slice_index p.table v)

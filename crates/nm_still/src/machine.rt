@@ -2,7 +2,7 @@
 
 ghost use Rattle.std.specs.Prelude.{◌≡◌, ℕ, ◌+◌, ◌*◌, ◌<◌, ◌≤◌, ◌^◌, IsTrue, IsSome, IfOk, length, replicate, slice_index, slice_set};
 ghost use Rattle.nm_base.specs.Geometry.{IsWritable, backing_page, vpage_at, page_count};
-ghost use Rattle.nm_flat.specs.Memory.{page_of, place, word_count};
+ghost use Rattle.nm_flat.specs.Memory.{mapped_page, place, flat_size};
 
 use nm_base::{Geometry, PageWord, VPage};
 use std::alloc::{AllocError, Global};
@@ -34,7 +34,7 @@ impl<'a> Still<'a> {
     /// where there is no memory for it.
     pub fn start(alloc: Global, g: &'a Geometry) -> Result<Still<'a>, AllocError>
         ensures geometry { IfOk result (λ s. s.geometry ≡ g.now) }
-        ensures words { IfOk result (λ s. s.words ≡ replicate (word_count g.now) 0) }
+        ensures words { IfOk result (λ s. s.words ≡ replicate (flat_size g.now) 0) }
     {
         let machine = Machine::new(alloc, g)?;
         Ok(Still { machine })
@@ -45,7 +45,7 @@ impl<'a> Still<'a> {
         requires mapped { IsSome (backing_page self.old.geometry v) }
         requires within { w < self.old.geometry.words }
         ensures value { result ≡ slice_index self.old.words
-            (place self.old.geometry (page_of self.old.geometry v) w) }
+            (place self.old.geometry (mapped_page self.old.geometry v) w) }
         ensures same { self.new ≡ self.old }
     {
         self.machine.load(v, w)
@@ -56,7 +56,7 @@ impl<'a> Still<'a> {
         requires writable { IsWritable self.old.geometry v }
         requires within { w < self.old.geometry.words }
         ensures { self.new ≡ record self.old {
-          words = slice_set self.old.words (place self.old.geometry (page_of self.old.geometry v) w) x;
+          words = slice_set self.old.words (place self.old.geometry (mapped_page self.old.geometry v) w) x;
         } }
     {
         self.machine.store(v, w, x);
@@ -83,7 +83,7 @@ impl<'a> Machine<'a> {
     fn new(alloc: Global, g: &'a Geometry) -> Result<Machine<'a>, AllocError>
         ensures sound { IfOk result (λ m. IsStillSound (parts_of m)) }
         ensures geometry { IfOk result (λ m. m.geometry.now ≡ g.now) }
-        ensures words { IfOk result (λ m. page_words (parts_of m) ≡ replicate (word_count g.now) 0) }
+        ensures words { IfOk result (λ m. page_words (parts_of m) ≡ replicate (flat_size g.now) 0) }
     {
         Ok(Machine {
             geometry: g,
@@ -101,7 +101,7 @@ impl<'a> Machine<'a> {
         ensures sound { IsStillSound (parts_of self.new) }
         ensures geometry { self.new.geometry.now ≡ self.old.geometry.now }
         ensures value { result ≡ slice_index (page_words (parts_of self.old))
-            (place self.old.geometry.now (page_of self.old.geometry.now v) w) }
+            (place self.old.geometry.now (mapped_page self.old.geometry.now v) w) }
         ensures same { page_words (parts_of self.new) ≡ page_words (parts_of self.old) }
     {
         let at = self.touch(v, w);
@@ -115,7 +115,7 @@ impl<'a> Machine<'a> {
         ensures sound { IsStillSound (parts_of self.new) }
         ensures geometry { self.new.geometry.now ≡ self.old.geometry.now }
         ensures words { page_words (parts_of self.new) ≡ slice_set (page_words (parts_of self.old))
-            (place self.old.geometry.now (page_of self.old.geometry.now v) w) x }
+            (place self.old.geometry.now (mapped_page self.old.geometry.now v) w) x }
     {
         let at = self.touch(v, w);
         self.memory[at] = x;
@@ -129,7 +129,7 @@ impl<'a> Machine<'a> {
         ensures sound { IsStillSound (parts_of self.new) }
         ensures geometry { self.new.geometry.now ≡ self.old.geometry.now }
         ensures same { page_words (parts_of self.new) ≡ page_words (parts_of self.old) }
-        ensures place { IsPlaceOf (parts_of self.new) (page_of self.old.geometry.now v) w result }
+        ensures place { IsPlaceOf (parts_of self.new) (mapped_page self.old.geometry.now v) w result }
     {
         let frame = self.mapped_frame(v);
         let g = self.geometry;
@@ -143,7 +143,7 @@ impl<'a> Machine<'a> {
         ensures sound { IsStillSound (parts_of self.new) }
         ensures geometry { self.new.geometry.now ≡ self.old.geometry.now }
         ensures same { page_words (parts_of self.new) ≡ page_words (parts_of self.old) }
-        ensures home { slice_index self.new.homes.items (page_of self.old.geometry.now v) ≡ result + 1 }
+        ensures home { slice_index self.new.homes.items (mapped_page self.old.geometry.now v) ≡ result + 1 }
     {
         if let Some(PageWord::Present { frame, .. }) = PageWord::of_word(self.table[v as usize]) {
             return frame;

@@ -105,7 +105,7 @@ impl Plan<Act> for Survey {
 
     ghost use Rattle.std.specs.Prelude.{◌≡◌};
     ghost use Rattle.nm_survey.specs.declared.survey.Stage.TheVariants.{New};
-    ghost use Rattle.nm_compose.specs.Stages.{IsAtStage};
+    ghost use Rattle.nm_compose.specs.Stages.{IsPieceAt};
     ghost use Rattle.nm_survey.specs.Surveys.{MaySurvey, IsSurvey, IsSurveyed, survey_stages, left_at};
 
     ghost made = { λ s. s.made };
@@ -114,11 +114,11 @@ impl Plan<Act> for Survey {
 
     ghost may_begin = { MaySurvey };
 
-    ghost shape = { λ made g own mapped. IsSurvey made own mapped };
+    ghost shape = { IsSurvey };
 
     ghost leaves = { λ made g view mapped left. IsSurveyed view left };
 
-    ghost knows = { λ s. IsAtStage survey_stages s.made s.stage };
+    ghost knows = { λ s. IsPieceAt survey_stages s.made s.stage };
 
     ghost left = { λ s. left_at s.made s.stage };
 

@@ -1,2 +1,5 @@
 pub mod NumberLemmas
 pub mod CutLemmas
+pub mod FieldLemmas
+pub mod LineLemmas
+pub mod KindLemmas

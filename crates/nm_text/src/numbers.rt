@@ -1,6 +1,6 @@
 //! Numbers as they stand in a field: `0`, or a digit from 1 to 9 with digits after it, below 2 ^ 64.
 
-ghost use Rattle.std.specs.Prelude.{◌≡◌, ℕ, ◌^◌, ◌<◌, ◌≤◌, ◌+◌, ◌++◌, drop, length, vec_len, vec_capacity, IfSome, IfNone, OnOk, OnErr};
+ghost use Rattle.std.specs.Prelude.{◌≡◌, ℕ, ◌^◌, ◌<◌, ◌≤◌, ◌+◌, ◌++◌, ◌∷◌, drop, length, vec_len, vec_capacity, IfSome, IfNone, OnOk, OnErr};
 ghost use Rattle.std.specs.Fmt.{decimal};
 ghost use Rattle.std.specs.Option.{SomeIff};
 ghost use Rattle.std.specs.Str.Parse.{AllDigits, digits_value};
@@ -48,6 +48,22 @@ pub fn push_number(out: &mut Vec<u8>, n: u64) -> Result<(), AllocError>
     let mut digits = [b'0'; DIGITS];
     let start = put_digits(n, &mut digits);
     out.extend_from_slice(&digits[start..])
+}
+
+/// Writes a word and a number.
+pub fn push_field(out: &mut Vec<u8>, word: &[u8], n: u64) -> Result<(), AllocError>
+    ensures { OnOk result (out.new.items ≡ out.old.items ++ (word.now ++ decimal n)) }
+{
+    out.extend_from_slice(word)?;
+    push_number(out, n)
+}
+
+/// Writes a word and two numbers.
+pub fn push_fields(out: &mut Vec<u8>, word: &[u8], a: u64, b: u64) -> Result<(), AllocError>
+    ensures { OnOk result (out.new.items ≡ out.old.items ++ (word.now ++ (decimal a ++ 32 ∷ decimal b))) }
+{
+    push_field(out, word, a)?;
+    push_field(out, b" ", b)
 }
 
 // Writes the number's digits so that they end where the array ends, and gives where they start.

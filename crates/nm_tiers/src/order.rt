@@ -21,14 +21,3 @@ pub fn slower(tier: u32, tiers: u32) -> Option<u32>
         Some(tier + 1)
     }
 }
-
-#[cfg(test)]
-mod tests {
-    use super::*;
-
-    #[test]
-    fn steps_between_tiers(rt: HostRuntime) {
-        assert_eq!(rt; (faster(0), faster(3)), (None, Some(2)));
-        assert_eq!(rt; (slower(0, 3), slower(2, 3)), (Some(1), None));
-    }
-}

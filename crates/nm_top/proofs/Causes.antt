@@ -1,24 +1,34 @@
 -- Why a call answers what it answers.
-use Rattle.std.proofs.Common.{◌≡◌, ℕ, ◌≤◌, ◌⊎◌, inl, inr, List, length, Option, Some, None, IfSome, Result, Ok, Err, refl, sym, ap, subst, arith}
-use Rattle.nm_io.specs.Source.{GivesAll}
+use Rattle.std.proofs.Common.{◌≡◌, ℕ, ◌≤◌, ◌⊎◌, inl, inr, List, length, Option, Some, None, IfSome, Result, Ok, Err, refl, sym, ap, subst, ◌∙◌, arith, append-nil}
+use Rattle.std.specs.Io.KnownBytes.{Consumes}
+use Rattle.nm_io.specs.Count.{Rose}
+use Rattle.nm_io.specs.Source.{GivesAll, ReadsToEnd}
+use Rattle.nm_io.specs.Whole.{SourceTells, SinkTells, ReadsWhole, LosesSome}
 use Rattle.nm_io.specs.declared.sources.TheConstants.{MOST_BYTES}
 use Rattle.nm_script.specs.declared.fault.ScriptFault.{ScriptFault}
 use Rattle.nm_script.specs.declared.fault.ScriptRefusal.{ScriptRefusal}
 use Rattle.nm_script.specs.declared.fault.ScriptRefusal.TheVariants as refusals
 use Rattle.nm_script.specs.Plain as plain
-use Rattle.nm_script.specs.Reading.{Reads, Refuses}
+use Rattle.nm_script.specs.Script.{script_text}
+use Rattle.nm_script.specs.Reading.{GivesReading, Refuses}
+use Rattle.nm_script.specs.Grammar.{IsScriptText}
 use Rattle.nm_script.specs.Faults as script_faults
 use Rattle.nm_script.specs.Faults.{IsFirstFault}
-use Rattle.nm_top.specs.Answer.{Answers, IsAccepted, IsOrMemory, IsRefusal, IsUnserved, status_of, TakesAll}
+use Rattle.nm_gen.specs.Generated.{generated}
+use Rattle.nm_top.specs.Answer.{GenCause, IsAccepted, IsGenCall, IsOrMemory, IsReading, IsScriptCall, IsSimCall, IsWritten, ReadAnswers, ReadCause, SimAnswers, SimCause}
+use Rattle.nm_top.specs.Output.{IsOutputOf, IsServed}
+use Rattle.nm_top.specs.Status.{status_of_text}
 use Rattle.nm_top.specs.declared.status.Status.{Status}
-use Rattle.nm_top.specs.declared.status.Status.TheVariants.{Done, Script, NotBuilt, WriteFault, Memory}
+use Rattle.nm_top.specs.declared.status.Status.TheVariants.{Done, Usage, Script, NotBuilt, ReadFault, WriteFault, Memory}
+
+-- ---- what parsing says
 
 -- what a reading gave, as a number that tells the two apart
 abbrev tag : Result plain.Script (ScriptFault × ℕ) → ℕ
 tag (Ok x) = 0
 tag (Err e) = 1
 
-pub ok-err : (r : Result plain.Script (ScriptFault × ℕ)) (x : plain.Script) (e : ScriptFault × ℕ) → r ≡ Ok x → r ≡ Err e → ⊥
+ok-err : (r : Result plain.Script (ScriptFault × ℕ)) (x : plain.Script) (e : ScriptFault × ℕ) → r ≡ Ok x → r ≡ Err e → ⊥
 ok-err r x e h k =
     let zero : tag r ≡ 0 = ap tag h in
     let one : tag r ≡ 1 = ap tag k in absurd (omega (arith, zero, one))
@@ -27,7 +37,7 @@ abbrev script_in : plain.Script → Result plain.Script (ScriptFault × ℕ) →
 script_in s (Ok t) = t
 script_in s (Err p) = s
 
-pub same_script : (s t : plain.Script) → Reads (Ok s) (Ok t) → t ≡ s
+same_script : (s t : plain.Script) → GivesReading (Ok s) (Ok t) → t ≡ s
 same_script s t e = ap (script_in s) e
 
 abbrev read_status : Result plain.Script (ScriptFault × ℕ) → Status
@@ -35,56 +45,216 @@ read_status (Ok s) = Memory
 read_status (Err p) = Script p.0 p.1
 
 -- a text that was refused, where it has this fault, and where it has none
-pub refused_first : (e : ScriptRefusal) (f : ScriptFault) (n : ℕ) → Refuses {A = plain.Script} e (Err (f, n)) → IsOrMemory (status_of e) (Script f n)
+refused_first : (e : ScriptRefusal) (f : ScriptFault) (n : ℕ) → Refuses {A = plain.Script} e (Err (f, n)) → IsOrMemory (status_of_text e) (Script f n)
 refused_first refusals.Memory f n h = inr refl
 refused_first (refusals.At g k) f n h = inl (sym (ap read_status h))
 
-pub refused_none : (e : ScriptRefusal) (s : plain.Script) → Refuses e (Ok s) → status_of e ≡ Memory
+refused_none : (e : ScriptRefusal) (s : plain.Script) → Refuses e (Ok s) → status_of_text e ≡ Memory
 refused_none refusals.Memory s h = refl
 refused_none (refusals.At g k) s h = absurd (ok-err (Ok s) s (g, k) refl h)
 
-pub refused_cause : (e : ScriptRefusal) (bytes : List ℕ) → script_faults.IsRefusal bytes e → IsRefusal bytes (status_of e)
-refused_cause refusals.Memory bytes h = tt
-refused_cause (refusals.At g k) bytes h = h
+-- ---- reading a script
 
--- where all bytes were taken, what holds of them holds of what was left
-pub taken_all : (old new : Option (List ℕ)) (bytes : List ℕ) (P : List ℕ → Type 0) → GivesAll old new bytes → P bytes → TakesAll old new P
-taken_all None new bytes P all h = tt
-taken_all (Some left) new bytes P all h = (all.1, subst P all.0 h)
+-- all that was left was lost
+lost_all : (old new : Option (List ℕ)) (bytes : List ℕ) → length bytes ≤ MOST_BYTES → GivesAll old new bytes → LosesSome old new
+lost_all None new bytes few all = (bytes, tt, few)
+lost_all (Some left) new bytes few all = (bytes, subst (λ n. Consumes (Some left) n bytes) (sym all.1) (sym all.0 ∙ sym (append-nil bytes)), few)
 
-pub left_all : (old new : Option (List ℕ)) (bytes : List ℕ) (P : List ℕ → Type 0) → GivesAll old new bytes → P bytes → IfSome old P
+-- all the bytes that the source gave
+pub record HasRead {S : Type 0} (m : SourceTells S) (old new : S) (bytes : List ℕ) : Type 0 where
+  pub few : length bytes ≤ MOST_BYTES
+  pub reads : ReadsToEnd m.gives old bytes new
+  pub all : GivesAll (m.left old) (m.left new) bytes
+  pub kept : m.faults new ≡ m.faults old
+
+whole : {S : Type 0} (m : SourceTells S) (old new : S) (bytes : List ℕ) (P : List ℕ → Type 0) → HasRead m old new bytes → P bytes → ReadsWhole m old new P
+whole m old new bytes P h p = record { bytes = bytes; few = h.few; reads = h.reads; all = h.all; kept = h.kept; holds = p }
+
+left_all : (old new : Option (List ℕ)) (bytes : List ℕ) (P : List ℕ → Type 0) → GivesAll old new bytes → P bytes → IfSome old P
 left_all None new bytes P all h = tt
 left_all (Some left) new bytes P all h = subst P all.0 h
 
--- what is answered to bytes whose output was written, and to bytes that have none
-pub answers_written : (old new : Option (List ℕ)) (items : List ℕ) (status : Status) → GivesAll old new items → length items ≤ MOST_BYTES → ((f : ScriptFault) (n : ℕ) → IsFirstFault items f n → ⊥) → (IsUnserved items → ⊥) → (status ≡ Done) ⊎ (status ≡ WriteFault) → IfSome old (λ bytes. Answers bytes status)
-answers_written old new items status all few first unserved cases =
-    left_all old new items (λ bytes. Answers bytes status) all (record {
-      long = λ h. absurd (omega (arith, few, h));
-      first = λ _ f n h. absurd (first f n h);
-      unserved = λ _ h. absurd (unserved h);
-      accepted = λ _ _. widened cases;
-    })
-  where
-    widened : (status ≡ Done) ⊎ (status ≡ WriteFault) → (status ≡ Done) ⊎ (status ≡ WriteFault) ⊎ (status ≡ Memory)
-    widened (inl h) = inl h
-    widened (inr h) = inr (inl h)
+-- the bytes are this script
+pub IsReading-script : {S : Type 0} (m : SourceTells S) (old new : S) (bytes : List ℕ) (s : plain.Script) → HasRead m old new bytes → IsScriptText bytes s
+    → ((t : plain.Script) → IsScriptText bytes t → GivesReading (Ok s) (Ok t)) → ((f : ScriptFault) (n : ℕ) → IsFirstFault bytes f n → GivesReading (Ok s) (Err (f, n)))
+    → IsReading m old new (Ok s)
+IsReading-script m old new bytes s h says only first = record {
+  cause = whole m old new bytes (λ b. IsScriptText b s) h says;
+  answers = λ _. left_all _ _ bytes (λ b. ReadAnswers b (Ok s)) h.all (record {
+    long = λ many. absurd (omega (arith, many, h.few));
+    first = λ _ f n fault. ok-err _ _ _ (first f n fault) refl;
+    only = λ _ t is. sym (same_script s t (only t is));
+  });
+}
 
-pub answers_refused : (old new : Option (List ℕ)) (items : List ℕ) (status : Status) → GivesAll old new items → length items ≤ MOST_BYTES → ((f : ScriptFault) (n : ℕ) → IsFirstFault items f n → IsOrMemory status (Script f n)) → (IsUnserved items → IsOrMemory status NotBuilt) → (IsAccepted items → status ≡ Memory) → IfSome old (λ bytes. Answers bytes status)
-answers_refused old new items status all few first unserved accepted =
-    left_all old new items (λ bytes. Answers bytes status) all (record {
-      long = λ h. absurd (omega (arith, few, h));
-      first = λ _. first;
-      unserved = λ _. unserved;
-      accepted = λ _ h. inr (inr (accepted h));
-    })
+refused_cause : {S : Type 0} (m : SourceTells S) (old new : S) (bytes : List ℕ) (e : ScriptRefusal) → HasRead m old new bytes
+    → script_faults.IsTextRefusal bytes e → ReadCause m old new (Err (status_of_text e))
+refused_cause m old new bytes refusals.Memory h fault = record { lost = lost_all _ _ bytes h.few h.all; kept = h.kept }
+refused_cause m old new bytes (refusals.At f n) h fault =
+    inr (omega (arith, fault.count), whole m old new bytes (λ b. IsFirstFault b f n) h fault)
+
+-- the bytes are no script, or memory is wanting
+pub IsReading-refused : {S : Type 0} (m : SourceTells S) (old new : S) (bytes : List ℕ) (e : ScriptRefusal) → HasRead m old new bytes
+    → script_faults.IsTextRefusal bytes e → ((t : plain.Script) → IsScriptText bytes t → Refuses e (Ok t))
+    → ((f : ScriptFault) (n : ℕ) → IsFirstFault bytes f n → Refuses {A = plain.Script} e (Err (f, n))) → IsReading m old new (Err (status_of_text e))
+IsReading-refused m old new bytes e h fault only first = record {
+  cause = refused_cause m old new bytes e h fault;
+  answers = λ _. left_all _ _ bytes (λ b. ReadAnswers b (Err (status_of_text e))) h.all (record {
+    long = λ many. absurd (omega (arith, many, h.few));
+    first = λ _ f n here. refused_first e f n (first f n here);
+    only = λ _ t is. refused_none e t (only t is);
+  });
+}
+
+-- ---- writing a text
+
+written_complete : {K : Type 0} (k : SinkTells K) (sink sink' : K) (text : List ℕ) (status : Status) → IsWritten k sink sink' text status
+    → (Rose (k.faults sink) (k.faults sink') → ⊥) → IsOrMemory status Done
+written_complete k sink sink' text Done h none = inl refl
+written_complete k sink sink' text Usage h none = absurd h
+written_complete k sink sink' text (Script f n) h none = absurd h
+written_complete k sink sink' text NotBuilt h none = absurd h
+written_complete k sink sink' text ReadFault h none = absurd h
+written_complete k sink sink' text WriteFault h none = absurd (none h.rose)
+written_complete k sink sink' text Memory h none = absurd h
+
+gen_cause : {K : Type 0} (k : SinkTells K) (n size : ℕ) (sink sink' : K) (status : Status) → IsWritten k sink sink' (script_text (generated n size)) status
+    → GenCause k n size sink sink' status
+gen_cause k n size sink sink' Done h = h
+gen_cause k n size sink sink' Usage h = h
+gen_cause k n size sink sink' (Script f l) h = h
+gen_cause k n size sink sink' NotBuilt h = h
+gen_cause k n size sink sink' ReadFault h = h
+gen_cause k n size sink sink' WriteFault h = h
+gen_cause k n size sink sink' Memory h = absurd h
+
+-- the text of a generated script was written, or a write failed
+pub IsGenCall-written : {K : Type 0} (k : SinkTells K) (n size : ℕ) (sink sink' : K) (text : List ℕ) (status : Status) → text ≡ script_text (generated n size)
+    → IsWritten k sink sink' text status → IsGenCall k n size sink sink' status
+IsGenCall-written k n size sink sink' text status is h =
+    let written = subst (λ t. IsWritten k sink sink' t status) is h in
+    record { cause = gen_cause k n size sink sink' status written; complete = written_complete k sink sink' _ status written }
+
+-- the same for the number and the size that the words say
+pub IsGenCall-same : {K : Type 0} (k : SinkTells K) (number n size s : ℕ) (sink sink' : K) (status : Status) → number ≡ n → size ≡ s
+    → IsGenCall k number size sink sink' status → IsGenCall k n s sink sink' status
+IsGenCall-same k number n size s sink sink' status e f h =
+    subst (λ l. IsGenCall k n l sink sink' status) f (subst (λ m. IsGenCall k m size sink sink' status) e h)
+
+-- the output of a script was written, or a write failed
+pub IsScriptCall-written : {K : Type 0} (k : SinkTells K) (s : plain.Script) (sink sink' : K) (text : List ℕ) (status : Status) → IsServed s → IsOutputOf s text
+    → IsWritten k sink sink' text status → IsScriptCall k s sink sink' status
+IsScriptCall-written k s sink sink' text Done served output h = (served, (text, output, h))
+IsScriptCall-written k s sink sink' text Usage served output h = absurd h
+IsScriptCall-written k s sink sink' text (Script f n) served output h = absurd h
+IsScriptCall-written k s sink sink' text NotBuilt served output h = absurd h
+IsScriptCall-written k s sink sink' text ReadFault served output h = absurd h
+IsScriptCall-written k s sink sink' text WriteFault served output h = (served, (text, output, h))
+IsScriptCall-written k s sink sink' text Memory served output h = absurd h
+
+-- ---- sim
+
+along : {S : Type 0} (m : SourceTells S) (old new : S) (P Q : List ℕ → Type 0) → ((bytes : List ℕ) → P bytes → Q bytes) → ReadsWhole m old new P → ReadsWhole m old new Q
+along m old new P Q step h = record { bytes = h.bytes; few = h.few; reads = h.reads; all = h.all; kept = h.kept; holds = step h.bytes h.holds }
+
+-- the script that was read decides the cause
+script_cause : {S K : Type 0} (m : SourceTells S) (k : SinkTells K) (old new : S) (sink sink' : K) (s : plain.Script) (status : Status)
+    → ReadsWhole m old new (λ bytes. IsScriptText bytes s) → IsScriptCall k s sink sink' status → SimCause m k old new sink sink' status
+script_cause m k old new sink sink' s Done h call =
+    along m old new _ _ (λ bytes says. (call.1.0, record { script = s; says = says; served = call.0; output = call.1.1 }, call.1.2)) h
+script_cause m k old new sink sink' s Usage h call = call.1.2
+script_cause m k old new sink sink' s (Script f n) h call = absurd call.1.2
+script_cause m k old new sink sink' s NotBuilt h call = (along m old new _ _ (λ bytes says. (s, says, call.0)) h, call.1)
+script_cause m k old new sink sink' s ReadFault h call = absurd call.1.2
+script_cause m k old new sink sink' s WriteFault h call =
+    along m old new _ _ (λ bytes says. (call.1.0, record { script = s; says = says; served = call.0; output = call.1.1 }, call.1.2)) h
+script_cause m k old new sink sink' s Memory h call = record { unwritten = call.1; read = record { lost = lost_all _ _ h.bytes h.few h.all; kept = h.kept } }
+
+unserved_answer : {K : Type 0} (k : SinkTells K) (s : plain.Script) (sink sink' : K) (status : Status) → IsScriptCall k s sink sink' status → (IsServed s → ⊥) → status ≡ NotBuilt
+unserved_answer k s sink sink' Done h none = absurd (none h.0)
+unserved_answer k s sink sink' Usage h none = absurd (none h.0)
+unserved_answer k s sink sink' (Script f n) h none = absurd (none h.0)
+unserved_answer k s sink sink' NotBuilt h none = refl
+unserved_answer k s sink sink' ReadFault h none = absurd (none h.0)
+unserved_answer k s sink sink' WriteFault h none = absurd (none h.0)
+unserved_answer k s sink sink' Memory h none = absurd (none h.0)
+
+served_answer : {K : Type 0} (k : SinkTells K) (s : plain.Script) (sink sink' : K) (status : Status) → IsScriptCall k s sink sink' status → IsServed s
+    → (status ≡ Done) ⊎ (status ≡ WriteFault) ⊎ (status ≡ Memory)
+served_answer k s sink sink' Done h served = inl refl
+served_answer k s sink sink' Usage h served = absurd h.1.2
+served_answer k s sink sink' (Script f n) h served = absurd h.1.2
+served_answer k s sink sink' NotBuilt h served = absurd (h.0 served)
+served_answer k s sink sink' ReadFault h served = absurd h.1.2
+served_answer k s sink sink' WriteFault h served = inr (inl refl)
+served_answer k s sink sink' Memory h served = inr (inr refl)
+
+script_answers : {K : Type 0} (k : SinkTells K) (s : plain.Script) (sink sink' : K) (status : Status) → IsScriptCall k s sink sink' status
+    → (bytes : List ℕ) → ReadAnswers bytes (Ok s) → SimAnswers bytes status
+script_answers k s sink sink' status call bytes h = record {
+  long = λ many. absurd (h.long many);
+  first = λ few f n fault. absurd (h.first few f n fault);
+  unserved = λ few u. inl (unserved_answer k s sink sink' status call (λ served. u.2 (subst IsServed (h.only few u.0 u.1) served)));
+  accepted = λ few u. served_answer k s sink sink' status call (subst IsServed (sym (h.only few u.0 u.1)) u.2);
+}
+
+refused_answers : (status : Status) (bytes : List ℕ) → ReadAnswers bytes (Err status) → SimAnswers bytes status
+refused_answers status bytes h = record {
+  long = h.long;
+  first = h.first;
+  unserved = λ few u. inr (h.only few u.0 u.1);
+  accepted = λ few u. inr (inr (h.only few u.0 u.1));
+}
+
+answers_along : (left : Option (List ℕ)) (P Q : List ℕ → Type 0) → ((bytes : List ℕ) → P bytes → Q bytes) → IfSome left P → IfSome left Q
+answers_along None P Q step h = tt
+answers_along (Some left) P Q step h = step left h
+
+sim_fault : {S K : Type 0} (m : SourceTells S) (k : SinkTells K) (old new : S) (sink sink' : K) → SimCause m k old new sink sink' WriteFault
+    → Rose (k.faults sink) (k.faults sink')
+sim_fault m k old new sink sink' h = h.holds.2.rose
 
 -- a script that is served, without faults, is done
-pub complete_from : (old : Option (List ℕ)) (status : Status) (Read Write : Type 0) → ((Read → ⊥) → IfSome old (λ bytes. Answers bytes status)) → (status ≡ WriteFault → Write) → IfSome old (λ bytes. IsAccepted bytes → length bytes ≤ MOST_BYTES → (Read → ⊥) → (Write → ⊥) → (status ≡ Done) ⊎ (status ≡ Memory))
+complete_from : (left : Option (List ℕ)) (status : Status) (Read Write : Type 0) → ((Read → ⊥) → IfSome left (λ bytes. SimAnswers bytes status))
+    → (status ≡ WriteFault → Write)
+    → IfSome left (λ bytes. IsAccepted bytes → length bytes ≤ MOST_BYTES → (Read → ⊥) → (Write → ⊥) → IsOrMemory status Done)
 complete_from None status Read Write answers fault = tt
 complete_from (Some bytes) status Read Write answers fault = λ accepted few read write. go write ((answers read).accepted few accepted)
   where
-    go : (Write → ⊥) → (status ≡ Done) ⊎ (status ≡ WriteFault) ⊎ (status ≡ Memory) → (status ≡ Done) ⊎ (status ≡ Memory)
+    go : (Write → ⊥) → (status ≡ Done) ⊎ (status ≡ WriteFault) ⊎ (status ≡ Memory) → IsOrMemory status Done
     go write (inl h) = inl h
     go write (inr (inl h)) = absurd (write (fault h))
     go write (inr (inr h)) = inr h
+
+-- the cause and the answers of `sim` say when it is done
+IsSimCall-from : {S K : Type 0} (m : SourceTells S) (k : SinkTells K) (old new : S) (sink sink' : K) (status : Status) → SimCause m k old new sink sink' status
+    → ((Rose (m.faults old) (m.faults new) → ⊥) → IfSome (m.left old) (λ bytes. SimAnswers bytes status)) → IsSimCall m k old new sink sink' status
+IsSimCall-from m k old new sink sink' status cause answers = record {
+  cause = cause;
+  answers = answers;
+  complete = complete_from (m.left old) status _ _ answers (λ is. sim_fault m k old new sink sink' (subst (SimCause m k old new sink sink') is cause));
+}
+
+-- a script was read
+pub IsSimCall-script : {S K : Type 0} (m : SourceTells S) (k : SinkTells K) (old new : S) (sink sink' : K) (s : plain.Script) (status : Status)
+    → IsReading m old new (Ok s) → IsScriptCall k s sink sink' status → IsSimCall m k old new sink sink' status
+IsSimCall-script m k old new sink sink' s status read call =
+    IsSimCall-from m k old new sink sink' status (script_cause m k old new sink sink' s status read.cause call)
+    (λ none. answers_along (m.left old) _ _ (script_answers k s sink sink' status call) (read.answers none))
+
+unread_sim : {S K : Type 0} (m : SourceTells S) (k : SinkTells K) (old new : S) (sink : K) (status : Status) → ReadCause m old new (Err status)
+    → SimCause m k old new sink sink status
+unread_sim m k old new sink Done h = absurd h
+unread_sim m k old new sink Usage h = h
+unread_sim m k old new sink (Script f n) h = (h, refl)
+unread_sim m k old new sink NotBuilt h = absurd h
+unread_sim m k old new sink ReadFault h = (h, refl)
+unread_sim m k old new sink WriteFault h = absurd h
+unread_sim m k old new sink Memory h = record { unwritten = refl; read = h }
+
+-- no script was read
+pub IsSimCall-refused : {S K : Type 0} (m : SourceTells S) (k : SinkTells K) (old new : S) (sink : K) (status : Status)
+    → IsReading m old new (Err status) → IsSimCall m k old new sink sink status
+IsSimCall-refused m k old new sink status read =
+    IsSimCall-from m k old new sink sink status (unread_sim m k old new sink status read.cause)
+    (λ none. answers_along (m.left old) _ _ (refused_answers status) (read.answers none))

@@ -13,7 +13,7 @@ use Rattle.nm_report.specs.declared.line_result.LineResult.{LineResult}
 use Rattle.nm_report.specs.declared.line_result.LineResult.TheVariants.{Loaded, Stored, Added, Met, Missed}
 use Rattle.nm_report.specs.Texts.{cpu_text}
 use Rattle.nm_report.specs.Summary.{IsNoAwait}
-use Rattle.nm_report.specs.Follows.{IsPiece, AreMade, access_of}
+use Rattle.nm_report.specs.Follows.{IsPiece, AreMade, access_made}
 use Rattle.nm_top.specs.Output.{IsServed, IsOutput, IsOutputOf, first_program}
 
 -- what a line that is no await gives, and its access, where its word has x
@@ -24,10 +24,10 @@ given_of (Add v w n) x = Added x
 given_of (Await v w y max) x = Stored
 
 abbrev access_at : Line → ℕ → Access
-access_at (Load v w) x = access_of 0 v w (kind.Load x)
-access_at (Store v w y) x = access_of 0 v w (kind.Store y)
-access_at (Add v w n) x = access_of 0 v w (kind.Add x n)
-access_at (Await v w y max) x = access_of 0 v w (kind.Load x)
+access_at (Load v w) x = access_made 0 v w (kind.Load x)
+access_at (Store v w y) x = access_made 0 v w (kind.Store y)
+access_at (Add v w n) x = access_made 0 v w (kind.Add x n)
+access_at (Await v w y max) x = access_made 0 v w (kind.Load x)
 
 record IsOne (l : Line) (r : LineResult) (piece : List Access) : Type 0 where
   had : ℕ

@@ -8,7 +8,7 @@ use Rattle.nm_base.specs.declared.geometry.VPage.{VPage}
 use Rattle.nm_base.specs.Geometry.{Geometry, vpage_at, backing_page}
 use Rattle.nm_flat.specs.declared.access.Access.{Access}
 use Rattle.nm_flat.specs.declared.access.AccessKind.TheVariants as kind
-use Rattle.nm_flat.specs.Memory.{Memory, IsMemory, IsLegal, IsTrueOf, memory_after, with_access, empty_memory, page_of, place, word_count}
+use Rattle.nm_flat.specs.Memory.{Memory, IsMemory, IsLegal, IsTrueOf, memory_after, with_access, empty_memory, mapped_page, place, flat_size}
 use Rattle.nm_flat.proofs.Flat.{IsMemory-start, IsMemory-read, IsMemory-write}
 use Rattle.nm_flat.proofs.Legal.{IsLegal-push, memory_after-push}
 use Rattle.nm_still.specs.Still.{Still}
@@ -33,7 +33,7 @@ pub record HasRun (g : Geometry) (program : List Line) (i : ℕ) (machine : Stil
   pub memory : IsMemory g machine.words (memory_after g accesses)
 
 -- nothing was run yet
-pub HasRun-start : (g : Geometry) (program : List Line) (machine : Still) (results : List LineResult) → machine.geometry ≡ g → machine.words ≡ replicate (word_count g) 0 → results ≡ [] → HasRun g program 0 machine results
+pub HasRun-start : (g : Geometry) (program : List Line) (machine : Still) (results : List LineResult) → machine.geometry ≡ g → machine.words ≡ replicate (flat_size g) 0 → results ≡ [] → HasRun g program 0 machine results
 HasRun-start g program machine results same zero none =
     let here : HasRun g program 0 machine [] = record {
       accesses = [];
@@ -127,7 +127,7 @@ pub writable : (g : Geometry) (v : ℕ) → IsSomeAnd (vpage_at g v) (λ p. IsTr
 writable g v h = some_writable (vpage_at g v) h
 
 -- a load was made
-pub load_made : (old new : Still) (v w x : ℕ) → IsAccess old.geometry (Load v w) → x ≡ get_or old.words (place old.geometry (page_of old.geometry v) w) 0 → new ≡ old → Makes (Load v w) (Loaded x) old new
+pub load_made : (old new : Still) (v w x : ℕ) → IsAccess old.geometry (Load v w) → x ≡ get_or old.words (place old.geometry (mapped_page old.geometry v) w) 0 → new ≡ old → Makes (Load v w) (Loaded x) old new
 load_made old new v w x line read same = record {
   access = record { cpu = 0; vpage = v; word = w; kind = kind.Load x };
   piece = refl;
@@ -137,7 +137,7 @@ load_made old new v w x line read same = record {
 }
 
 -- a store was made
-pub store_made : (old new : Still) (v w x : ℕ) → IsAccess old.geometry (Store v w x) → new ≡ record old { words = set old.words (place old.geometry (page_of old.geometry v) w) x } → Makes (Store v w x) Stored old new
+pub store_made : (old new : Still) (v w x : ℕ) → IsAccess old.geometry (Store v w x) → new ≡ record old { words = set old.words (place old.geometry (mapped_page old.geometry v) w) x } → Makes (Store v w x) Stored old new
 store_made old new v w x line write = record {
   access = record { cpu = 0; vpage = v; word = w; kind = kind.Store x };
   piece = refl;
@@ -147,15 +147,15 @@ store_made old new v w x line write = record {
 }
 
 -- an add was made
-pub add_made : (old new : Still) (v w x had sum : ℕ) → IsAccess old.geometry (Add v w x) → had ≡ get_or old.words (place old.geometry (page_of old.geometry v) w) 0 → sum ≡ (had + x) % 2 ^ 64 → new ≡ record old { words = set old.words (place old.geometry (page_of old.geometry v) w) sum } → Makes (Add v w x) (Added had) old new
+pub add_made : (old new : Still) (v w x had sum : ℕ) → IsAccess old.geometry (Add v w x) → had ≡ get_or old.words (place old.geometry (mapped_page old.geometry v) w) 0 → sum ≡ (had + x) % 2 ^ 64 → new ≡ record old { words = set old.words (place old.geometry (mapped_page old.geometry v) w) sum } → Makes (Add v w x) (Added had) old new
 add_made old new v w x had sum line read adds write =
-    let seen : (m : Memory) → IsMemory old.geometry old.words m → had ≡ m (page_of old.geometry v) w = λ m is. read ∙ IsMemory-read old.geometry old.words m v w is (writable old.geometry v line.0) line.1 in
+    let seen : (m : Memory) → IsMemory old.geometry old.words m → had ≡ m (mapped_page old.geometry v) w = λ m is. read ∙ IsMemory-read old.geometry old.words m v w is (writable old.geometry v line.0) line.1 in
     record {
       access = record { cpu = 0; vpage = v; word = w; kind = kind.Add had x };
       piece = refl;
       truth = seen;
       memory = λ m is.
-          let value : sum ≡ (m (page_of old.geometry v) w + x) % 2 ^ 64 = adds ∙ ap (λ y. (y + x) % 2 ^ 64) (seen m is) in
-          rw (write, value) (IsMemory-write old.geometry old.words m v w ((m (page_of old.geometry v) w + x) % 2 ^ 64) is (writable old.geometry v line.0) line.1);
+          let value : sum ≡ (m (mapped_page old.geometry v) w + x) % 2 ^ 64 = adds ∙ ap (λ y. (y + x) % 2 ^ 64) (seen m is) in
+          rw (write, value) (IsMemory-write old.geometry old.words m v w ((m (mapped_page old.geometry v) w + x) % 2 ^ 64) is (writable old.geometry v line.0) line.1);
       geometry = ap (λ s. s.geometry) write;
     }

@@ -28,14 +28,14 @@ abbrev pub first_program : Script → List Line
 first_program s = slice_index_or s.programs 0 []
 
 -- accesses of processor 0 follow its whole program with these results, and are legal in flat memory
-pub record IsRun (s : Script) (results : List LineResult) : Type 0 where
+pub record IsScriptRun (s : Script) (results : List LineResult) : Type 0 where
   pub accesses : List Access
   pub follows : FollowsProgram 0 true (first_program s) results accesses
   pub legal : IsLegal s.geometry accesses
 
 -- the text has the lines of processor 0, with the results of a run
 abbrev pub IsOutputOf : Script → List ℕ → Type 0
-IsOutputOf s text = (results : List LineResult) × IsRun s results × (text ≡ cpu_text 0 (first_program s) results)
+IsOutputOf s text = (results : List LineResult) × IsScriptRun s results × (text ≡ cpu_text 0 (first_program s) results)
 
 -- the bytes are a script that is served, and the text is its output
 pub record IsOutput (bytes text : List ℕ) : Type 0 where

@@ -2,13 +2,12 @@
 #![tactic(auto)]
 
 mod call;
+mod generated;
 mod run;
+mod sim;
 pub mod status;
+mod writing;
 
 pub use call::{nomad_main, one_output, plain_call};
+pub use sim::script_call;
 pub use status::Status;
-
-#[cfg(test)]
-mod part_tests;
-#[cfg(test)]
-mod tests;

@@ -4,7 +4,7 @@ ghost use Rattle.std.specs.Prelude.{◌≡◌, ◌↔◌, ◌<◌, IsTrue, IfOk}
 ghost use Rattle.std.specs.List.{AllByRecursion};
 ghost use Rattle.nm_script.specs.Script.{IsScript, IsAccess};
 ghost use Rattle.nm_report.specs.Summary.{IsNoAwait};
-ghost use Rattle.nm_top.specs.Output.{IsSerial, IsServed, IsRun};
+ghost use Rattle.nm_top.specs.Output.{IsSerial, IsServed, IsScriptRun};
 ghost use Rattle.nm_top.specs.Running.{Makes};
 
 use nm_still::Still;
@@ -52,7 +52,7 @@ fn is_await(line: Line) -> bool
 pub fn run(alloc: Global, script: &Script) -> Result<Vec<LineResult>, AllocError>
     requires script { IsScript script.now }
     requires served { IsServed script.now }
-    ensures { IfOk result (λ results. IsRun script.now results.items) }
+    ensures { IfOk result (λ results. IsScriptRun script.now results.items) }
 {
     let mut machine = Still::start(alloc, &script.geometry)?;
     let program = &script.programs[0];

@@ -1,9 +1,11 @@
 //! How a call of the program ended.
 
-ghost use Rattle.std.specs.Prelude.{◌≡◌};
-ghost use Rattle.nm_top.specs.Answer.{number_of};
+ghost use Rattle.std.specs.Prelude.{◌≡◌, Some};
+ghost use Rattle.nm_top.specs.Status.{exit_number, fault_name, status_line, status_of_read, status_of_text};
 
-use nm_script::ScriptFault;
+use nm_io::ReadRefusal;
+use nm_script::{ScriptFault, ScriptRefusal};
+use std::fmt;
 
 /// How a call ended.
 #[derive(Clone, Copy, Debug, PartialEq, Eq)]
@@ -32,7 +34,7 @@ pub enum Status {
 impl Status {
     /// The number with which the program ends: 0, or 2 to 6.
     pub fn number(&self) -> u8
-        ensures { result ≡ number_of self.now }
+        ensures { result ≡ exit_number self.now }
     {
         match self {
             Status::Done => 0,
@@ -42,5 +44,70 @@ impl Status {
             Status::WriteFault => 5,
             Status::Memory => 6,
         }
+    }
+}
+
+/// The line that the program writes to standard error, without its newline; nothing for `Done`.
+impl fmt::Display for Status {
+    ghost output = { λ status. Some (status_line status) };
+
+    fn fmt<W: fmt::Write>(&self, f: &mut fmt::Formatter<W>) -> fmt::Result {
+        match self {
+            Status::Done => Ok(()),
+            Status::Usage => write!(f, "nomad: usage"),
+            Status::Script { fault, line } => {
+                let name = name_of(*fault);
+                write!(f, "nomad: line {line}: {name}")
+            }
+            Status::NotBuilt => write!(f, "nomad: not built"),
+            Status::ReadFault => write!(f, "nomad: read fault"),
+            Status::WriteFault => write!(f, "nomad: write fault"),
+            Status::Memory => write!(f, "nomad: memory"),
+        }
+    }
+}
+
+/// The name of a fault.
+fn name_of(fault: ScriptFault) -> &'static str
+    ensures { result.now ≡ fault_name fault }
+{
+    match fault {
+        ScriptFault::TooLong => "TooLong",
+        ScriptFault::Empty => "Empty",
+        ScriptFault::BadHeader => "BadHeader",
+        ScriptFault::BadLine => "BadLine",
+        ScriptFault::BadNumber => "BadNumber",
+        ScriptFault::OutOfRange => "OutOfRange",
+        ScriptFault::DuplicateMap => "DuplicateMap",
+        ScriptFault::Unmapped => "Unmapped",
+        ScriptFault::ReadOnly => "ReadOnly",
+        ScriptFault::MissingLine => "MissingLine",
+        ScriptFault::TooManyPages => "TooManyPages",
+        ScriptFault::TooManyTiers => "TooManyTiers",
+        ScriptFault::TooFewTiers => "TooFewTiers",
+    }
+}
+
+/// The status of a source that was not read to its end.
+pub(crate) fn status_of_read(refusal: ReadRefusal) -> Status
+    ensures { result ≡ status_of_read refusal }
+{
+    match refusal {
+        ReadRefusal::ReadFault => Status::ReadFault,
+        ReadRefusal::TooLong => Status::Script {
+            fault: ScriptFault::TooLong,
+            line: 0,
+        },
+        ReadRefusal::Memory => Status::Memory,
+    }
+}
+
+/// The status of a text that was refused.
+pub(crate) fn status_of_text(refusal: ScriptRefusal) -> Status
+    ensures { result ≡ status_of_text refusal }
+{
+    match refusal {
+        ScriptRefusal::At { fault, line } => Status::Script { fault, line },
+        ScriptRefusal::Memory => Status::Memory,
     }
 }

@@ -1,6 +1,6 @@
 -- Items at their places.
 use Rattle.std.proofs.Common.{rules, ◌↔◌, IsTrue, IsSome, is_some, MatchOption, ◌≡◌, ◌≢◌, ℕ, zero, suc, ◌+◌, ◌<◌, List, [], ◌∷◌, ◌++◌, Option, Some, None, length, take, drop, get_or, set, arith}
-use Rattle.nm_view.specs.Lists.{find, edit, erase, put, IsAt}
+use Rattle.nm_view.specs.Lists.{find, edit, erase, put, IsPlaceOf}
 
 pub find-more : {A : Type 0} (key : A → ℕ) (k i : ℕ) (xs : List A) (d : A) → i < length xs → find key k (take i xs) ≡ None → key (get_or xs i d) ≢ k → find key k (take (i + 1) xs) ≡ None
 find-more key k i [] d lt f n = let bad : ⊥ = omega arith in absurd bad
@@ -40,23 +40,23 @@ erase-none key k [] f = grind arith
 erase-none key k (x ∷ xs) f = grind (arith, erase-none key k xs)
 
 -- the same, of the place of an item
-pub found : {A : Type 0} {key : A → ℕ} {k i : ℕ} {xs : List A} → IsAt key k xs i → (d : A) → find key k xs ≡ Some (get_or xs i d)
+pub found : {A : Type 0} {key : A → ℕ} {k i : ℕ} {xs : List A} → IsPlaceOf key k xs i → (d : A) → find key k xs ≡ Some (get_or xs i d)
 found h d = find-at _ _ _ _ d h.within (h.number d) h.first
 
-pub put_found : {A : Type 0} (key : A → ℕ) (y : A) (i : ℕ) (xs : List A) → IsAt key (key y) xs i → put key y xs ≡ set xs i y
+pub put_found : {A : Type 0} (key : A → ℕ) (y : A) (i : ℕ) (xs : List A) → IsPlaceOf key (key y) xs i → put key y xs ≡ set xs i y
 put_found key y i xs h = put-at key y i xs y h.within (h.number y) h.first
 
-pub edit_found : {A : Type 0} (key : A → ℕ) (k : ℕ) (f : A → A) (i : ℕ) (xs : List A) (d : A) → IsAt key k xs i → edit key k f xs ≡ set xs i (f (get_or xs i d))
+pub edit_found : {A : Type 0} (key : A → ℕ) (k : ℕ) (f : A → A) (i : ℕ) (xs : List A) (d : A) → IsPlaceOf key k xs i → edit key k f xs ≡ set xs i (f (get_or xs i d))
 edit_found key k f i xs d h = edit-at key k f i xs d h.within (h.number d) h.first
 
-pub erase_found : {A : Type 0} {key : A → ℕ} {k i : ℕ} {xs : List A} → IsAt key k xs i → erase key k xs ≡ take i xs ++ drop (suc i) xs
+pub erase_found : {A : Type 0} {key : A → ℕ} {k i : ℕ} {xs : List A} → IsPlaceOf key k xs i → erase key k xs ≡ take i xs ++ drop (suc i) xs
 erase_found h = erase-at _ _ _ _ h.within h.number h.first
 
 pub find-whole : {A : Type 0} (key : A → ℕ) (k : ℕ) (xs : List A) → find key k (take (length xs) xs) ≡ None → find key k xs ≡ None
 find-whole key k [] f = f
 find-whole key k (x ∷ xs) f = grind (arith, find-whole key k xs)
 
-pub found_some : {A : Type 0} (key : A → ℕ) (k : ℕ) (xs : List A) (o : Option ℕ) → MatchOption o (find key k xs ≡ None) (IsAt key k xs) → IsTrue (is_some o) ↔ IsSome (find key k xs)
+pub found_some : {A : Type 0} (key : A → ℕ) (k : ℕ) (xs : List A) (o : Option ℕ) → MatchOption o (find key k xs ≡ None) (IsPlaceOf key k xs) → IsTrue (is_some o) ↔ IsSome (find key k xs)
 found_some key k xs None h = rw h (search rules)
 found_some key k [] (Some i) h = let bad : ⊥ = omega (arith, h.within) in absurd bad
 found_some key k (x ∷ xs) (Some i) h = rw (found h x) (search rules)

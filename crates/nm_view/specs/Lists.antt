@@ -27,7 +27,7 @@ Once key [] = Unit {0}
 Once key (x ∷ xs) = (find key (key x) xs ≡ None) × Once key xs
 
 -- i is the place of the first item of number k
-pub record IsAt {A : Type 0} (key : A → ℕ) (k : ℕ) (xs : List A) (i : ℕ) : Type 0 where
+pub record IsPlaceOf {A : Type 0} (key : A → ℕ) (k : ℕ) (xs : List A) (i : ℕ) : Type 0 where
   pub within : i < length xs
   pub number : (d : A) → key (slice_index_or xs i d) ≡ k
   pub first : find key k (take i xs) ≡ None

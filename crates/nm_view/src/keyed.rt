@@ -1,7 +1,7 @@
 //! Lists whose items have a number each. An item is found, changed and taken out by its number.
 
 ghost use Rattle.std.specs.Prelude.{◌≡◌, ◌↔◌, ℕ, ◌≤◌, length, vec_capacity, MatchOption, IsTrue, IsSome, None};
-ghost use Rattle.nm_view.specs.Lists.{find, put, erase, IsAt};
+ghost use Rattle.nm_view.specs.Lists.{find, put, erase, IsPlaceOf};
 
 use crate::view::{CacheEntry, OpenOp, Owned, Peeked};
 
@@ -76,7 +76,7 @@ impl Keyed for OpenOp {
 
 /// The place of the first item of a number.
 pub fn place<T: Keyed>(items: &[T], key: u32) -> Option<usize>
-    ensures { MatchOption result (find T.key key items.now ≡ None) (IsAt T.key key items.now) }
+    ensures { MatchOption result (find T.key key items.now ≡ None) (IsPlaceOf T.key key items.now) }
 {
     for i in 0..items.len() {
         if items[i].key() == key {

@@ -8,11 +8,11 @@ use Rattle.std.proofs.lemmas.Cmp.{ranked}
 use Rattle.std.proofs.lemmas.Bool.Decides.{nat_tests}
 use Rattle.nm_xlat.specs.declared.xlat_cache.CachedPage.{CachedPage}
 use Rattle.nm_xlat.specs.Entries.{entry_at, IsBelowFirst, IsAscending, put_entry, entries_without}
-use Rattle.nm_xlat.specs.Places.{IsAt, IsGap, IsFrom}
+use Rattle.nm_xlat.specs.Places.{IsEntryAt, IsGap, IsFrom}
 use Rattle.nm_xlat.specs.Translations.{IsLeastFrom, HasNoneFrom}
 use Rattle.nm_xlat.proofs.Ascending.{entry_at_below, IsBelowFirst-below}
 
-pub at_within : (v : ℕ) (xs : List CachedPage) (i : ℕ) → IsAt v xs i → i < length xs
+pub at_within : (v : ℕ) (xs : List CachedPage) (i : ℕ) → IsEntryAt v xs i → i < length xs
 at_within v [] i h = absurd h
 at_within v (x ∷ xs) zero h = omega arith
 at_within v (x ∷ xs) (suc i) h = omega (arith, at_within v xs i h.1)
@@ -23,7 +23,7 @@ gap_within v [] (suc i) h = absurd h
 gap_within v (x ∷ xs) (suc i) h = omega (arith, gap_within v xs i h.1)
 
 -- the entry at a page's place is the page's
-pub entry_at-at : (v : ℕ) (xs : List CachedPage) (i : ℕ) (d : CachedPage) → IsAt v xs i → entry_at v xs ≡ Some (get_or xs i d).entry
+pub entry_at-at : (v : ℕ) (xs : List CachedPage) (i : ℕ) (d : CachedPage) → IsEntryAt v xs i → entry_at v xs ≡ Some (get_or xs i d).entry
 entry_at-at v [] i d h = absurd h
 entry_at-at v (x ∷ xs) zero d h = grind (arith, nat_tests)
 entry_at-at v (x ∷ xs) (suc i) d h = grind (arith, nat_tests, entry_at-at v xs i d h.1)
@@ -35,7 +35,7 @@ entry_at-gap v [] (suc i) a h = refl
 entry_at-gap v (x ∷ xs) (suc i) a h = grind (arith, nat_tests, entry_at-gap v xs i a.1 h.1)
 
 -- a put at a page's place writes over it
-pub put_entry-at : (x : CachedPage) (ys : List CachedPage) (i : ℕ) → IsAt x.page ys i → put_entry x ys ≡ set ys i x
+pub put_entry-at : (x : CachedPage) (ys : List CachedPage) (i : ℕ) → IsEntryAt x.page ys i → put_entry x ys ≡ set ys i x
 put_entry-at x [] i h = absurd h
 put_entry-at x (y ∷ ys) zero h = grind (arith, nat_tests)
 put_entry-at x (y ∷ ys) (suc i) h = grind (arith, nat_tests, put_entry-at x ys i h.1)
@@ -53,7 +53,7 @@ entries_without_below v [] b a = refl
 entries_without_below v (x ∷ xs) b a = grind (arith, nat_tests, entries_without_below v xs (IsBelowFirst-below v x.page xs b a.0) a.1)
 
 -- a drop at a page's place removes it
-pub entries_without-at : (v : ℕ) (xs : List CachedPage) (i : ℕ) → IsAscending xs → IsAt v xs i → entries_without v xs ≡ remove xs i
+pub entries_without-at : (v : ℕ) (xs : List CachedPage) (i : ℕ) → IsAscending xs → IsEntryAt v xs i → entries_without v xs ≡ remove xs i
 entries_without-at v [] i a h = absurd h
 entries_without-at v (x ∷ xs) zero a h = grind (arith, nat_tests, entries_without_below v xs (let P : ℕ → Type 0 = λ p. IsBelowFirst p xs in subst P h a.0) a.1)
 entries_without-at v (x ∷ xs) (suc i) a h = grind (arith, nat_tests, entries_without-at v xs i a.1 h.1)
@@ -82,7 +82,7 @@ pages_ascend (x ∷ xs) a zero (suc j) d l h = first_le x xs j d a (omega arith)
 pages_ascend (x ∷ xs) a (suc i) (suc j) d l h = pages_ascend xs a.1 i j d (omega arith) (omega arith)
 
 -- a page that stands in a list in order is at its place
-pub at_from_equal : (v : ℕ) (xs : List CachedPage) (i : ℕ) (d : CachedPage) → IsAscending xs → i < length xs → (get_or xs i d).page ≡ v → IsAt v xs i
+pub at_from_equal : (v : ℕ) (xs : List CachedPage) (i : ℕ) (d : CachedPage) → IsAscending xs → i < length xs → (get_or xs i d).page ≡ v → IsEntryAt v xs i
 at_from_equal v [] i d a l h = absurd (omega arith)
 at_from_equal v (x ∷ xs) zero d a l h = h
 at_from_equal v (x ∷ xs) (suc i) d a l h = (let f : x.page < (get_or xs i d).page = first_le x xs i d a (omega arith) in omega arith, at_from_equal v xs i d a.1 (omega arith) h)
@@ -101,12 +101,12 @@ comparisons_rise v xs a i j d le in_range =
     grind (arith, nat_tests)
 
 -- a binary search by page ends at the page, or in its gap
-pub searched : (v : ℕ) (xs : List CachedPage) → IsAscending xs → (r : Result ℕ ℕ) → IsSearchInRange r (length xs) → IsBinarySearchResult (λ x. nat_cmp x.page v) xs r → IfOk r (IsAt v xs) × IfErr r (IsGap v xs)
+pub searched : (v : ℕ) (xs : List CachedPage) → IsAscending xs → (r : Result ℕ ℕ) → IsSearchInRange r (length xs) → IsBinarySearchResult (λ x. nat_cmp x.page v) xs r → IfOk r (IsEntryAt v xs) × IfErr r (IsGap v xs)
 searched v [] a (Ok i) l equal = absurd (omega arith)
 searched v (x ∷ xs) a (Ok i) l equal = (at_from_equal v (x ∷ xs) i x a l (ranked _ v _ (sym (equal x))), tt)
 searched v xs a (Err i) l parted = (tt, gap_from_parts v xs i l (λ k d h. ranked _ v _ (sym ((parted (comparisons_rise v xs a)).0 k d (omega arith) h))) (λ k d h m. ranked _ v _ (sym ((parted (comparisons_rise v xs a)).1 k d h m))))
 
-pub from_at : (v : ℕ) (xs : List CachedPage) (i : ℕ) → IsAt v xs i → IsFrom v xs i
+pub from_at : (v : ℕ) (xs : List CachedPage) (i : ℕ) → IsEntryAt v xs i → IsFrom v xs i
 from_at v [] i h = absurd h
 from_at v (x ∷ xs) zero h = omega arith
 from_at v (x ∷ xs) (suc i) h = (h.0, from_at v xs i h.1)

@@ -5,7 +5,7 @@ use Rattle.std.proofs.lemmas.Bool.Decides.{nat_tests}
 use Rattle.nm_xlat.specs.declared.translations.Entry.{Entry}
 use Rattle.nm_xlat.specs.declared.xlat_cache.CachedPage.{CachedPage}
 use Rattle.nm_xlat.specs.Entries.{entry_at, IsAscending, put_entry, entries_without, staying_entries}
-use Rattle.nm_xlat.specs.Places.{IsAt, IsGap}
+use Rattle.nm_xlat.specs.Places.{IsEntryAt, IsGap}
 use Rattle.nm_xlat.specs.FullyAssociative.{FullyAssociative, put_in}
 use Rattle.nm_xlat.proofs.Ascending.{least_page_first, IsAscending-put_entry}
 use Rattle.nm_xlat.proofs.Placed.{entry_at-at, entry_at-gap, put_entry-at, put_entry-gap, entries_without_below, gap_in_rest}
@@ -26,7 +26,7 @@ staying_entries_full room v x xs a new full =
     grind (arith, nat_tests)
 
 -- a put at the page's place writes over it
-pub put_in-at : (x : CachedPage) (c : FullyAssociative) (i : ℕ) → IsAt x.page c.entries i → put_in x c ≡ record c { entries = set c.entries i x }
+pub put_in-at : (x : CachedPage) (c : FullyAssociative) (i : ℕ) → IsEntryAt x.page c.entries i → put_in x c ≡ record c { entries = set c.entries i x }
 put_in-at x c i h =
     let d : CachedPage = x in
     let stays = staying_entries_known c.room x.page c.entries c.entries _ (entry_at-at x.page c.entries i d h) in
@@ -46,7 +46,7 @@ pub put_in-full : (x : CachedPage) (c : FullyAssociative) (i : ℕ) → IsAscend
 put_in-full x c i a h one full = rw (full_of x c.room c.entries i a h one full) refl
 
 -- each of these keeps the order
-pub ascending-set : (x : CachedPage) (xs : List CachedPage) (i : ℕ) → IsAscending xs → IsAt x.page xs i → IsAscending (set xs i x)
+pub ascending-set : (x : CachedPage) (xs : List CachedPage) (i : ℕ) → IsAscending xs → IsEntryAt x.page xs i → IsAscending (set xs i x)
 ascending-set x xs i a h = rw (← put_entry-at x xs i h) (IsAscending-put_entry x xs a)
 
 pub ascending-insert : (x : CachedPage) (xs : List CachedPage) (i : ℕ) → IsAscending xs → IsGap x.page xs i → IsAscending (insert xs i x)

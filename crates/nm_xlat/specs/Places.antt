@@ -4,10 +4,10 @@ use Rattle.nm_xlat.specs.declared.xlat_cache.CachedPage.{CachedPage}
 use Rattle.nm_xlat.specs.Entries.{IsBelowFirst}
 
 -- page v stands at place i, and the pages before it are smaller
-abbrev pub IsAt : ℕ → List CachedPage → ℕ → Type 0
-IsAt v [] i = ⊥
-IsAt v (x ∷ xs) zero = x.page ≡ v
-IsAt v (x ∷ xs) (suc i) = (x.page < v) × IsAt v xs i
+abbrev pub IsEntryAt : ℕ → List CachedPage → ℕ → Type 0
+IsEntryAt v [] i = ⊥
+IsEntryAt v (x ∷ xs) zero = x.page ≡ v
+IsEntryAt v (x ∷ xs) (suc i) = (x.page < v) × IsEntryAt v xs i
 
 -- page v would go to place i: the pages before it are smaller, and the page at it is greater
 abbrev pub IsGap : ℕ → List CachedPage → ℕ → Type 0

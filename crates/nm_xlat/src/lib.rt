@@ -1,8 +1,6 @@
 //! Translation caches: the trait `Translations`, and a fully associative cache.
 #![tactic(auto)]
 
-#[cfg(test)]
-mod tests;
 mod translations;
 mod xlat_cache;
 

@@ -35,7 +35,7 @@ impl Model for XlatCache {
 impl XlatCache {
     ghost use Rattle.nm_xlat.specs.Entries.{entry_at};
     ghost use Rattle.nm_xlat.specs.FullyAssociative.{put_in};
-    ghost use Rattle.nm_xlat.specs.Places.{IsAt, IsGap, IsFrom};
+    ghost use Rattle.nm_xlat.specs.Places.{IsEntryAt, IsGap, IsFrom};
 
     /// An empty cache that may have `room` entries. Its memory is taken here, and the only error is its want.
     pub fn with_room(alloc: Global, room: u32) -> Result<XlatCache, AllocError>
@@ -50,7 +50,7 @@ impl XlatCache {
 
     // Where the entry of v is, or else where it would go.
     fn search(&self, v: u32) -> Result<usize, usize>
-        ensures found { IfOk result (IsAt v self.now.entries) }
+        ensures found { IfOk result (IsEntryAt v self.now.entries) }
         ensures absent { IfErr result (IsGap v self.now.entries) }
     {
         self.entries.binary_search_by_key(&v, |x| x.page)

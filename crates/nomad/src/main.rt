@@ -30,15 +30,10 @@ fn words(rt: &(impl Env + AllocGlobal)) -> Result<Vec<String>, Status> {
     }
 }
 
-/// Writes the line on standard error of a status other than `Done`.
+/// Writes the line of a status other than `Done` to standard error.
 fn tell(rt: &impl Eprint, status: Status) -> io::Result<()> {
-    match status {
-        Status::Done => Ok(()),
-        Status::Usage => eprintln!(rt; "nomad: usage"),
-        Status::Script { fault, line } => eprintln!(rt; "nomad: line {line}: {fault:?}"),
-        Status::NotBuilt => eprintln!(rt; "nomad: not built"),
-        Status::ReadFault => eprintln!(rt; "nomad: read fault"),
-        Status::WriteFault => eprintln!(rt; "nomad: write fault"),
-        Status::Memory => eprintln!(rt; "nomad: memory"),
+    if status == Status::Done {
+        return Ok(());
     }
+    eprintln!(rt; "{status}")
 }

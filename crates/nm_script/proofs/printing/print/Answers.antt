@@ -3,7 +3,8 @@ use Rattle.std.proofs.lemmas.Grind.{common_steps}
 use Rattle.nm_script.specs.Script.{script_text}
 use Rattle.nm_script.specs.Grammar.{IsScriptText}
 use Rattle.nm_script.specs.Reading.{reading}
-use Rattle.nm_script.proofs.PrintedAgain.{printed-text, printed-read, printed-only}
+use Rattle.nm_script.proofs.Texts.{printed-read, printed-only}
+use Rattle.nm_script.proofs.Walked.{printed-text}
 use Rattle.nm_script.proofs.printing.print.Goals as goal
 
 pub returns-clause-again : goal.returns-clause-again

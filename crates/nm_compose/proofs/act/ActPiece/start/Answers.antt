@@ -4,7 +4,7 @@ use Rattle.nm_compose.proofs.act.ActPiece.start.Goals as goal
 
 pub returns-clause-step : goal.returns-clause-step
 returns-clause-step c = λ g view may.
-    let some = some-act c.args.self.now.action in
+    let some = some-act c.args.self.now.action g in
     record {
       quiet = may.quiet;
       permitted = may.allowed;

@@ -5,4 +5,4 @@ use Rattle.nm_survey.proofs.survey.SurveyPlanAct.begin.Goals as goal
 
 pub returns-clause-run : goal.returns-clause-run
 returns-clause-run c = λ g view may.
-    (gives-now c.args.self.now c.go.new.self Locking c.go.result (IsSurvey c.args.self.now.made) g view view c.go.ensures.stage c.go.ensures.act (runs-first c.args.self.now.made g view may)).run
+    (gives-now c.args.self.now c.go.new.self Locking c.go.result (IsSurvey c.args.self.now.made g) g view view c.go.ensures.stage c.go.ensures.act (runs-first c.args.self.now.made g view may)).run

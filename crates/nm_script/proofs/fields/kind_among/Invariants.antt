@@ -1,6 +1,0 @@
-use Rattle.std.proofs.Common.{◌≡◌, drop}
-use Rattle.nm_script.specs.Fields.{kind_among}
-use Rattle.nm_script.proofs.fields.kind_among.Given as goal
-
-abbrev pub invariant-loop-kind : goal.invariant-loop-kind
-invariant-loop-kind l = kind_among l.kinds l.word ≡ kind_among (drop l.kind-index l.kinds) l.word

@@ -1,0 +1,6 @@
+//! The rows, by crate.
+
+mod generated;
+mod reports;
+mod scripts;
+mod texts;

@@ -1,0 +1,68 @@
+//! The command `sim`.
+
+ghost use Rattle.std.specs.Prelude.{IfOk};
+ghost use Rattle.nm_script.specs.Script.{IsScript};
+ghost use Rattle.nm_top.specs.Answer.{IsSimCall, IsReading, IsScriptCall};
+ghost use Rattle.nm_top.specs.Output.{IsOutputOf, IsServed};
+
+use crate::run::{is_served, run};
+use crate::status::{Status, status_of_read, status_of_text};
+use crate::writing::write_text;
+use nm_io::{Sink, Source, read_all};
+use nm_report::print_cpu;
+use nm_script::{Script, parse};
+use std::alloc::{AllocError, Global};
+
+/// The command `sim`: it reads a script, runs it and writes its output.
+pub fn sim_call<S: Source, K: Sink>(alloc: Global, source: &mut S, sink: &mut K) -> Status
+    ensures { IsSimCall (record { left = S.left; faults = S.faults; gives = S.read_gives })
+        (record { held = K.held; faults = K.faults; takes = K.write_takes })
+        source.old source.new sink.old sink.new result }
+{
+    match read_script(alloc, source) {
+        Ok(script) => script_call(alloc, &script, sink),
+        Err(status) => status,
+    }
+}
+
+/// The script that the source gives, read to its end, or the status of a source that gives none.
+fn read_script<S: Source>(alloc: Global, source: &mut S) -> Result<Script, Status>
+    ensures script { IfOk result IsScript }
+    ensures reading { IsReading (record { left = S.left; faults = S.faults; gives = S.read_gives })
+        source.old source.new result }
+{
+    let bytes = match read_all(alloc, source) {
+        Ok(bytes) => bytes,
+        Err(refusal) => return Err(status_of_read(refusal)),
+    };
+    match parse(alloc, &bytes) {
+        Ok(script) => Ok(script),
+        Err(refusal) => Err(status_of_text(refusal)),
+    }
+}
+
+/// What `sim` answers to a script that it has read. `NotBuilt` comes exactly where the script is not served, which is
+/// decided without memory.
+pub fn script_call<K: Sink>(alloc: Global, script: &Script, sink: &mut K) -> Status
+    requires { IsScript script.now }
+    ensures { IsScriptCall (record { held = K.held; faults = K.faults; takes = K.write_takes })
+        script.now sink.old sink.new result }
+{
+    if !is_served(script) {
+        return Status::NotBuilt;
+    }
+    match script_output(alloc, script) {
+        Ok(text) => write_text(sink, &text),
+        Err(AllocError) => Status::Memory,
+    }
+}
+
+/// The output of a script that is served.
+fn script_output(alloc: Global, script: &Script) -> Result<Vec<u8>, AllocError>
+    requires script { IsScript script.now }
+    requires served { IsServed script.now }
+    ensures { IfOk result (λ text. IsOutputOf script.now text.items) }
+{
+    let results = run(alloc, script)?;
+    print_cpu(alloc, 0, &script.programs[0], &results)
+}
