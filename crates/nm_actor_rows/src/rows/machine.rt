@@ -73,7 +73,8 @@ fn fits(g: &Geometry, view: &ActorView, action: Action, reply: Reply) -> bool
         (Action::TakeTurn { .. }, Reply::Done) => true,
         (Action::TakeTurn { .. }, Reply::Busy(word)) => word != 0,
         (Action::ReleaseTurn { .. }, Reply::Done) => true,
-        (Action::Scan { tier, index }, Reply::Word(word)) => index == 0 && scan_fits(g, view, tier, word),
+        (Action::Scan { tier, index }, Reply::Word(word)) => index == 0
+            && scan_fits(g, view, tier, word),
         (Action::GiveFrame { .. }, Reply::Word(_)) => true,
         (Action::PutFrame { .. }, Reply::Word(_)) => true,
         _ => false,

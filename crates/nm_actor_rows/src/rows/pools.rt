@@ -118,7 +118,10 @@ fn a_frame_is_taken_counted_and_put_back(rt: HostRuntime) -> Result<(), Fail> {
         Gives(Action::GiveFrame { frame: 8 }, Reply::Word(255)),
         Gives(Action::ReleaseTurn { tier: 1 }, Reply::Done),
     ];
-    assert_eq!(rt; take(&rt, &mut state, 1, 1, 7, &busy), Some(PoolEnd::Got(8)));
+    assert_eq!(rt;
+        take(&rt, &mut state, 1, 1, 7, &busy),
+        Some(PoolEnd::Got(8))
+    );
     let put = [
         Gives(Action::TakeTurn { tier: 1 }, Reply::Done),
         Gives(Action::PutFrame { frame: 8 }, Reply::Word(254)),
@@ -130,8 +133,14 @@ fn a_frame_is_taken_counted_and_put_back(rt: HostRuntime) -> Result<(), Fail> {
         Gives(Action::Scan { tier: 1, index: 0 }, Reply::Word(255)),
         Gives(Action::ReleaseTurn { tier: 1 }, Reply::Done),
     ];
-    assert_eq!(rt; level(&rt, &mut state, 1, 1, &counted), Some(PoolEnd::Level(8)));
+    assert_eq!(rt;
+        level(&rt, &mut state, 1, 1, &counted),
+        Some(PoolEnd::Level(8))
+    );
     // No more than the floor are free.
-    assert_eq!(rt; take(&rt, &mut state, 1, 1, 8, &counted), Some(PoolEnd::AtFloor(8)));
+    assert_eq!(rt;
+        take(&rt, &mut state, 1, 1, 8, &counted),
+        Some(PoolEnd::AtFloor(8))
+    );
     Ok(())
 }
