@@ -1,2 +1,5 @@
 pub mod Nesting
+pub mod Following
+pub mod Fitting
+pub mod Seating
 pub mod Surveyed

@@ -1,4 +1,6 @@
 //! The smallest parts, actors, chairs and boards, and rows that run them.
 mod boards;
 mod chairs;
+mod machine;
 mod parts;
+mod pools;

@@ -30,10 +30,14 @@ impl Board for LoneBoard {
     ghost board = { λ b. lone_board (lone_seats (lone_seat b.first.sat b.first.stood) (lone_seat b.second.sat b.second.stood)) b.rested };
 
     fn sit<T: Wait>(&mut self, _rt: &T, actor: u32) -> Alone {
+        let seated = LoneSeat {
+            sat: true,
+            stood: None,
+        };
         if actor == 0 {
-            self.first.sat = true;
+            self.first = seated;
         } else {
-            self.second.sat = true;
+            self.second = seated;
         }
         Alone::new(actor)
     }

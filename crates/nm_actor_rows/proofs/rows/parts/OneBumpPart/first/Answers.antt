@@ -1,4 +1,4 @@
-use Rattle.std.proofs.Common.{refl}
+use Rattle.std.proofs.Common.{[], refl}
 use Rattle.nm_actor_rows.proofs.rows.parts.OneBumpPart.first.Goals as goal
 
 pub returns-clause-step : goal.returns-clause-step
