@@ -13,5 +13,4 @@ ghost use Rattle.nm_core.specs.Runs.{IsRun, state_after};
 pub fn own_list_tells_the_view()
     ensures { (g : Geometry) (events : List Event) (actor : ℕ) → IsActor g actor → IsRun g events
         → view_of (state_after g events) actor ≡ view_after g (opening g actor) (own_of actor events) }
-{
-}
+{}
