@@ -195,7 +195,6 @@ const CALM: Action = Action::Soften {
 
 const OFF: u64 = u64::MAX - 1;
 
-/// What opening views permit: actor 0 is the processor, actor 1 the migrator.
 const OPENING: &[Row] = &[
     refused!(1, POLL),
     refused!(0, load!(0, 0)),
@@ -210,7 +209,11 @@ const OPENING: &[Row] = &[
     word!(0, POLL, 1),
 ];
 
-/// A lock or a turn that is held answers Busy, a mark that is another answers Lost; each stays as it was.
+/// What opening views permit: actor 0 is the processor, actor 1 the migrator.
+fn opening() -> &'static [Row] {
+    OPENING
+}
+
 const HELD: &[Row] = &[
     done!(0, LOCK),
     refused!(0, LOCK),
@@ -226,7 +229,11 @@ const HELD: &[Row] = &[
     done!(1, LOCK),
 ];
 
-/// Bumps are polled and acknowledged, and the acknowledgement is seen.
+/// A lock or a turn that is held answers Busy, a mark that is another answers Lost; each stays as it was.
+fn held() -> &'static [Row] {
+    HELD
+}
+
 const SHOOTDOWN: &[Row] = &[
     refused!(0, SEEN),
     word!(1, SEE, OFF),
@@ -241,7 +248,11 @@ const SHOOTDOWN: &[Row] = &[
     word!(1, SEE, u64::MAX),
 ];
 
-/// Page 0 gets frame 0, its first one, and virtual page 0 is mapped to it.
+/// Bumps are polled and acknowledged, and the acknowledgement is seen.
+fn shootdown() -> &'static [Row] {
+    SHOOTDOWN
+}
+
 const DEMAND: &[Row] = &[
     done!(0, LOCK),
     word!(0, look!(0), 0),
@@ -259,7 +270,11 @@ const DEMAND: &[Row] = &[
     done!(0, set_home!(0)),
 ];
 
-/// Both virtual pages are mapped, and the processor walks through both.
+/// Page 0 gets frame 0, its first one, and virtual page 0 is mapped to it.
+fn demand() -> &'static [Row] {
+    DEMAND
+}
+
 const WALKS: &[Row] = &[
     done!(0, map!(0, 5)),
     word!(0, look!(1), 0),
@@ -278,7 +293,11 @@ const WALKS: &[Row] = &[
     word!(0, POLL, 1),
 ];
 
-/// An acknowledgement keeps the translations that were peeked and not raised; loads, stores and adds go through them.
+/// Both virtual pages are mapped, and the processor walks through both.
+fn walks() -> &'static [Row] {
+    WALKS
+}
+
 const KEPT: &[Row] = &[
     word!(0, peek!(0), 0),
     word!(0, peek!(1), 0),
@@ -293,7 +312,11 @@ const KEPT: &[Row] = &[
     refused!(0, store!(1, 0, 1)),
 ];
 
-/// A translation whose page was not peeked again is dropped.
+/// An acknowledgement keeps the translations that were peeked and not raised; loads, stores and adds go through them.
+fn kept() -> &'static [Row] {
+    KEPT
+}
+
 const DROPPED: &[Row] = &[
     word!(0, peek!(0), 0),
     done!(0, SEEN),
@@ -301,7 +324,11 @@ const DROPPED: &[Row] = &[
     refused!(0, load!(1, 0)),
 ];
 
-/// The saved right to write is granted.
+/// A translation whose page was not peeked again is dropped.
+fn dropped() -> &'static [Row] {
+    DROPPED
+}
+
 const GRANTED: &[Row] = &[
     // Present, and the right to write is saved.
     done!(0, map!(0, 33)),
@@ -317,7 +344,11 @@ const GRANTED: &[Row] = &[
     word!(0, look!(0), 5),
 ];
 
-/// Stores and adds go only through a walk for writing; a hint is set and cleared; a frame is taken and put back.
+/// The saved right to write is granted.
+fn granted() -> &'static [Row] {
+    GRANTED
+}
+
 const ACCESSES: &[Row] = &[
     word!(0, POLL, 0),
     done!(0, SEEN),
@@ -346,7 +377,11 @@ const ACCESSES: &[Row] = &[
     done!(0, release!(0)),
 ];
 
-/// Page 0 gets frame 2, the first one of the slow tier, and virtual page 0 is mapped to it.
+/// Stores and adds go only through a walk for writing; a hint is set and cleared; a frame is taken and put back.
+fn accesses() -> &'static [Row] {
+    ACCESSES
+}
+
 const SLOW: &[Row] = &[
     done!(0, LOCK),
     word!(0, look!(0), 0),
@@ -365,7 +400,11 @@ const SLOW: &[Row] = &[
     done!(0, UNLOCK),
 ];
 
-/// The migrator begins to promote the page to frame 0: it clears the dirty bit, and flushes.
+/// Page 0 gets frame 2, the first one of the slow tier, and virtual page 0 is mapped to it.
+fn slow() -> &'static [Row] {
+    SLOW
+}
+
 const CLEARED: &[Row] = &[
     done!(1, LOCK),
     word!(1, look!(0), 0x2005),
@@ -385,7 +424,11 @@ const CLEARED: &[Row] = &[
     word!(1, SEE, OFF),
 ];
 
-/// The copy.
+/// The migrator begins to promote the page to frame 0: it clears the dirty bit, and flushes.
+fn cleared() -> &'static [Row] {
+    CLEARED
+}
+
 const COPIED: &[Row] = &[
     word!(1, copy_load!(0), 0),
     refused!(1, copy_store!(1, 0)),
@@ -398,7 +441,11 @@ const COPIED: &[Row] = &[
     done!(1, copy_store!(3, 0)),
 ];
 
-/// The commit: the page has its new home, and the old one is its shadow.
+/// The copy.
+fn copied() -> &'static [Row] {
+    COPIED
+}
+
 const COMMITTED: &[Row] = &[
     word!(1, UNMAP, 0x2005),
     word!(1, RAISE, 1),
@@ -412,7 +459,11 @@ const COMMITTED: &[Row] = &[
     done!(1, UNLOCK),
 ];
 
-/// The shadow is taken away, and its frame put back.
+/// The commit: the page has its new home, and the old one is its shadow.
+fn committed() -> &'static [Row] {
+    COMMITTED
+}
+
 const UNSHADOWED: &[Row] = &[
     done!(2, LOCK),
     word!(2, HOME, 1),
@@ -426,7 +477,11 @@ const UNSHADOWED: &[Row] = &[
     done!(2, release!(1)),
 ];
 
-/// A store through a walk since the dirty bit was cleared: the word that is taken is dirty, and only it goes back.
+/// The shadow is taken away, and its frame put back.
+fn unshadowed() -> &'static [Row] {
+    UNSHADOWED
+}
+
 const ABORTED: &[Row] = &[
     word!(0, POLL, 1),
     done!(0, SEEN),
@@ -450,9 +505,14 @@ const ABORTED: &[Row] = &[
     done!(1, UNLOCK),
 ];
 
+/// A store through a walk since the dirty bit was cleared: the word that is taken is dirty, and only it goes back.
+fn aborted() -> &'static [Row] {
+    ABORTED
+}
+
 #[test]
 fn locks_and_bumps(rt: HostRuntime) -> Result<(), Fail> {
-    for rows in [OPENING, HELD, SHOOTDOWN] {
+    for rows in [opening(), held(), shootdown()] {
         let mut state = machine(rt.alloc(), 4, 8)?;
         run(&rt, &mut state, rows);
     }
@@ -461,19 +521,19 @@ fn locks_and_bumps(rt: HostRuntime) -> Result<(), Fail> {
 
 #[test]
 fn translations(rt: HostRuntime) -> Result<(), Fail> {
-    for rows in [KEPT, DROPPED] {
+    for rows in [kept(), dropped()] {
         let mut state = machine(rt.alloc(), 4, 8)?;
-        run(&rt, &mut state, DEMAND);
-        run(&rt, &mut state, WALKS);
+        run(&rt, &mut state, demand());
+        run(&rt, &mut state, walks());
         run(&rt, &mut state, rows);
     }
     Ok(())
 }
 
 #[test]
-fn accesses(rt: HostRuntime) -> Result<(), Fail> {
+fn grants_and_accesses(rt: HostRuntime) -> Result<(), Fail> {
     let mut state = machine(rt.alloc(), 4, 8)?;
-    for rows in [DEMAND, GRANTED, ACCESSES] {
+    for rows in [demand(), granted(), accesses()] {
         run(&rt, &mut state, rows);
     }
     frames_are(
@@ -487,14 +547,14 @@ fn accesses(rt: HostRuntime) -> Result<(), Fail> {
 #[test]
 fn promotion(rt: HostRuntime) -> Result<(), Fail> {
     let mut state = machine(rt.alloc(), 2, 10)?;
-    for rows in [SLOW, CLEARED, COPIED] {
+    for rows in [slow(), cleared(), copied()] {
         run(&rt, &mut state, rows);
     }
     let before = ending(&rt, rt.alloc(), &state)?;
     assert_eq!(rt; before.homes.as_slice(), [Some(2)].as_slice());
     assert_eq!(rt; before.roles.first().copied(), Some(Role::Held));
     assert_eq!(rt; before.settled, false);
-    run(&rt, &mut state, COMMITTED);
+    run(&rt, &mut state, committed());
     run(&rt, &mut state, &[done!(0, END)]);
     page_is(&rt, &state, Some(0), 0);
     frames_are(&rt, &state, SHADOWED);
@@ -519,7 +579,7 @@ const SHADOWED: &[(u32, Role, Option<(u32, u32)>)] = &[
 #[test]
 fn shadows(rt: HostRuntime) -> Result<(), Fail> {
     let mut state = machine(rt.alloc(), 2, 10)?;
-    for rows in [SLOW, CLEARED, COPIED, COMMITTED, UNSHADOWED] {
+    for rows in [slow(), cleared(), copied(), committed(), unshadowed()] {
         run(&rt, &mut state, rows);
     }
     frames_are(
@@ -533,7 +593,7 @@ fn shadows(rt: HostRuntime) -> Result<(), Fail> {
 #[test]
 fn aborts(rt: HostRuntime) -> Result<(), Fail> {
     let mut state = machine(rt.alloc(), 2, 10)?;
-    for rows in [SLOW, CLEARED, COPIED, ABORTED] {
+    for rows in [slow(), cleared(), copied(), aborted()] {
         run(&rt, &mut state, rows);
     }
     page_is(&rt, &state, Some(2), 0);
