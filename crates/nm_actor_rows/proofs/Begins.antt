@@ -1,4 +1,4 @@
--- A part that looks and then bumps may begin where nothing was done.
+-- The smallest parts may begin where nothing was done.
 use Rattle.std.proofs.Common.{◌≡◌, ◌<◌, ◌≤◌, ℕ, List, [], ◌∷◌, length, Option, Some, None, refl, sym, subst, arith}
 use Rattle.std.proofs.lemmas.List.Elements.{All-nil}
 use Rattle.nm_base.specs.Geometry.{Geometry, IsGeometry, pages_of, backing_page}
@@ -19,6 +19,11 @@ nothing-edited : (page : Option ℕ) (f : Op → Op) → edit_under page f [] �
 nothing-edited None f = refl
 nothing-edited (Some page) f = refl
 
+-- a part that bumps
+pub may-bump-first : (g : Geometry) (number : ℕ) → MayBump (opening g number)
+may-bump-first g number = record { few = omega arith; dry = All-nil _ }
+
+-- a part that looks, and then bumps
 pub may-look-and-bump : (g : Geometry) (number : ℕ) → IsGeometry g → MayNest {M = ℕ} {O = ℕ} (λ made g view. MayBump view) (λ made g own word. own ≡ (Bump, Word word) ∷ []) 0 0 g (opening g number)
 may-look-and-bump g number limits = record {
   range = some-vpage g.vpages limits.ranges.3.1;
