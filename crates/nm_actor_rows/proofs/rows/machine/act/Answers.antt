@@ -1,4 +1,4 @@
-use Rattle.std.proofs.Common.{◌≡◌, ◌∙◌, refl, sym, subst, rules}
+use Rattle.std.proofs.Common.{◌∙◌, refl, sym, subst, rules}
 use Rattle.nm_base.specs.Geometry.{Geometry}
 use Rattle.nm_permit.specs.Permitted.{Allowed}
 use Rattle.nm_core.specs.State.{view_of}
