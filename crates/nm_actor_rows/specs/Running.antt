@@ -31,7 +31,7 @@ pub record IsWaiting (new : Type 0) (may_begin : Geometry → View → Type 0) (
   pub none : done ≡ []
 
 -- it did the list of its part so far, and gave the step of the part that comes then
-pub record IsRunning {O : Type 0} (awaits : Geometry → View → Own → Action → Type 0) (shape : Geometry → Own → O → Type 0) (leaves : Geometry → View → O → View → Type 0) (ended : Geometry → Own → O → Type 0) (g : Geometry) (number : ℕ) (done : Turns) (turn : Turn) : Type 0 where
+pub record IsAtStep {O : Type 0} (awaits : Geometry → View → Own → Action → Type 0) (shape : Geometry → Own → O → Type 0) (leaves : Geometry → View → O → View → Type 0) (ended : Geometry → Own → O → Type 0) (g : Geometry) (number : ℕ) (done : Turns) (turn : Turn) : Type 0 where
   pub own : Own
   pub step : Step O
   pub list : done ≡ turns_of own
