@@ -1,5 +1,5 @@
 -- The records that were written so far, and those of one program more.
-use Rattle.std.proofs.Common.{◌≡◌, ℕ, zero, suc, ◌+◌, ◌<◌, List, [], ◌∷◌, ◌++◌, map, flat_map, length, take, get_or, sym, ap, ◌∙◌, append_assoc, arith}
+use Rattle.std.proofs.Common.{◌≡◌, ℕ, zero, suc, ◌+◌, ◌<◌, List, [], ◌∷◌, ◌++◌, map, flat_map, length, take, get_or, All, sym, ap, subst, ◌∙◌, append_assoc, arith}
 use Rattle.std.proofs.lemmas.List.{append-nil, length-map, take-map, get_or-map}
 use Rattle.std.proofs.lemmas.Grind.{flat_map-append}
 use Rattle.nm_script.specs.declared.script.Line.{Line}
@@ -34,3 +34,7 @@ programs-more items before text after ps i d h e f =
         ∙ ap (λ r. a ++ flat_map (references_by i) r) row in
     f ∙ ap (λ t. t ++ flat_map reference_text b) e ∙ append_assoc before (flat_map reference_text a) (flat_map reference_text b)
     ∙ ap (λ t. before ++ t) (sym (flat_map-append reference_text a b)) ∙ ap (λ t. before ++ flat_map reference_text t) (sym whole)
+
+-- what holds of each value of a list that was mapped
+pub All-unmapped : {X Y : Type 0} (P : X → Type 0) (f : Y → X) (ys : List Y) → All P (map f ys) → All (λ y. P (f y)) ys
+All-unmapped P f ys h = λ k d less. subst P (get_or-map f ys k d (f d) less) (h k (f d) (rw (length-map ys f) less))

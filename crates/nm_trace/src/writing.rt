@@ -24,13 +24,23 @@ const WORD_BYTES: u64 = 8;
 pub fn to_trace(alloc: Global, script: &Script) -> Result<Option<Vec<u8>>, AllocError>
     ensures { IfOk result (λ o. MatchOption o (¬ HasTrace script.now) (λ v. HasTrace script.now × (v.items ≡ trace_text script.now))) }
 {
-    if script.geometry.words != WORDS || !are_traced(&script.programs) {
+    if !has_trace(script) {
         return Ok(None);
     }
     let mut out = Vec::new(alloc);
     out.extend_from_slice(b"cpu,kind,address,value\n")?;
     push_programs(&mut out, &script.programs)?;
     Ok(Some(out))
+}
+
+/// Whether pages have 4,096 bytes, and every line loads or stores.
+fn has_trace(script: &Script) -> bool
+    ensures { IsTrue result ↔ HasTrace script.now }
+{
+    if script.geometry.words != WORDS {
+        return false;
+    }
+    are_traced(&script.programs)
 }
 
 /// Whether every line of the programs loads or stores.
