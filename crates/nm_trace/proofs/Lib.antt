@@ -1,0 +1,9 @@
+pub mod Written
+pub mod Records
+pub mod Pages
+pub mod Geometries
+pub mod Outcomes
+pub mod Spelling
+pub mod Rows
+pub mod Progress
+pub mod Validity

@@ -1,0 +1,5 @@
+pub mod References
+pub mod Records
+pub mod Traces
+pub mod Imports
+pub mod Drafts
