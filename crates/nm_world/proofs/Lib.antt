@@ -1,2 +1,3 @@
 pub mod Choose
+pub mod Writing
 pub mod Bridge
