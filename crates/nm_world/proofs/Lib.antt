@@ -1,3 +1,5 @@
 pub mod Choose
 pub mod Writing
 pub mod Bridge
+pub mod Bounds
+pub mod Opening
