@@ -3,6 +3,7 @@ pub mod Writing
 pub mod Parts
 pub mod Moves
 pub mod Roles
+pub mod Bits
 pub mod Bridge
 pub mod Bounds
 pub mod Opening
