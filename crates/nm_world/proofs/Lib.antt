@@ -4,6 +4,7 @@ pub mod Parts
 pub mod Moves
 pub mod Roles
 pub mod Bits
+pub mod FreeBits
 pub mod Bridge
 pub mod Bounds
 pub mod Opening
