@@ -56,8 +56,10 @@ absent_word word is none = elim is [ inl zero ↦ zero | inr present ↦ absurd 
 -- what agrees with a word agrees with it after flags were cleared, of those that the comparison leaves out
 pub agrees_and : (old word flags : ℕ) → flags < 2 ^ 12 → bit_at (all_but flags) 0 ≡ 1 → bit_at (all_but flags) 2 ≡ 1 → bit_at (all_but flags) 5 ≡ 1 → IsPageWord word → Agrees old word → Agrees old (bit_and word (all_but flags))
 agrees_and old word flags low zero two five page h = record {
-  absent = (λ none. let w : word ≡ 0 = h.absent.0 none in omega (arith, w, and_le_l word (all_but flags)),
-    λ none. let bit : bit_at word 0 ≡ 0 = sym (bit_and_kept word (all_but flags) 0 zero) ∙ ap (λ n. bit_at n 0) none ∙ bit_at-zero 0 in h.absent.1 (absent_word word page bit));
+  absent = (
+    λ none. let w : word ≡ 0 = h.absent.0 none in omega (arith, w, and_le_l word (all_but flags)),
+    λ none. let bit : bit_at word 0 ≡ 0 = sym (bit_and_kept word (all_but flags) 0 zero) ∙ ap (λ n. bit_at n 0) none ∙ bit_at-zero 0 in h.absent.1 (absent_word word page bit),
+  );
   frame = frame_and word flags low ∙ h.frame;
   writable = same_flag _ _ (bit_and_kept word (all_but flags) 2 two) ∙ h.writable;
   saved = same_flag _ _ (bit_and_kept word (all_but flags) 5 five) ∙ h.saved;
@@ -66,8 +68,10 @@ agrees_and old word flags low zero two five page h = record {
 -- the same after flags were set, on a word that maps a frame
 pub agrees_or : (old word flags : ℕ) → flags < 2 ^ 12 → bit_at flags 2 ≡ 0 → bit_at flags 5 ≡ 0 → IsPresentWord word → Agrees old word → Agrees old (bit_or word flags)
 agrees_or old word flags low two five present h = record {
-  absent = (λ none. absurd (let w : word ≡ 0 = h.absent.0 none in let bit : bit_at word 0 ≡ 0 = ap (λ n. bit_at n 0) w ∙ bit_at-zero 0 in omega (arith, bit, present.present)),
-    λ none. absurd (let bit : bit_at (bit_or word flags) 0 ≡ 0 = ap (λ n. bit_at n 0) none ∙ bit_at-zero 0 in omega (arith, bit, bit_or_set word flags 0 present.present)));
+  absent = (
+    λ none. absurd (let w : word ≡ 0 = h.absent.0 none in let bit : bit_at word 0 ≡ 0 = ap (λ n. bit_at n 0) w ∙ bit_at-zero 0 in omega (arith, bit, present.present)),
+    λ none. absurd (let bit : bit_at (bit_or word flags) 0 ≡ 0 = ap (λ n. bit_at n 0) none ∙ bit_at-zero 0 in omega (arith, bit, bit_or_set word flags 0 present.present)),
+  );
   frame = frame_or word flags low ∙ h.frame;
   writable = same_flag _ _ (bit_or_kept word flags 2 two) ∙ h.writable;
   saved = same_flag _ _ (bit_or_kept word flags 5 five) ∙ h.saved;

@@ -72,18 +72,18 @@ seen_word-written : (g : Geometry) (w : Words) (c : Where) (x : ℕ) (d : Where)
 seen_word-written g w c x d sizes place =
     choose_name (λ n. seen_word g (with_word g w c x) d ≡ n) c d x (seen_word g w d)
     (λ same.
-        let There : Where → Type 0 = λ e. seen_word g (with_word g w c x) e ≡ x in
-        subst There same (seen_word-place g (with_word g w c x) c place ∙ word_at-same g w c x sizes place))
+    let There : Where → Type 0 = λ e. seen_word g (with_word g w c x) e ≡ x in
+    subst There same (seen_word-place g (with_word g w c x) c place ∙ word_at-same g w c x sizes place))
     (λ other. same_choice (has_word g d) (word_at g (with_word g w c x) d) (word_at g w d)
-        (λ has. word_at-other g w c x d place (place-has_word g d has) (λ s. other (sym s))))
+    (λ has. word_at-other g w c x d place (place-has_word g d has) (λ s. other (sym s))))
 
 -- the views after one was set
 views_set : (g : Geometry) (views : List View) (a : ℕ) (new : View) (d : ℕ) → a < length views → get_or (set views a new) d (opening g d) ≡ viewing a new (λ i. get_or views i (opening g i)) d
 views_set g views a new d there =
     choose (λ v. get_or (set views a new) d (opening g d) ≡ v) d a new (get_or views d (opening g d))
     (λ same.
-        let Here : ℕ → Type 0 = λ i. get_or (set views a new) i (opening g i) ≡ new in
-        subst Here (sym same) (get_or-set_same views a new (opening g a) there))
+    let Here : ℕ → Type 0 = λ i. get_or (set views a new) i (opening g i) ≡ new in
+    subst Here (sym same) (get_or-set_same views a new (opening g a) there))
     (λ other. get_or-set_other views a d new (opening g d) other)
 
 abbrev world : (Where → ℕ) → (ℕ → View) → World
@@ -99,10 +99,10 @@ world_step s a action k there may =
     let Left : ℕ → (Where → ℕ) = λ n. written c (changed (change_made s a action) n) (seen_word g s.words) in
     let New : ℕ → (ℕ → View) = λ n. viewing a (after_of g (view_of s a) action (reply_of (change_made s a action) n)) (view_of s) in
     let words : seen_word g (step s a action).words ≡ Left (word_found s a action) =
-        ap (seen_word g) (exchanged-with_word g s.words c (change_made s a action))
-        ∙ fun_ext (λ d. seen_word-written g s.words c (changed (change_made s a action) (word_found s a action)) d k.sizes place) in
+    ap (seen_word g) (exchanged-with_word g s.words c (change_made s a action))
+    ∙ fun_ext (λ d. seen_word-written g s.words c (changed (change_made s a action) (word_found s a action)) d k.sizes place) in
     let views : view_of (step s a action) ≡ New (word_found s a action) =
-        fun_ext (λ d. views_set g s.views a (after_of g (view_of s a) action (reply_to s a action)) d there) in
+    fun_ext (λ d. views_set g s.views a (after_of g (view_of s a) action (reply_to s a action)) d there) in
     ap2 world (words ∙ ap Left found) (views ∙ ap New found)
 
 -- the same, of an actor of the machine

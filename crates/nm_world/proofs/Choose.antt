@@ -29,8 +29,8 @@ choose_both P a b k j x y p q r =
     decide P ((a == b) && (k == j)) x y
     (λ e. let parts = and_parts (a == b) (k == j) e in p (eqb-true a b parts.0) (eqb-true k j parts.1))
     (λ e. decide (λ (_ : Bool). P y) (a == b) true true
-      (λ h. r (λ s. true_or (a == b) (k == j) e h (eq-eqb k j s)))
-      (λ h. q (eqb-false a b h)))
+    (λ h. r (λ s. true_or (a == b) (k == j) e h (eq-eqb k j s)))
+    (λ h. q (eqb-false a b h)))
 
 -- names that are found to be the same are the same
 tells : (c d : Where) → is_same c d ≡ true → c ≡ d

@@ -74,7 +74,7 @@ pub give_bit : (g : Geometry) (word : Where → ℕ) (f : ℕ) → IsFrame g f �
 give_bit g word f frame =
     let x : ℕ = bit_and (word (free_word_of g f)) (all_but (2 ^ free_bit g f)) in
     let bit : bit_at (written (free_word_of g f) x word (free_word_of g f)) (free_bit g f) ≡ 0 =
-        ap (λ n. bit_at n (free_bit g f)) (at_frame g word f x) ∙ clear_same (word (free_word_of g f)) (free_bit g f) (bit_low g f) in
+    ap (λ n. bit_at n (free_bit g f)) (at_frame g word f x) ∙ clear_same (word (free_word_of g f)) (free_bit g f) (bit_low g f) in
     record {
       here = both (nat_lt f (frame_count g)) _ false (λ s. ne_eqb _ 1 (λ one. omega (arith, one, bit))) ∙ and_false (nat_lt f (frame_count g));
       rest = λ j other. other_free g word f x j frame other (λ i low apart. clear_other (word (free_word_of g f)) (free_bit g f) i (bit_low g f) low apart);
@@ -85,7 +85,7 @@ pub put_bit : (g : Geometry) (word : Where → ℕ) (f : ℕ) → IsFrame g f �
 put_bit g word f frame =
     let x : ℕ = bit_or (word (free_word_of g f)) (2 ^ free_bit g f) in
     let bit : bit_at (written (free_word_of g f) x word (free_word_of g f)) (free_bit g f) ≡ 1 =
-        ap (λ n. bit_at n (free_bit g f)) (at_frame g word f x) ∙ set_same (word (free_word_of g f)) (free_bit g f) in
+    ap (λ n. bit_at n (free_bit g f)) (at_frame g word f x) ∙ set_same (word (free_word_of g f)) (free_bit g f) in
     record {
       here = rw (lt-ltb f (frame_count g) frame) (eq-eqb _ 1 bit);
       rest = λ j other. other_free g word f x j frame other (λ i low apart. set_other (word (free_word_of g f)) (free_bit g f) i apart);

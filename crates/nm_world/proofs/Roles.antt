@@ -24,22 +24,27 @@ one_moves g n after f from to moves there roles h frame =
     elim (cases_eq h f) [
       | inl same ↦
           let Role : ℕ → Type 0 = λ k. (c : Claim) × HasRole after k c in
-          subst Role (sym same) (to, record {
-            is = moves.is;
-            only = λ c claims. elim (moves.back c f claims) [
-              | inl new ↦ new.0
-              | inr old ↦
-                  let is_from : c ≡ from = one_claim g n f c from roles there old moves.was in
-                  is_from ∙ moves.gone (subst (λ (d : Claim). Claims after d f) is_from claims)
-            ];
-          })
+          subst Role (sym same) (
+            to,
+            record {
+              is = moves.is;
+              only = λ c claims. elim (moves.back c f claims) [
+                | inl new ↦ new.0
+                | inr old ↦
+                    let is_from : c ≡ from = one_claim g n f c from roles there old moves.was in
+                    is_from ∙ moves.gone (subst (λ (d : Claim). Claims after d f) is_from claims)
+              ];
+            },
+          )
       | inr other ↦
-          let role = roles h frame in
-          (role.0, record {
-            is = moves.forth role.0 h other role.1.is;
-            only = λ c claims. elim (moves.back c h claims) [
-              | inl new ↦ absurd (other new.1)
-              | inr old ↦ role.1.only c old
-            ];
-          })
+          let role = roles h frame in (
+            role.0,
+            record {
+              is = moves.forth role.0 h other role.1.is;
+              only = λ c claims. elim (moves.back c h claims) [
+                | inl new ↦ absurd (other new.1)
+                | inr old ↦ role.1.only c old
+              ];
+            },
+          )
     ]
