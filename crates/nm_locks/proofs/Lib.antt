@@ -1,2 +1,5 @@
 pub mod Still
 pub mod Quiet
+pub mod Edits
+pub mod Turns
+pub mod Flags
