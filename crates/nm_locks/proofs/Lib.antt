@@ -3,3 +3,5 @@ pub mod Quiet
 pub mod Edits
 pub mod Turns
 pub mod Flags
+pub mod Holders
+pub mod Homes

@@ -44,7 +44,7 @@ pub cases_on : (P : Bool → Type 0) (t : Bool) → (t ≡ true → P true) → 
 cases_on P true p q = p refl
 cases_on P false p q = q refl
 
-not_both : (n a c : ℕ) → n ≡ a + 1 → n ≡ c + 1 → c ≢ a → ⊥
+pub not_both : (n a c : ℕ) → n ≡ a + 1 → n ≡ c + 1 → c ≢ a → ⊥
 not_both n a c mine theirs other = other (omega (arith, mine, theirs))
 
 -- where a turn was found free, it and the view of the actor agree after it was taken

@@ -72,7 +72,7 @@ pub record OnPage (g : Geometry) (view : View) (v : ℕ) (P : Op → Type 0) : T
   pub here : op_on view page ≡ Some op
   pub may : P op
 
-known_op : (P : Op → Type 0) (found : Option Op) → IsSomeAnd found P → (o : Op) × ((found ≡ Some o) × P o)
+pub known_op : (P : Op → Type 0) (found : Option Op) → IsSomeAnd found P → (o : Op) × ((found ≡ Some o) × P o)
 known_op P None h = absurd h
 known_op P (Some o) h = (o, (refl, h))
 
@@ -83,7 +83,7 @@ on_known g view v P (Some page) is h = let o = known_op P (op_on view page) h in
 pub on_page : (g : Geometry) (view : View) (v : ℕ) (P : Op → Type 0) → IsSomeAnd (op_of g view v) P → OnPage g view v P
 on_page g view v P h = on_known g view v P (backing_page g v) refl h
 
-some_op : (found : Option Op) (o : Op) → found ≡ Some o → IsSome found
+pub some_op : (found : Option Op) (o : Op) → found ≡ Some o → IsSome found
 some_op found o is = rw is cc
 
 -- only one actor has an operation on a page: the one that holds its lock
