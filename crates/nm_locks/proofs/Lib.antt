@@ -5,3 +5,6 @@ pub mod Turns
 pub mod Flags
 pub mod Holders
 pub mod Homes
+pub mod Items
+pub mod Table
+pub mod Scans

@@ -83,7 +83,7 @@ least_left g m word a new none free h c t f =
     (λ ca is found. let was = h.least c t f is found in record { tier = was.tier; free = free c t f ca was is })
 
 -- turns stay with the views that the step leaves them in
-view_turn : (g : Geometry) (m : World) (a : ℕ) (new : View) → new.turn ≡ (m.view a).turn → LockLaw g m → (c t : ℕ) → (turn_at m t ≡ c + 1) ↔ ((viewing a new m.view c).turn ≡ Some t)
+pub view_turn : (g : Geometry) (m : World) (a : ℕ) (new : View) → new.turn ≡ (m.view a).turn → LockLaw g m → (c t : ℕ) → (turn_at m t ≡ c + 1) ↔ ((viewing a new m.view c).turn ≡ Some t)
 view_turn g m a new same h c t =
     let turn = view_part (λ v. v.turn) a new m.view same c in
     (λ is. turn ∙ (h.turns c t).0 is, λ is. (h.turns c t).1 (sym turn ∙ is))
