@@ -1,0 +1,2 @@
+//! That permitted steps keep the lock law.
+#![tactic(auto)]

@@ -1,0 +1,10 @@
+pub mod Choose
+pub mod Writing
+pub mod Parts
+pub mod Moves
+pub mod Roles
+pub mod Bits
+pub mod FreeBits
+pub mod Bridge
+pub mod Bounds
+pub mod Opening

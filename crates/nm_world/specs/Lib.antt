@@ -1,0 +1,13 @@
+pub mod Worlds
+pub mod Parts
+pub mod Sights
+pub mod Notions
+pub mod ShapeLaw
+pub mod LockLaw
+pub mod CacheLaw
+pub mod FrameLaw
+pub mod ShadowLaw
+pub mod CopyLaw
+pub mod Bounds
+pub mod Laws
+pub mod Seen
