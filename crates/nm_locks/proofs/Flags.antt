@@ -56,7 +56,7 @@ lock_softened g m a v x new soft view h =
     }
 
 -- a cleared flag
-softens_and : (word flags : ℕ) → flags < 2 ^ 12 → bit_at (all_but flags) 0 ≡ 1 → bit_at (all_but flags) 2 ≡ 1 → bit_at (all_but flags) 5 ≡ 1 → IsPageWord word → Softens word (bit_and word (all_but flags))
+pub softens_and : (word flags : ℕ) → flags < 2 ^ 12 → bit_at (all_but flags) 0 ≡ 1 → bit_at (all_but flags) 2 ≡ 1 → bit_at (all_but flags) 5 ≡ 1 → IsPageWord word → Softens word (bit_and word (all_but flags))
 softens_and word flags low zero two five page = record {
   zero = λ none. omega (arith, none, and_le_l word (all_but flags));
   agrees = λ old was. agrees_and old word flags low zero two five page was;
