@@ -8,3 +8,4 @@ pub mod FreeBits
 pub mod Bridge
 pub mod Bounds
 pub mod Opening
+pub mod Shapes
