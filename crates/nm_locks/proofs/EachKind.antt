@@ -1,9 +1,8 @@
 -- That each permitted step keeps the lock law, and where the facts of other groups come from.
-use Rattle.std.proofs.Common.{◌≡◌, ◌≢◌, ℕ, ◌+◌, ◌<◌, ◌≤◌, Option, Some, None, IsSome, refl, sym, ap, subst, ◌∙◌, inl, inr, arith}
+use Rattle.std.proofs.Common.{◌≡◌, ℕ, Option, Some, IsSome, inl, inr, arith}
 use Rattle.std.proofs.lemmas.Bool.{cases_eq}
-use Rattle.nm_base.specs.Geometry.{Geometry, frame_count}
+use Rattle.nm_base.specs.Geometry.{Geometry}
 use Rattle.nm_base.specs.HomeWord.{home_word}
-use Rattle.nm_base.specs.PageWord.{IsPageWord}
 use Rattle.nm_base.specs.Ranges.{IsFrame}
 use Rattle.nm_action.specs.declared.action.Cell.TheVariants as cells
 use Rattle.nm_action.specs.declared.action.Action.{Action}
@@ -13,16 +12,12 @@ use Rattle.nm_view.specs.Opening.{IsActor}
 use Rattle.nm_view.specs.Operations.{fill_of}
 use Rattle.nm_permit.specs.Permitted.{Allowed}
 use Rattle.nm_event.specs.Fitting.{Fits}
-use Rattle.nm_core.specs.Kept.{IsKept}
-use Rattle.nm_core.specs.State.{State, view_of, step, reply_to}
 use Rattle.nm_world.specs.Worlds.{World, moved, pte_at, home_at, shadow_at, reply_in}
 use Rattle.nm_world.specs.Sights.{sight_of}
-use Rattle.nm_world.specs.FrameLaw.{Claim, AtHome, By, Claims, names_of}
+use Rattle.nm_world.specs.FrameLaw.{AtHome, By, names_of}
 use Rattle.nm_world.specs.LockLaw.{LockLaw}
 use Rattle.nm_world.specs.Laws.{AreAll, IsReady}
-use Rattle.nm_world.specs.Seen.{world_of}
 use Rattle.nm_world.proofs.Roles.{one_claim}
-use Rattle.nm_world.proofs.Bridge.{world_of-step}
 use Rattle.nm_locks.specs.Facts.{LockFacts}
 use Rattle.nm_locks.proofs.Quiet.{lock_load, lock_store, lock_add, lock_peek, lock_poll, lock_ack, lock_bump, lock_see, lock_raise, lock_copy_load, lock_copy_store, lock_mark}
 use Rattle.nm_locks.proofs.Turns.{lock_take_turn, lock_release_turn, lock_give, lock_put}

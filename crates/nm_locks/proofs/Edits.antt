@@ -1,12 +1,12 @@
 -- The lock law where one operation is edited, and perhaps one word of its page written.
-use Rattle.std.proofs.Common.{◌≡◌, ◌≢◌, ℕ, ◌+◌, ◌<◌, ◌≤◌, Bool, true, false, List, Option, Some, None, IsSome, IfSome, All, refl, sym, ap, subst, ◌∙◌, inl, inr, arith}
+use Rattle.std.proofs.Common.{◌≡◌, ◌≢◌, ℕ, ◌+◌, Bool, true, List, Option, Some, None, IsSome, refl, sym, ap, subst, ◌∙◌, inl, inr, arith}
 use Rattle.std.specs.Prelude.{option_map}
 use Rattle.std.proofs.lemmas.Bool.{cases_eq, cases_lt}
 use Rattle.nm_base.specs.Geometry.{Geometry, backing_page}
 use Rattle.nm_view.specs.Lists.{find, first}
-use Rattle.nm_view.specs.Views.{Op, View}
-use Rattle.nm_view.specs.Opening.{opening, IsActor}
-use Rattle.nm_view.specs.Operations.{page_of, op_on, IsTaken}
+use Rattle.nm_view.specs.Views.{Op}
+use Rattle.nm_view.specs.Opening.{opening}
+use Rattle.nm_view.specs.Operations.{page_of, op_on}
 use Rattle.nm_view.proofs.Items.{all_find, some_same, not_none}
 use Rattle.nm_view.proofs.Finds.{find_number}
 use Rattle.nm_event.specs.Fitting.{Agrees}
@@ -17,8 +17,8 @@ use Rattle.nm_world.specs.Parts.{Lore, lore_of, lore_at}
 use Rattle.nm_world.specs.Sights.{Writes, Sets}
 use Rattle.nm_world.specs.ShapeLaw.{ShapeLaw}
 use Rattle.nm_world.specs.LockLaw.{IsTrueOp, IsStaged, LockLaw}
-use Rattle.nm_world.proofs.Moves.{each_op, edited, gone, sole_op}
-use Rattle.nm_locks.proofs.Still.{if_more, some_from, true_still, locks_still, KeepsTurns, turns_still, least_still}
+use Rattle.nm_world.proofs.Moves.{each_op, sole_op}
+use Rattle.nm_locks.proofs.Still.{if_more, locks_still, KeepsTurns, turns_still, least_still}
 
 abbrev pub present : Op → Bool
 present o = true

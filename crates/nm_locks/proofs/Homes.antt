@@ -1,6 +1,5 @@
 -- The kinds that read and write homes and shadow words.
-use Rattle.std.proofs.Common.{◌≡◌, ◌≢◌, ℕ, ◌+◌, ◌==◌, if◌then◌else◌, Bool, true, false, List, [], Option, Some, None, IsSome, IsSomeAnd, IfSome, refl, sym, ap, subst, ◌∙◌, inl, inr, arith}
-use Rattle.std.proofs.lemmas.Bool.{cases_eq}
+use Rattle.std.proofs.Common.{◌≡◌, ◌≢◌, ℕ, Bool, true, false, Option, Some, None, IfSome, refl, sym, ap, subst, ◌∙◌, arith}
 use Rattle.nm_base.specs.Geometry.{Geometry}
 use Rattle.nm_base.specs.HomeWord.{home_word}
 use Rattle.nm_base.specs.ShadowWord.{shadow_word}
@@ -14,20 +13,20 @@ use Rattle.nm_view.specs.declared.view.Fill.{Fill}
 use Rattle.nm_view.specs.Views.{Op, View}
 use Rattle.nm_view.specs.Operations.{op_on, fill_of, names_one}
 use Rattle.nm_view.proofs.Items.{not_none, some_same}
-use Rattle.nm_permit.specs.Permitted.{MayRead, MaySetHome, MaySetShadow, MayUnshade, MayShade}
+use Rattle.nm_permit.specs.Permitted.{MaySetHome, MaySetShadow}
 use Rattle.nm_words.specs.declared.names.Where.{Where}
 use Rattle.nm_words.specs.declared.names.Where.TheVariants as words
 use Rattle.nm_event.specs.After.{after_of, read_cell, homed_at, shaded}
-use Rattle.nm_world.specs.Worlds.{World, moved, viewing, written, home_at, shadow_at, pte_at, lock_at, op_at}
-use Rattle.nm_world.specs.Parts.{Lore, lore_of}
+use Rattle.nm_world.specs.Worlds.{World, moved, viewing, written, home_at, shadow_at, op_at}
+use Rattle.nm_world.specs.Parts.{lore_of}
 use Rattle.nm_world.specs.Sights.{Sets}
-use Rattle.nm_world.specs.LockLaw.{LockLaw, IsTrueOp, IsStaged}
+use Rattle.nm_world.specs.LockLaw.{LockLaw, IsStaged}
 use Rattle.nm_world.specs.Laws.{IsReady}
 use Rattle.nm_world.proofs.Choose.{choose}
 use Rattle.nm_world.proofs.Writing.{edit_sets}
 use Rattle.nm_world.proofs.Moves.{known_op}
 use Rattle.nm_locks.specs.Facts.{LockFacts}
-use Rattle.nm_locks.proofs.Still.{if_more, true_still, KeepsWords, read_keeps, KeepsTurns, turns_kept, view_part}
+use Rattle.nm_locks.proofs.Still.{if_more, true_still, read_keeps, turns_kept, view_part}
 use Rattle.nm_locks.proofs.Edits.{lock_edit, op_lore}
 
 -- a known value is what is found

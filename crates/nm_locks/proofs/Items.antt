@@ -1,18 +1,18 @@
 -- Lists of looked and taken words after one was put, joined or erased, and the one virtual page that an operation names.
-use Rattle.std.proofs.Common.{◌≡◌, ◌≢◌, ℕ, ◌+◌, ◌==◌, ◌&&◌, not, if◌then◌else◌, Bool, true, false, List, [], ◌∷◌, ◌++◌, Option, Some, None, IsSome, IsSomeAnd, IfSome, IsTrue, All, refl, sym, ap, subst, ◌∙◌, ◌⊎◌, inl, inr, arith}
+use Rattle.std.proofs.Common.{◌≡◌, ◌≢◌, ℕ, ◌&&◌, Bool, true, false, List, [], ◌∷◌, ◌++◌, Option, Some, None, IsSome, IsSomeAnd, IfSome, All, refl, sym, ap, subst, ◌∙◌, ◌⊎◌, inl, inr, arith}
 use Rattle.std.proofs.lemmas.Bool.{cases_eq}
-use Rattle.nm_base.specs.Geometry.{Geometry, backing_page}
+use Rattle.nm_base.specs.Geometry.{Geometry}
 use Rattle.nm_view.specs.declared.view.Phase.{Phase}
 use Rattle.nm_view.specs.declared.view.Phase.TheVariants.{Held, Cleared, Taken}
 use Rattle.nm_view.specs.Lists.{find, edit, erase, put, first, Once}
 use Rattle.nm_view.specs.Views.{Op}
 use Rattle.nm_view.specs.Operations.{page_of, names_one, IsLookedOver}
-use Rattle.nm_view.proofs.Items.{all_find, all_head, all_tail, all_put, all_join, all_same, not_none}
-use Rattle.nm_view.proofs.Finds.{find_number, find_put, find_put_other, find_join, find_join_other}
+use Rattle.nm_view.proofs.Items.{all_find, all_head, all_tail, all_put, all_join}
+use Rattle.nm_view.proofs.Finds.{find_number, find_put, find_put_other, find_join}
 use Rattle.nm_event.specs.After.{has_some}
 use Rattle.nm_event.specs.Fitting.{Agrees}
 use Rattle.nm_world.specs.Sights.{Writes}
-use Rattle.nm_world.specs.Notions.{IsAloneAt, HasOne}
+use Rattle.nm_world.specs.Notions.{IsAloneAt}
 
 pub agrees_same : (n : ℕ) → Agrees n n
 agrees_same n = record { absent = (λ e. e, λ e. e); frame = refl; writable = refl; saved = refl }

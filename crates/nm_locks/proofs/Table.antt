@@ -1,39 +1,37 @@
 -- The kinds that look at table words, clear, take, map and grant them.
-use Rattle.std.proofs.Common.{◌≡◌, ◌≢◌, ℕ, ◌+◌, ◌^◌, ◌<◌, ◌≤◌, ◌==◌, ◌&&◌, if◌then◌else◌, bit_and, Bool, true, false, List, [], ◌∷◌, ◌++◌, Option, Some, None, IsSome, IsSomeAnd, IfSome, All, ◌⊎◌, refl, sym, ap, subst, ◌∙◌, inl, inr, arith}
+use Rattle.std.proofs.Common.{◌≡◌, ◌≢◌, ℕ, ◌&&◌, bit_and, true, false, List, [], ◌∷◌, ◌++◌, Option, Some, None, IsSome, IsSomeAnd, IfSome, All, ◌⊎◌, refl, sym, ap, subst, ◌∙◌, inl, inr, arith}
 use Rattle.std.specs.Prelude.{option_map}
 use Rattle.std.specs.Int.{bit_at}
 use Rattle.std.proofs.lemmas.Bool.{cases_eq, eqb-true}
 use Rattle.std.proofs.lemmas.Nat.Bits.{bit_at-zero}
 use Rattle.nm_base.specs.Geometry.{Geometry, backing_page}
-use Rattle.nm_base.specs.PageWord.{IsPageWord, all_but, dirty_mask, grant_mask, granted_word, is_saved}
+use Rattle.nm_base.specs.PageWord.{IsPageWord, all_but, dirty_mask, grant_mask, granted_word}
 use Rattle.nm_action.specs.declared.action.Reply.TheVariants.{Done, Word}
 use Rattle.nm_action.specs.declared.action.Action.TheVariants.{Look, ClearDirty, Unmap, Map, Grant}
-use Rattle.nm_view.specs.declared.view.Phase.TheVariants.{Held, Cleared, Taken}
 use Rattle.nm_view.specs.Lists.{find, edit, erase, put, first, Once}
 use Rattle.nm_view.specs.Views.{Op, View}
 use Rattle.nm_view.specs.Operations.{page_of, op_on, names_one}
 use Rattle.nm_view.proofs.Items.{none_left, all_same, not_none}
 use Rattle.nm_view.proofs.Finds.{find_erase, find_erase_other, find_join, find_join_other}
 use Rattle.nm_permit.specs.Permitted.{MayClear, MayUnmap, MayMap, MayGrant, IsSavedWord}
-use Rattle.nm_words.specs.declared.names.Where.{Where}
 use Rattle.nm_words.specs.declared.names.Where.TheVariants as words
 use Rattle.nm_event.specs.After.{after_of, edit_of, edit_under, looked_at, cleared_at, taken_at, mapped_at, granted_at, has_some}
 use Rattle.nm_event.specs.Fitting.{Agrees}
 use Rattle.nm_world.specs.Worlds.{World, moved, viewing, written, pte_at, home_at, shadow_at, op_at}
 use Rattle.nm_world.specs.Parts.{Lore, lore_of}
 use Rattle.nm_world.specs.Sights.{Writes, Sets}
-use Rattle.nm_world.specs.Notions.{IsAloneAt, HasOne}
+use Rattle.nm_world.specs.Notions.{IsAloneAt}
 use Rattle.nm_world.specs.ShapeLaw.{ShapeLaw}
 use Rattle.nm_world.specs.LockLaw.{LockLaw, IsTrueOp, IsStaged}
 use Rattle.nm_world.specs.Laws.{IsReady}
 use Rattle.nm_world.proofs.Writing.{word_writes, edit_sets}
-use Rattle.nm_world.proofs.Moves.{OnPage, on_page}
+use Rattle.nm_world.proofs.Moves.{on_page}
 use Rattle.nm_world.proofs.Bits.{bit_xor_kept}
 use Rattle.nm_locks.specs.Facts.{LockFacts}
-use Rattle.nm_locks.proofs.Still.{if_more, KeepsView, lock_quiet, read_keeps, view_part}
+use Rattle.nm_locks.proofs.Still.{if_more, lock_quiet, read_keeps, view_part}
 use Rattle.nm_locks.proofs.Edits.{lock_edit, page_other, op_lore, found_op, some_item}
 use Rattle.nm_locks.proofs.Flags.{Softens, softens_and}
-use Rattle.nm_locks.proofs.Items.{agrees_same, found_and, is_some_of, not_some, looked_put, over_put, looked_one, taken_one, alone_put, alone_taken, none_left_of, named_taken, named_mapped, named_again, edit_absent}
+use Rattle.nm_locks.proofs.Items.{found_and, not_some, looked_put, over_put, looked_one, taken_one, alone_put, alone_taken, none_left_of, named_taken, named_mapped, named_again, edit_absent}
 
 -- the world after the table word of v was written, with a new view of the actor
 abbrev pub tabled : World → ℕ → ℕ → ℕ → View → World
@@ -54,13 +52,13 @@ lock_tabled g m a v x page f o new keeps of here ops turn least shape own stage 
 true_softened : (m m' : World) (b v x : ℕ) (o : Lore) → Writes (pte_at m) (pte_at m') v x → home_at m' ≡ home_at m → shadow_at m' ≡ shadow_at m → Softens (pte_at m v) x → IsTrueOp m b o → IsTrueOp m' b o
 true_softened m m' b v x o writes home shadow soft k =
     let zero : (u : ℕ) → pte_at m u ≡ 0 → pte_at m' u ≡ 0 = λ u was. elim (cases_eq u v) [
-        | inl same ↦ ap (pte_at m') same ∙ writes.here ∙ soft.zero (ap (pte_at m) (sym same) ∙ was)
-        | inr other ↦ writes.rest u other ∙ was
-      ] in
+      | inl same ↦ ap (pte_at m') same ∙ writes.here ∙ soft.zero (ap (pte_at m) (sym same) ∙ was)
+      | inr other ↦ writes.rest u other ∙ was
+    ] in
     let agrees : (u old : ℕ) → Agrees old (pte_at m u) → Agrees old (pte_at m' u) = λ u old was. elim (cases_eq u v) [
-        | inl same ↦ subst (Agrees old) (sym (ap (pte_at m') same ∙ writes.here)) (soft.agrees old (subst (λ (n : ℕ). Agrees old (pte_at m n)) same was))
-        | inr other ↦ subst (Agrees old) (sym (writes.rest u other)) was
-      ] in
+      | inl same ↦ subst (Agrees old) (sym (ap (pte_at m') same ∙ writes.here)) (soft.agrees old (subst (λ (n : ℕ). Agrees old (pte_at m n)) same was))
+      | inr other ↦ subst (Agrees old) (sym (writes.rest u other)) was
+    ] in
     record {
       home = if_more o.home _ _ (λ y _ is. is ∙ sym (ap (λ f. f b) home)) k.home;
       shadow = if_more o.shadow _ _ (λ y _ knows f at. knows f (sym (ap (λ h. h b) home) ∙ at) ∙ sym (ap (λ s. s f) shadow)) k.shadow;
@@ -76,11 +74,14 @@ staged_cleared g v o may s =
       held_cleared = λ is. absurd cc;
       cleared = λ is. refl;
       over = λ named. may.over;
-      alone = λ named. (v, record {
-        there = inl may.mapped;
-        looks = all_same (λ p. (p.1 ≡ 0) ⊎ (p.0 ≡ v)) (λ p. p.1 ≢ 0 → p.0 ≡ v) o.looked (λ p either some. elim either [ inl zero ↦ absurd (some zero) | inr is ↦ is ]) may.alone;
-        takes = subst (All (λ p. p.0 ≡ v)) (sym none) (none_left (λ p. p.0 ≡ v));
-      });
+      alone = λ named. (
+        v,
+        record {
+          there = inl may.mapped;
+          looks = all_same (λ p. (p.1 ≡ 0) ⊎ (p.0 ≡ v)) (λ p. p.1 ≢ 0 → p.0 ≡ v) o.looked (λ p either some. elim either [ inl zero ↦ absurd (some zero) | inr is ↦ is ]) may.alone;
+          takes = subst (All (λ p. p.0 ≡ v)) (sym none) (none_left (λ p. p.0 ≡ v));
+        },
+      );
     }
 
 pub lock_clear : (g : Geometry) (m : World) (a v : ℕ) → LockFacts g m → IsReady g m a (ClearDirty v) → LockLaw g m → LockLaw g (moved g m a (ClearDirty v))
@@ -143,14 +144,14 @@ staged_mapped : (g : Geometry) (v word : ℕ) (o : Op) → MayMap g v word o →
 staged_mapped g v word o may once s =
     let Never : Type 0 = names_one o.phase (o.cleared && has_some (erase first v o.taken)) o.moved ≡ true → ⊥ in
     let never : Never = λ named.
-        let parts = named_mapped o.phase o.cleared (has_some (erase first v o.taken)) o.moved may.phase named in
-        let one = s.alone (named_again o.phase o.cleared o.moved parts.0 parts.2) in
-        let back = may.back parts.0 parts.2 in
-        let p = found_and (find first v o.taken) (λ p. p.1 ≡ word) back.taken in
-        let same : v ≡ one.0 = taken_one o.looked o.taken v one.0 p.0 one.1 p.1.0 in
-        let left : has_some (erase first v o.taken) ≡ false = none_left_of v o.taken (subst (λ (k : ℕ). All (λ p. p.0 ≡ k) o.taken) (sym same) one.1.takes) once in
-        let some : has_some (erase first v o.taken) ≡ true = parts.1 in
-        cc in
+    let parts = named_mapped o.phase o.cleared (has_some (erase first v o.taken)) o.moved may.phase named in
+    let one = s.alone (named_again o.phase o.cleared o.moved parts.0 parts.2) in
+    let back = may.back parts.0 parts.2 in
+    let p = found_and (find first v o.taken) (λ p. p.1 ≡ word) back.taken in
+    let same : v ≡ one.0 = taken_one o.looked o.taken v one.0 p.0 one.1 p.1.0 in
+    let left : has_some (erase first v o.taken) ≡ false = none_left_of v o.taken (subst (λ (k : ℕ). All (λ p. p.0 ≡ k) o.taken) (sym same) one.1.takes) once in
+    let some : has_some (erase first v o.taken) ≡ true = parts.1 in
+    cc in
     record {
       held_taken = λ is. ap (erase first v) (s.held_taken is);
       held_cleared = λ is. rw (s.held_cleared is) refl;

@@ -1,11 +1,11 @@
 -- Table words after flags were cleared, set or turned: what they agree with, and what stands on them.
-use Rattle.std.proofs.Common.{◌≡◌, ◌≢◌, ℕ, ◌-◌, ◌/◌, ◌%◌, ◌^◌, ◌<◌, ◌==◌, min, max, Bool, true, false, IsTrue, bit_and, bit_or, bit_xor, refl, sym, ap, subst, ◌∙◌, inl, inr, arith}
+use Rattle.std.proofs.Common.{◌≡◌, ℕ, ◌-◌, ◌/◌, ◌%◌, ◌^◌, ◌<◌, ◌==◌, true, false, IsTrue, bit_and, bit_or, bit_xor, refl, sym, ap, ◌∙◌, inl, inr, arith}
 use Rattle.std.specs.Int.{bit_at}
 use Rattle.std.specs.Int.Bits.{or_zero_r, xor_zero_r}
 use Rattle.std.proofs.lemmas.Bool.{eqb-true, eq-eqb}
 use Rattle.std.proofs.lemmas.Nat.{and_mask, and_le_l, and_shr, or_shr, xor_shr}
 use Rattle.std.proofs.lemmas.Nat.Bits.{bit_at-lt, bit_at-zero, bit_at_and, bit_at_or, bit_at_xor}
-use Rattle.nm_base.specs.PageWord.{IsPresentWord, IsPageWord, all_but, frame_of, grant_mask, granted_word, is_present, is_writable, is_dirty, is_saved}
+use Rattle.nm_base.specs.PageWord.{IsPresentWord, IsPageWord, all_but, frame_of, grant_mask, granted_word, is_writable}
 use Rattle.nm_event.specs.Fitting.{Agrees}
 use Rattle.nm_view.specs.declared.view.CacheEntry.{CacheEntry}
 use Rattle.nm_world.specs.Notions.{IsStanding}

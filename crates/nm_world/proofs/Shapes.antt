@@ -1,5 +1,5 @@
 -- That each permitted step whose reply fits keeps the shape of views.
-use Rattle.std.proofs.Common.{◌≡◌, ◌≢◌, ℕ, sym, ap, subst, ◌∙◌}
+use Rattle.std.proofs.Common.{◌≡◌, ℕ, ◌∙◌}
 use Rattle.nm_base.specs.Geometry.{Geometry, IsGeometry}
 use Rattle.nm_action.specs.declared.action.Action.{Action}
 use Rattle.nm_view.specs.Views.{View}

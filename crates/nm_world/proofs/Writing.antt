@@ -1,8 +1,6 @@
 -- How a step changes the functions of a sight: one word, or one item of the view of its actor.
-use Rattle.std.proofs.Common.{◌≡◌, ◌≢◌, ℕ, ◌-◌, ◌^◌, ◌==◌, ◌&&◌, if◌then◌else◌, Bool, List, [], ◌∷◌, ◌++◌, Option, Some, None, refl, sym, ap, subst, ◌∙◌, arith}
+use Rattle.std.proofs.Common.{◌≡◌, ◌≢◌, ℕ, ◌==◌, ◌&&◌, if◌then◌else◌, [], ◌∷◌, ◌++◌, Option, Some, None, refl, sym, ap, subst, ◌∙◌}
 use Rattle.std.specs.Prelude.{option_map}
-use Rattle.nm_base.specs.Geometry.{Geometry}
-use Rattle.nm_view.specs.declared.view.Fill.{Fill}
 use Rattle.nm_view.specs.declared.view.Owned.{Owned}
 use Rattle.nm_view.specs.declared.view.CacheEntry.{CacheEntry}
 use Rattle.nm_view.specs.Lists.{find, edit, erase, put, Once}

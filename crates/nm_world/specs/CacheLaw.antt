@@ -1,5 +1,5 @@
 -- What processors cache is so, or a flush is owed that will end it.
-use Rattle.std.specs.Prelude.{◌≡◌, ℕ, ◌+◌, ◌<◌, ◌≤◌, ◌⊎◌, List, [], Option, Some, None, IsSome, IsSomeAnd, IsTrue, All}
+use Rattle.std.specs.Prelude.{◌≡◌, ℕ, ◌<◌, ◌≤◌, ◌⊎◌, [], Some, IsSomeAnd, IsTrue, All}
 use Rattle.nm_base.specs.Geometry.{Geometry, backing_page}
 use Rattle.nm_base.specs.HomeWord.{home_word}
 use Rattle.nm_view.specs.declared.view.CacheEntry.{CacheEntry}

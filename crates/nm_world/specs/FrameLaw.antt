@@ -1,5 +1,5 @@
 -- Each frame has one role, and each word of the table, or taken out of it, names the home of its page.
-use Rattle.std.specs.Prelude.{◌≡◌, ◌≢◌, ℕ, ◌+◌, Bool, Option, Some, None, IsSome, IsTrue, true, false, All}
+use Rattle.std.specs.Prelude.{◌≡◌, ◌≢◌, ℕ, Bool, Option, Some, IsSome, IsTrue, true, false, All}
 use Rattle.nm_base.specs.Geometry.{Geometry, IsWritable, backing_page}
 use Rattle.nm_base.specs.HomeWord.{home_word}
 use Rattle.nm_base.specs.PageWord.{IsPresentWord, is_writable, is_saved, frame_of}

@@ -1,13 +1,13 @@
 -- What the laws share.
-use Rattle.std.specs.Prelude.{◌≡◌, ◌≢◌, ℕ, ◌<◌, ◌≤◌, ◌⊎◌, ◌==◌, ◌-◌, if◌then◌else◌, List, [], ◌++◌, Option, Some, None, IsSome, IsSomeAnd, IsTrue, false, true, All}
+use Rattle.std.specs.Prelude.{◌≡◌, ◌≢◌, ℕ, ◌<◌, ◌⊎◌, ◌==◌, ◌-◌, if◌then◌else◌, List, Option, Some, None, IsSome, IsSomeAnd, IsTrue, false, All}
 use Rattle.std.specs.Int.{bit_at}
-use Rattle.nm_base.specs.Geometry.{Geometry, IsInTier, backing_page}
+use Rattle.nm_base.specs.Geometry.{Geometry, backing_page}
 use Rattle.nm_base.specs.PageWord.{is_present, is_writable, is_dirty, frame_of}
 use Rattle.nm_view.specs.declared.view.CacheEntry.{CacheEntry}
 use Rattle.nm_view.specs.declared.view.Fill.{Fill}
 use Rattle.nm_view.specs.declared.view.Fill.TheVariants.{Raw, Zeroed, Copied, Equal}
 use Rattle.nm_view.specs.Lists.{find, first, itself}
-use Rattle.nm_view.specs.Views.{View, off_word, end_word}
+use Rattle.nm_view.specs.Views.{off_word, end_word}
 use Rattle.nm_world.specs.Worlds.{World, ack_at}
 use Rattle.nm_world.specs.Parts.{Flight, flight_at}
 
