@@ -11,7 +11,7 @@ use Rattle.nm_view.proofs.Items.{all_find, all_head, all_tail, all_put, all_join
 use Rattle.nm_view.proofs.Finds.{find_number, find_put, find_put_other, find_join}
 use Rattle.nm_event.specs.After.{has_some}
 use Rattle.nm_event.specs.Fitting.{Agrees}
-use Rattle.nm_world.specs.Sights.{Writes}
+use Rattle.nm_world.specs.Sights.{WritesOne}
 use Rattle.nm_world.specs.Notions.{IsAloneAt}
 
 pub agrees_same : (n : ℕ) → Agrees n n
@@ -30,7 +30,7 @@ not_some None is some = cc
 not_some (Some x) is some = cc
 
 -- after the word x of v was noted, each noted word agrees with the table, in which v has x
-pub looked_put : (looked : List (ℕ × ℕ)) (v x : ℕ) (pte after : ℕ → ℕ) → Writes pte after v x → (u : ℕ) → (u ≢ v → IfSome (find first u looked) (λ p. Agrees p.1 (pte u))) → IfSome (find first u (put first (v, x) looked)) (λ p. Agrees p.1 (after u))
+pub looked_put : (looked : List (ℕ × ℕ)) (v x : ℕ) (pte after : ℕ → ℕ) → WritesOne pte after v x → (u : ℕ) → (u ≢ v → IfSome (find first u looked) (λ p. Agrees p.1 (pte u))) → IfSome (find first u (put first (v, x) looked)) (λ p. Agrees p.1 (after u))
 looked_put looked v x pte after writes u before =
     let Known : Option (ℕ × ℕ) → ℕ → Type 0 = λ o n. IfSome o (λ p. Agrees p.1 n) in
     elim (cases_eq u v) [

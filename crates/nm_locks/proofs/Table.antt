@@ -19,7 +19,7 @@ use Rattle.nm_event.specs.After.{after_of, edit_of, edit_under, looked_at, clear
 use Rattle.nm_event.specs.Fitting.{Agrees}
 use Rattle.nm_world.specs.Worlds.{World, moved, viewing, written, pte_at, home_at, shadow_at, op_at}
 use Rattle.nm_world.specs.Parts.{Lore, lore_of}
-use Rattle.nm_world.specs.Sights.{Writes, Sets}
+use Rattle.nm_world.specs.Sights.{WritesOne, Sets}
 use Rattle.nm_world.specs.Notions.{IsAloneAt}
 use Rattle.nm_world.specs.ShapeLaw.{ShapeLaw}
 use Rattle.nm_world.specs.LockLaw.{LockLaw, IsTrueOp, IsStaged}
@@ -49,7 +49,7 @@ lock_tabled g m a v x page f o new keeps of here ops turn least shape own stage 
     own stage h
 
 -- ClearDirty: what was known stays so, as no comparison reads the dirty bit
-true_softened : (m m' : World) (b v x : ℕ) (o : Lore) → Writes (pte_at m) (pte_at m') v x → home_at m' ≡ home_at m → shadow_at m' ≡ shadow_at m → Softens (pte_at m v) x → IsTrueOp m b o → IsTrueOp m' b o
+true_softened : (m m' : World) (b v x : ℕ) (o : Lore) → WritesOne (pte_at m) (pte_at m') v x → home_at m' ≡ home_at m → shadow_at m' ≡ shadow_at m → Softens (pte_at m v) x → IsTrueOp m b o → IsTrueOp m' b o
 true_softened m m' b v x o writes home shadow soft k =
     let zero : (u : ℕ) → pte_at m u ≡ 0 → pte_at m' u ≡ 0 = λ u was. elim (cases_eq u v) [
       | inl same ↦ ap (pte_at m') same ∙ writes.here ∙ soft.zero (ap (pte_at m) (sym same) ∙ was)
@@ -118,7 +118,7 @@ lock_unmap g m a v r h =
     let on = on_page g (m.view a) v (MayUnmap g v) r.allowed.permitted in
     let o : Op = on.op in
     let m' : World = tabled m a v 0 new in
-    let writes : Writes (pte_at m) (pte_at m') v 0 = word_writes (pte_at m) v 0 in
+    let writes : WritesOne (pte_at m) (pte_at m') v 0 = word_writes (pte_at m) v 0 in
     let lore = op_lore m a on.page o on.here in
     let known = h.known a on.page (lore_of o) lore in
     lock_tabled g m a v 0 on.page (taken_at v n) o new (λ y. refl) on.of on.here refl refl refl r.shaped
@@ -166,7 +166,7 @@ lock_map g m a v word r h =
     let on = on_page g (m.view a) v (MayMap g v word) r.allowed.permitted in
     let o : Op = on.op in
     let m' : World = tabled m a v word new in
-    let writes : Writes (pte_at m) (pte_at m') v word = word_writes (pte_at m) v word in
+    let writes : WritesOne (pte_at m) (pte_at m') v word = word_writes (pte_at m) v word in
     let lore = op_lore m a on.page o on.here in
     let known = h.known a on.page (lore_of o) lore in
     let once = (found_op g m a on.page o r.shaped on.here).keyed.taken.once in
@@ -218,7 +218,7 @@ lock_grant g m a v facts r h =
     let on = on_page g (m.view a) v (MayGrant v) r.allowed.permitted in
     let o : Op = on.op in
     let m' : World = tabled m a v x new in
-    let writes : Writes (pte_at m) (pte_at m') v x = word_writes (pte_at m) v x in
+    let writes : WritesOne (pte_at m) (pte_at m') v x = word_writes (pte_at m) v x in
     let lore = op_lore m a on.page o on.here in
     let known = h.known a on.page (lore_of o) lore in
     lock_tabled g m a v x on.page (granted_at v n) o new (λ y. refl) on.of on.here refl refl refl r.shaped
@@ -278,7 +278,7 @@ look_known g m a v page o of here shape h =
     let n : ℕ = pte_at m v in
     let new : View = after_of g (m.view a) (Look v) (Word n) in
     let m' : World = tabled m a v n new in
-    let writes : Writes (pte_at m) (pte_at m') v n = word_writes (pte_at m) v n in
+    let writes : WritesOne (pte_at m) (pte_at m') v n = word_writes (pte_at m) v n in
     let kept = read_keeps g (words.Pte v) m.word in
     let lore = op_lore m a page o here in
     let known = h.known a page (lore_of o) lore in

@@ -13,7 +13,7 @@ use Rattle.nm_words.specs.declared.names.Where.{Where}
 use Rattle.nm_words.specs.declared.names.Where.TheVariants.{Free}
 use Rattle.nm_step.specs.Table.{free_word_of}
 use Rattle.nm_world.specs.Worlds.{written}
-use Rattle.nm_world.specs.Sights.{Writes, free_in}
+use Rattle.nm_world.specs.Sights.{WritesOne, free_in}
 use Rattle.nm_world.proofs.Choose.{choose_name}
 
 -- the mask of all bits but bit k
@@ -70,7 +70,7 @@ other_free g word f x j frame other kept =
     both (nat_lt j (frame_count g)) _ _ (λ there. ap (λ n. n == 1) (other_bit g word f x j frame (ltb-true j (frame_count g) there) other kept))
 
 -- a frame is given out: it is free no more
-pub give_bit : (g : Geometry) (word : Where → ℕ) (f : ℕ) → IsFrame g f → Writes (free_in g word) (free_in g (written (free_word_of g f) (bit_and (word (free_word_of g f)) (all_but (2 ^ free_bit g f))) word)) f false
+pub give_bit : (g : Geometry) (word : Where → ℕ) (f : ℕ) → IsFrame g f → WritesOne (free_in g word) (free_in g (written (free_word_of g f) (bit_and (word (free_word_of g f)) (all_but (2 ^ free_bit g f))) word)) f false
 give_bit g word f frame =
     let x : ℕ = bit_and (word (free_word_of g f)) (all_but (2 ^ free_bit g f)) in
     let bit : bit_at (written (free_word_of g f) x word (free_word_of g f)) (free_bit g f) ≡ 0 =
@@ -81,7 +81,7 @@ give_bit g word f frame =
     }
 
 -- a frame is put back: it is free
-pub put_bit : (g : Geometry) (word : Where → ℕ) (f : ℕ) → IsFrame g f → Writes (free_in g word) (free_in g (written (free_word_of g f) (bit_or (word (free_word_of g f)) (2 ^ free_bit g f)) word)) f true
+pub put_bit : (g : Geometry) (word : Where → ℕ) (f : ℕ) → IsFrame g f → WritesOne (free_in g word) (free_in g (written (free_word_of g f) (bit_or (word (free_word_of g f)) (2 ^ free_bit g f)) word)) f true
 put_bit g word f frame =
     let x : ℕ = bit_or (word (free_word_of g f)) (2 ^ free_bit g f) in
     let bit : bit_at (written (free_word_of g f) x word (free_word_of g f)) (free_bit g f) ≡ 1 =
