@@ -24,18 +24,16 @@ use Rattle.nm_world.specs.Parts.{lore_of}
 use Rattle.nm_world.specs.Laws.{AreAll}
 use Rattle.nm_world.proofs.Choose.{decide}
 use Rattle.nm_world.proofs.Moves.{on_page}
-use Rattle.nm_fits.proofs.Words.{if_all, table_reply}
+use Rattle.nm_world.proofs.Options.{if_all, some_and}
+use Rattle.nm_world.proofs.Bits.{saved_some}
+use Rattle.nm_fits.proofs.Words.{table_reply}
 use Rattle.nm_fits.proofs.Sums.{few_bumps, few_raises}
 use Rattle.nm_fits.proofs.Frames.{known_op, scan_fits, home_read_fits, shadow_read_fits}
-
-found_and : (o : Option (ℕ × ℕ)) (P : ℕ × ℕ → Type 0) → IsSomeAnd o P → (p : ℕ × ℕ) × ((o ≡ Some p) × P p)
-found_and None P h = absurd h
-found_and (Some p) P h = (p, (refl, h))
 
 -- a word that was looked at as not 0 and not taken is not 0
 mapped_word : (g : Geometry) (m : World) (a b v : ℕ) (o : Op) → AreAll g m → op_at m a b ≡ Some o → find first v o.taken ≡ None → IsSomeAnd (find first v o.looked) (λ p. p.1 ≢ 0) → pte_at m v ≢ 0
 mapped_word g m a b v o h is none looked zero =
-    let p = found_and (find first v o.looked) (λ p. p.1 ≢ 0) looked in
+    let p = some_and (find first v o.looked) (λ p. p.1 ≢ 0) looked in
     let agrees : Agrees p.0.1 (pte_at m v) = subst (λ (q : Option (ℕ × ℕ)). IfSome q (λ p. Agrees p.1 (pte_at m v))) p.1.0 ((known_op g m a b o h is).looked v none) in
     p.1.1 (agrees.absent.1 zero)
 
@@ -58,15 +56,10 @@ unmap_mapped g m a v h may =
     let on = on_page g (m.view a) v (MayUnmap g v) may in
     mapped_word g m a on.page v on.op h on.here on.may.mapped.there on.may.mapped.looked
 
-saved_some : (word : ℕ) → IsSavedWord word → word ≢ 0
-saved_some word saved none =
-    let bit : bit_at word 5 ≡ 1 = eqb-true (bit_at word 5) 1 saved.saved in
-    omega (arith, bit, ap (λ n. bit_at n 5) none ∙ bit_at-zero 5)
-
 grant_mapped : (g : Geometry) (m : World) (a v : ℕ) → AreAll g m → IsSomeAnd (op_of g (m.view a) v) (MayGrant v) → pte_at m v ≢ 0
 grant_mapped g m a v h may =
     let on = on_page g (m.view a) v (MayGrant v) may in
-    let p = found_and (find first v on.op.looked) (λ p. IsSavedWord p.1) on.may.saved in
+    let p = some_and (find first v on.op.looked) (λ p. IsSavedWord p.1) on.may.saved in
     let looked : IsSomeAnd (find first v on.op.looked) (λ p. p.1 ≢ 0) = subst (λ (q : Option (ℕ × ℕ)). IsSomeAnd q (λ p. p.1 ≢ 0)) (sym p.1.0) (saved_some p.0.1 p.1.1) in
     mapped_word g m a on.page v on.op h on.here on.may.there looked
 

@@ -29,7 +29,8 @@ use Rattle.nm_world.specs.FrameLaw.{Bit, AtHome, AtShadow, names_of}
 use Rattle.nm_world.specs.LockLaw.{IsTrueOp}
 use Rattle.nm_world.specs.Laws.{AreAll}
 use Rattle.nm_world.proofs.Roles.{one_claim}
-use Rattle.nm_fits.proofs.Words.{if_more, not_owned}
+use Rattle.nm_world.proofs.Options.{if_more}
+use Rattle.nm_fits.proofs.Words.{not_owned}
 use Rattle.nm_fits.proofs.Sums.{all_found}
 
 -- what an operation that is found knows is so

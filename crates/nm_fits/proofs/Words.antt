@@ -20,6 +20,7 @@ use Rattle.nm_world.specs.Sights.{sight_of}
 use Rattle.nm_world.specs.FrameLaw.{Claim, Bit, AtHome, AtShadow, By, Claims, names_of}
 use Rattle.nm_world.specs.LockLaw.{IsTrueOp}
 use Rattle.nm_world.specs.Laws.{AreAll}
+use Rattle.nm_world.proofs.Options.{if_more, if_all}
 use Rattle.nm_world.proofs.Roles.{one_claim}
 
 -- Table words.
@@ -46,15 +47,6 @@ table_word g m v h =
             saved = is.saved;
           }
     ]
-
--- what follows of a known value
-pub if_more : {A : Type 0} (o : Option A) (P Q : A → Type 0) → ((x : A) → o ≡ Some x → P x → Q x) → IfSome o P → IfSome o Q
-if_more None P Q step h = h
-if_more (Some x) P Q step h = step x refl h
-
-pub if_all : {A : Type 0} (o : Option A) (P : A → Type 0) → ((x : A) → o ≡ Some x → P x) → IfSome o P
-if_all None P step = tt
-if_all (Some x) P step = step x refl
 
 -- beside a shadow word of the home that is not 0 no table word of the page is writable
 unwritable : (g : Geometry) (m : World) (v page s : ℕ) → backing_page g v ≡ Some page → AreAll g m → ((f : ℕ) → home_at m page ≡ home_word f → s ≡ shadow_at m f) → s ≢ 0 → is_writable (pte_at m v) ≡ false

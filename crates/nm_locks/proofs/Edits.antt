@@ -18,7 +18,8 @@ use Rattle.nm_world.specs.Sights.{WritesOne, Sets}
 use Rattle.nm_world.specs.ShapeLaw.{ShapeLaw}
 use Rattle.nm_world.specs.LockLaw.{IsTrueOp, IsStaged, LockLaw}
 use Rattle.nm_world.proofs.Moves.{each_op, sole_op}
-use Rattle.nm_locks.proofs.Still.{if_more, locks_still, KeepsTurns, turns_still, least_still}
+use Rattle.nm_locks.proofs.Still.{locks_still, KeepsTurns, turns_still, least_still}
+use Rattle.nm_world.proofs.Options.{if_more}
 
 abbrev pub present : Op → Bool
 present o = true

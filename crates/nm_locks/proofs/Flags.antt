@@ -22,8 +22,9 @@ use Rattle.nm_world.specs.Laws.{IsReady}
 use Rattle.nm_world.proofs.Choose.{choose}
 use Rattle.nm_world.proofs.Bits.{agrees_and, agrees_or}
 use Rattle.nm_locks.specs.Facts.{LockFacts}
-use Rattle.nm_locks.proofs.Still.{if_more, KeepsView, same_view, KeepsTurns, turns_still, least_still, locks_still, lock_quiet, read_keeps, view_part}
+use Rattle.nm_locks.proofs.Still.{KeepsView, same_view, KeepsTurns, turns_still, least_still, locks_still, lock_quiet, read_keeps, view_part}
 use Rattle.nm_locks.proofs.Turns.{cases_on}
+use Rattle.nm_world.proofs.Options.{if_more}
 
 -- a table word is changed only in what no comparison reads: 0 stays 0, and what agreed goes on agreeing
 pub record Softens (word new : ℕ) : Type 0 where

@@ -17,10 +17,11 @@ use Rattle.nm_world.specs.LockLaw.{LockLaw, IsTrueOp, IsStaged}
 use Rattle.nm_world.specs.Laws.{IsReady}
 use Rattle.nm_world.proofs.Choose.{choose}
 use Rattle.nm_world.proofs.Writing.{open_sets, close_sets}
-use Rattle.nm_world.proofs.Moves.{edited, gone, known_op, some_op}
+use Rattle.nm_world.proofs.Moves.{edited, gone, some_op}
 use Rattle.nm_locks.proofs.Still.{same_view, KeepsTurns, turns_still, least_still, lock_quiet, read_keeps, view_part}
 use Rattle.nm_locks.proofs.Edits.{by_op, op_lore}
 use Rattle.nm_locks.proofs.Turns.{cases_on, not_both}
+use Rattle.nm_world.proofs.Options.{some_and}
 
 none_there : {A : Type 0} (found : Option A) → found ≡ None → IsSome found → ⊥
 none_there None is some = cc
@@ -118,7 +119,7 @@ lock_unlock g m a b r h =
     let view : View = m.view a in
     let new : View = after_of g view (Unlock b) Done in
     let m' : World = record { word = written (words.Lock b) 0 m.word; view = viewing a new m.view } in
-    let own = known_op _ (op_on view b) r.allowed.permitted in
+    let own = some_and (op_on view b) _ r.allowed.permitted in
     let sets : Sets (op_at m) (op_at m') a b None = close_sets a b new m.view refl (r.shaped.shape a r.actor).keyed.ops_once in
     let turns = turns_there g m b 0 a new refl refl in
     record {

@@ -24,10 +24,10 @@ use Rattle.nm_world.specs.LockLaw.{LockLaw, IsStaged}
 use Rattle.nm_world.specs.Laws.{IsReady}
 use Rattle.nm_world.proofs.Choose.{choose}
 use Rattle.nm_world.proofs.Writing.{edit_sets}
-use Rattle.nm_world.proofs.Moves.{known_op}
 use Rattle.nm_locks.specs.Facts.{LockFacts}
-use Rattle.nm_locks.proofs.Still.{if_more, true_still, read_keeps, turns_kept, view_part}
+use Rattle.nm_locks.proofs.Still.{true_still, read_keeps, turns_kept, view_part}
 use Rattle.nm_locks.proofs.Edits.{lock_edit, op_lore}
+use Rattle.nm_world.proofs.Options.{if_more, some_and}
 
 -- a known value is what is found
 known_is : (o : Option ℕ) (x : ℕ) (P : ℕ → Type 0) → o ≡ Some x → IfSome o P → P x
@@ -46,7 +46,7 @@ lock_read_home g m a b page r h =
     let view : View = m.view a in
     let new : View = after_of g view (Read b (cells.Home page)) (Word n) in
     let m' : World = record { word = word; view = viewing a new m.view } in
-    let own = known_op _ (op_on view b) r.allowed.permitted in
+    let own = some_and (op_on view b) _ r.allowed.permitted in
     let o : Op = own.0 in
     let kept = read_keeps g (words.Home page) m.word in
     let sets : Sets (op_at m) (op_at m') a b (Some (read_cell (cells.Home page) n o)) = edit_sets a b (read_cell (cells.Home page) n) o new m.view (λ x. refl) refl own.1.0 in
@@ -63,7 +63,7 @@ lock_read_shadow g m a b frame r h =
     let view : View = m.view a in
     let new : View = after_of g view (Read b (cells.Shadow frame)) (Word n) in
     let m' : World = record { word = word; view = viewing a new m.view } in
-    let own = known_op _ (op_on view b) r.allowed.permitted in
+    let own = some_and (op_on view b) _ r.allowed.permitted in
     let o : Op = own.0 in
     let kept = read_keeps g (words.Shadow frame) m.word in
     let sets : Sets (op_at m) (op_at m') a b (Some (read_cell (cells.Shadow frame) n o)) = edit_sets a b (read_cell (cells.Shadow frame) n) o new m.view (λ x. refl) refl own.1.0 in
@@ -100,7 +100,7 @@ lock_set_home g m a b f facts r h =
     let view : View = m.view a in
     let new : View = after_of g view (SetHome b f) Done in
     let m' : World = record { word = word; view = viewing a new m.view } in
-    let own = known_op _ (op_on view b) r.allowed.permitted in
+    let own = some_and (op_on view b) _ r.allowed.permitted in
     let o : Op = own.0 in
     let fill = some_fill g (fill_of view f) o own.1.1 in
     let bare : shadow_at m f ≡ 0 = facts.unshaded f (λ c. facts.owned a c f fill.0 fill.1) in
@@ -142,7 +142,7 @@ lock_set_shadow g m a b k s facts r h =
     let view : View = m.view a in
     let new : View = after_of g view (SetShadow b k s) Done in
     let m' : World = record { word = word; view = viewing a new m.view } in
-    let own = known_op _ (op_on view b) r.allowed.permitted in
+    let own = some_and (op_on view b) _ r.allowed.permitted in
     let o : Op = own.0 in
     let sets : Sets (op_at m) (op_at m') a b (Some (shaded b s o)) = edit_sets a b (shaded b s) o new m.view (λ y. refl) refl own.1.0 in
     let known = h.known a b (lore_of o) (op_lore m a b o own.1.0) in

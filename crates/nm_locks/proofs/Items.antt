@@ -13,14 +13,10 @@ use Rattle.nm_event.specs.After.{has_some}
 use Rattle.nm_event.specs.Fitting.{Agrees}
 use Rattle.nm_world.specs.Sights.{WritesOne}
 use Rattle.nm_world.specs.Notions.{IsAloneAt}
+use Rattle.nm_world.proofs.Options.{some_and}
 
 pub agrees_same : (n : ℕ) → Agrees n n
 agrees_same n = record { absent = (λ e. e, λ e. e); frame = refl; writable = refl; saved = refl }
-
--- a pair that is found, of which P holds
-pub found_and : (o : Option (ℕ × ℕ)) (P : ℕ × ℕ → Type 0) → IsSomeAnd o P → (p : ℕ × ℕ) × ((o ≡ Some p) × P p)
-found_and None P h = absurd h
-found_and (Some p) P h = (p, (refl, h))
 
 pub is_some_of : {A : Type 0} (o : Option A) (x : A) → o ≡ Some x → IsSome o
 is_some_of o x is = rw is cc
@@ -53,7 +49,7 @@ over_put g page v x looked h u of =
 -- a word that was looked at as not 0 is of the one virtual page, and so is a taken one
 pub looked_one : (looked taken : List (ℕ × ℕ)) (v w : ℕ) → IsAloneAt looked taken w → IsSomeAnd (find first v looked) (λ p. p.1 ≢ 0) → v ≡ w
 looked_one looked taken v w alone h =
-    let p = found_and (find first v looked) (λ p. p.1 ≢ 0) h in
+    let p = some_and (find first v looked) (λ p. p.1 ≢ 0) h in
     sym (find_number first v looked p.0 p.1.0) ∙ all_find first v (λ p. p.1 ≢ 0 → p.0 ≡ w) looked p.0 alone.looks p.1.0 p.1.1
 
 pub taken_one : (looked taken : List (ℕ × ℕ)) (v w : ℕ) (p : ℕ × ℕ) → IsAloneAt looked taken w → find first v taken ≡ Some p → v ≡ w

@@ -13,11 +13,7 @@ use Rattle.nm_world.specs.Parts.{Lore, lore_of, lore_at}
 use Rattle.nm_world.specs.Sights.{free_in}
 use Rattle.nm_world.specs.LockLaw.{IsTrueOp, IsFreeIn, LockLaw}
 use Rattle.nm_world.proofs.Choose.{choose, choose_name}
-
--- what follows of a known value
-pub if_more : {A : Type 0} (o : Option A) (P Q : A → Type 0) → ((x : A) → o ≡ Some x → P x → Q x) → IfSome o P → IfSome o Q
-if_more None P Q step h = h
-if_more (Some x) P Q step h = step x refl h
+use Rattle.nm_world.proofs.Options.{if_more}
 
 -- an item is found where a part of it is found as before
 pub some_from : {A B : Type 0} (part : A → B) (was is : Option A) → option_map part is ≡ option_map part was → IsSome was → IsSome is

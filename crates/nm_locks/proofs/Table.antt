@@ -26,12 +26,13 @@ use Rattle.nm_world.specs.LockLaw.{LockLaw, IsTrueOp, IsStaged}
 use Rattle.nm_world.specs.Laws.{IsReady}
 use Rattle.nm_world.proofs.Writing.{word_writes, edit_sets}
 use Rattle.nm_world.proofs.Moves.{on_page}
-use Rattle.nm_world.proofs.Bits.{bit_xor_kept}
+use Rattle.nm_world.proofs.Bits.{bit_xor_kept, saved_some}
 use Rattle.nm_locks.specs.Facts.{LockFacts}
-use Rattle.nm_locks.proofs.Still.{if_more, lock_quiet, read_keeps, view_part}
+use Rattle.nm_locks.proofs.Still.{lock_quiet, read_keeps, view_part}
 use Rattle.nm_locks.proofs.Edits.{lock_edit, page_other, op_lore, found_op, some_item}
 use Rattle.nm_locks.proofs.Flags.{Softens, softens_and}
-use Rattle.nm_locks.proofs.Items.{found_and, not_some, looked_put, over_put, looked_one, taken_one, alone_put, alone_taken, none_left_of, named_taken, named_mapped, named_again, edit_absent}
+use Rattle.nm_locks.proofs.Items.{not_some, looked_put, over_put, looked_one, taken_one, alone_put, alone_taken, none_left_of, named_taken, named_mapped, named_again, edit_absent}
+use Rattle.nm_world.proofs.Options.{if_more, some_and}
 
 -- the world after the table word of v was written, with a new view of the actor
 abbrev pub tabled : World → ℕ → ℕ → ℕ → View → World
@@ -147,7 +148,7 @@ staged_mapped g v word o may once s =
     let parts = named_mapped o.phase o.cleared (has_some (erase first v o.taken)) o.moved may.phase named in
     let one = s.alone (named_again o.phase o.cleared o.moved parts.0 parts.2) in
     let back = may.back parts.0 parts.2 in
-    let p = found_and (find first v o.taken) (λ p. p.1 ≡ word) back.taken in
+    let p = some_and (find first v o.taken) (λ p. p.1 ≡ word) back.taken in
     let same : v ≡ one.0 = taken_one o.looked o.taken v one.0 p.0 one.1 p.1.0 in
     let left : has_some (erase first v o.taken) ≡ false = none_left_of v o.taken (subst (λ (k : ℕ). All (λ p. p.0 ≡ k) o.taken) (sym same) one.1.takes) once in
     let some : has_some (erase first v o.taken) ≡ true = parts.1 in
@@ -185,11 +186,6 @@ lock_map g m a v word r h =
 
 -- Grant
 
-saved_some : (word : ℕ) → IsSavedWord word → word ≢ 0
-saved_some word saved none =
-    let bit : bit_at word 5 ≡ 1 = eqb-true (bit_at word 5) 1 saved.saved in
-    omega (arith, bit, ap (λ n. bit_at n 5) none ∙ bit_at-zero 5)
-
 granted_some : (word : ℕ) → IsPageWord word → word ≢ 0 → granted_word word ≢ 0
 granted_some word page some none = elim page [
   | inl zero ↦ some zero
@@ -198,7 +194,7 @@ granted_some word page some none = elim page [
 
 staged_granted : (g : Geometry) (v n : ℕ) (o : Op) → granted_word n ≢ 0 → MayGrant v o → IsStaged g (lore_of o) → IsStaged g (lore_of (granted_at v n o))
 staged_granted g v n o some may s =
-    let p = found_and (find first v o.looked) (λ p. IsSavedWord p.1) may.saved in
+    let p = some_and (find first v o.looked) (λ p. IsSavedWord p.1) may.saved in
     let looked : IsSomeAnd (find first v o.looked) (λ p. p.1 ≢ 0) = subst (λ (q : Option (ℕ × ℕ)). IsSomeAnd q (λ p. p.1 ≢ 0)) (sym p.1.0) (saved_some p.0.1 p.1.1) in
     record {
       held_taken = s.held_taken;

@@ -1,3 +1,4 @@
+pub mod Options
 pub mod Choose
 pub mod Writing
 pub mod Parts
