@@ -1,12 +1,12 @@
 -- The lock law where one operation is edited, and perhaps one word of its page written.
-use Rattle.std.proofs.Common.{◌≡◌, ◌≢◌, ℕ, ◌+◌, ◌<◌, ◌≤◌, Bool, true, false, List, Option, Some, None, IsSome, IfSome, All, refl, sym, ap, subst, ◌∙◌, inl, inr, arith}
+use Rattle.std.proofs.Common.{◌≡◌, ◌≢◌, ℕ, ◌+◌, Bool, true, List, Option, Some, None, IsSome, refl, sym, ap, subst, ◌∙◌, inl, inr, arith}
 use Rattle.std.specs.Prelude.{option_map}
 use Rattle.std.proofs.lemmas.Bool.{cases_eq, cases_lt}
 use Rattle.nm_base.specs.Geometry.{Geometry, backing_page}
 use Rattle.nm_view.specs.Lists.{find, first}
-use Rattle.nm_view.specs.Views.{Op, View}
-use Rattle.nm_view.specs.Opening.{opening, IsActor}
-use Rattle.nm_view.specs.Operations.{page_of, op_on, IsTaken}
+use Rattle.nm_view.specs.Views.{Op}
+use Rattle.nm_view.specs.Opening.{opening}
+use Rattle.nm_view.specs.Operations.{page_of, op_on}
 use Rattle.nm_view.proofs.Items.{all_find, some_same, not_none}
 use Rattle.nm_view.proofs.Finds.{find_number}
 use Rattle.nm_event.specs.Fitting.{Agrees}
@@ -14,11 +14,12 @@ use Rattle.nm_shape.specs.Keyed.{IsOpKeyed, AreOwnPages}
 use Rattle.nm_shape.specs.Shape.{IsOpShaped}
 use Rattle.nm_world.specs.Worlds.{World, pte_at, home_at, shadow_at, lock_at, op_at}
 use Rattle.nm_world.specs.Parts.{Lore, lore_of, lore_at}
-use Rattle.nm_world.specs.Sights.{Writes, Sets}
+use Rattle.nm_world.specs.Sights.{WritesOne, Sets}
 use Rattle.nm_world.specs.ShapeLaw.{ShapeLaw}
 use Rattle.nm_world.specs.LockLaw.{IsTrueOp, IsStaged, LockLaw}
-use Rattle.nm_world.proofs.Moves.{each_op, edited, gone, sole_op}
-use Rattle.nm_locks.proofs.Still.{if_more, some_from, true_still, locks_still, KeepsTurns, turns_still, least_still}
+use Rattle.nm_world.proofs.Moves.{each_op, sole_op}
+use Rattle.nm_locks.proofs.Still.{locks_still, KeepsTurns, turns_still, least_still}
+use Rattle.nm_world.proofs.Options.{if_more}
 
 abbrev pub present : Op → Bool
 present o = true
@@ -78,7 +79,7 @@ some_item None h = absurd (let none : ⊥ = cc in none)
 some_item (Some p) h = (p, refl)
 
 -- a write of the table word of a page leaves what operations on other pages know
-pub page_other : (g : Geometry) (m m' : World) (b v x : ℕ) → backing_page g v ≡ Some b → Writes (pte_at m) (pte_at m') v x → ((c : ℕ) → home_at m' c ≡ home_at m c) → ((k : ℕ) → shadow_at m' k ≡ shadow_at m k) → ShapeLaw g m → (c j : ℕ) (o : Op) → j ≢ b → op_at m c j ≡ Some o → IsTrueOp m j (lore_of o) → IsTrueOp m' j (lore_of o)
+pub page_other : (g : Geometry) (m m' : World) (b v x : ℕ) → backing_page g v ≡ Some b → WritesOne (pte_at m) (pte_at m') v x → ((c : ℕ) → home_at m' c ≡ home_at m c) → ((k : ℕ) → shadow_at m' k ≡ shadow_at m k) → ShapeLaw g m → (c j : ℕ) (o : Op) → j ≢ b → op_at m c j ≡ Some o → IsTrueOp m j (lore_of o) → IsTrueOp m' j (lore_of o)
 page_other g m m' b v x of writes home shadow shape c j o other is h =
     let found = found_op g m c j o shape is in
     let Apart : ℕ → Type 0 = λ u. backing_page g u ≡ Some o.page → pte_at m' u ≡ pte_at m u in

@@ -1,32 +1,30 @@
 -- The kinds that change flags of a table word: Soften, Arm, Walk.
-use Rattle.std.proofs.Common.{◌≡◌, ◌≢◌, ℕ, ◌+◌, ◌^◌, ◌<◌, ◌≤◌, ◌==◌, if◌then◌else◌, bit_and, bit_or, Bool, true, false, Option, Some, None, refl, sym, ap, subst, ◌∙◌, inl, inr, arith}
+use Rattle.std.proofs.Common.{◌≡◌, ◌≢◌, ℕ, ◌^◌, ◌<◌, ◌==◌, if◌then◌else◌, bit_and, bit_or, Bool, true, false, refl, sym, ap, subst, ◌∙◌, inl, inr, arith}
 use Rattle.std.specs.Int.{bit_at}
-use Rattle.std.proofs.lemmas.Bool.{cases_eq, eqb-true}
+use Rattle.std.proofs.lemmas.Bool.{eqb-true}
 use Rattle.std.proofs.lemmas.Nat.{and_le_l}
 use Rattle.nm_base.specs.Geometry.{Geometry}
-use Rattle.nm_base.specs.PageWord.{IsPresentWord, IsPageWord, all_but, hint_mask, walk_mask, walked_word}
+use Rattle.nm_base.specs.PageWord.{IsPageWord, all_but, hint_mask, walk_mask, walked_word}
 use Rattle.nm_action.specs.declared.action.Bit.{Bit}
 use Rattle.nm_action.specs.declared.action.Bit.TheVariants.{Hint, Accessed}
-use Rattle.nm_action.specs.declared.action.Reply.TheVariants.{Done, Word, Lost}
+use Rattle.nm_action.specs.declared.action.Reply.TheVariants.{Done, Lost}
 use Rattle.nm_action.specs.declared.action.Action.TheVariants.{Soften, Arm, Walk}
 use Rattle.nm_view.specs.Lists.{find, first}
 use Rattle.nm_view.specs.Views.{View}
-use Rattle.nm_words.specs.declared.names.Where.{Where}
 use Rattle.nm_words.specs.declared.names.Where.TheVariants as words
 use Rattle.nm_step.specs.Table.{bit_mask}
 use Rattle.nm_event.specs.After.{after_of}
 use Rattle.nm_event.specs.Fitting.{Agrees}
 use Rattle.nm_world.specs.Worlds.{World, moved, viewing, written, pte_at}
 use Rattle.nm_world.specs.Parts.{Lore, lore_of, lore_at}
-use Rattle.nm_world.specs.Sights.{Writes}
 use Rattle.nm_world.specs.LockLaw.{LockLaw, IsTrueOp}
 use Rattle.nm_world.specs.Laws.{IsReady}
 use Rattle.nm_world.proofs.Choose.{choose}
-use Rattle.nm_world.proofs.Writing.{word_writes}
 use Rattle.nm_world.proofs.Bits.{agrees_and, agrees_or}
 use Rattle.nm_locks.specs.Facts.{LockFacts}
-use Rattle.nm_locks.proofs.Still.{if_more, KeepsView, same_view, KeepsTurns, turns_still, least_still, locks_still, lock_quiet, read_keeps, view_part}
+use Rattle.nm_locks.proofs.Still.{KeepsView, same_view, KeepsTurns, turns_still, least_still, locks_still, lock_quiet, read_keeps, view_part}
 use Rattle.nm_locks.proofs.Turns.{cases_on}
+use Rattle.nm_world.proofs.Options.{if_more}
 
 -- a table word is changed only in what no comparison reads: 0 stays 0, and what agreed goes on agreeing
 pub record Softens (word new : ℕ) : Type 0 where
@@ -56,7 +54,7 @@ lock_softened g m a v x new soft view h =
     }
 
 -- a cleared flag
-softens_and : (word flags : ℕ) → flags < 2 ^ 12 → bit_at (all_but flags) 0 ≡ 1 → bit_at (all_but flags) 2 ≡ 1 → bit_at (all_but flags) 5 ≡ 1 → IsPageWord word → Softens word (bit_and word (all_but flags))
+pub softens_and : (word flags : ℕ) → flags < 2 ^ 12 → bit_at (all_but flags) 0 ≡ 1 → bit_at (all_but flags) 2 ≡ 1 → bit_at (all_but flags) 5 ≡ 1 → IsPageWord word → Softens word (bit_and word (all_but flags))
 softens_and word flags low zero two five page = record {
   zero = λ none. omega (arith, none, and_le_l word (all_but flags));
   agrees = λ old was. agrees_and old word flags low zero two five page was;
@@ -92,10 +90,10 @@ lock_walk g m a v e write facts r h =
     let Left : Bool → Type 0 = λ b. LockLaw g (record { word = written (words.Pte v) (if b then walked_word e write else n) m.word; view = viewing a (after_of g view (Walk v e write) (if b then Done else Lost n)) m.view }) in
     cases_on Left (n == e)
     (λ found.
-        let same : n ≡ e = eqb-true n e found in
-        let some : e ≢ 0 = λ none. (let bit : bit_at e 0 ≡ 1 = eqb-true (bit_at e 0) 1 r.allowed.permitted.present in absurd (omega (arith, bit, ap (λ k. bit_at k 0) none))) in
-        let new : View = after_of g view (Walk v e write) Done in
-        lock_softened g m a v (walked_word e write) new
-        (subst (λ (k : ℕ). Softens k (walked_word e write)) (sym same) (soft_walk e write some (subst IsPageWord same (facts.page_words v))))
-        (record { turn = refl; least = refl; lore = λ b. refl }) h)
+    let same : n ≡ e = eqb-true n e found in
+    let some : e ≢ 0 = λ none. (let bit : bit_at e 0 ≡ 1 = eqb-true (bit_at e 0) 1 r.allowed.permitted.present in absurd (omega (arith, bit, ap (λ k. bit_at k 0) none))) in
+    let new : View = after_of g view (Walk v e write) Done in
+    lock_softened g m a v (walked_word e write) new
+    (subst (λ (k : ℕ). Softens k (walked_word e write)) (sym same) (soft_walk e write some (subst IsPageWord same (facts.page_words v))))
+    (record { turn = refl; least = refl; lore = λ b. refl }) h)
     (λ lost. lock_quiet g m (written (words.Pte v) n m.word) a view (read_keeps g (words.Pte v) m.word) (same_view view) h)

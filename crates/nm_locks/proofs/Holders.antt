@@ -1,6 +1,5 @@
 -- The kinds that take and leave a lock.
-use Rattle.std.proofs.Common.{◌≡◌, ◌≢◌, ◌↔◌, ℕ, ◌+◌, ◌==◌, if◌then◌else◌, Bool, true, false, List, [], Option, Some, None, IsSome, refl, sym, ap, subst, ◌∙◌, inl, inr, arith}
-use Rattle.std.specs.Prelude.{option_map}
+use Rattle.std.proofs.Common.{◌≡◌, ◌↔◌, ℕ, ◌+◌, ◌==◌, if◌then◌else◌, Bool, [], Option, Some, None, IsSome, refl, sym, ap, subst, ◌∙◌, inl, inr, arith}
 use Rattle.std.proofs.lemmas.Bool.{cases_eq, eqb-true}
 use Rattle.nm_base.specs.Geometry.{Geometry}
 use Rattle.nm_action.specs.declared.action.Reply.TheVariants.{Done, Busy}
@@ -8,9 +7,7 @@ use Rattle.nm_action.specs.declared.action.Action.TheVariants.{Lock, Unlock}
 use Rattle.nm_view.specs.Lists.{find, first}
 use Rattle.nm_view.specs.Views.{Op, View}
 use Rattle.nm_view.specs.Opening.{opened}
-use Rattle.nm_view.specs.Operations.{op_on, IsTaken}
-use Rattle.nm_view.proofs.Items.{not_none}
-use Rattle.nm_words.specs.declared.names.Where.{Where}
+use Rattle.nm_view.specs.Operations.{op_on}
 use Rattle.nm_words.specs.declared.names.Where.TheVariants as words
 use Rattle.nm_event.specs.After.{after_of}
 use Rattle.nm_world.specs.Worlds.{World, moved, viewing, written, lock_at, op_at}
@@ -20,10 +17,11 @@ use Rattle.nm_world.specs.LockLaw.{LockLaw, IsTrueOp, IsStaged}
 use Rattle.nm_world.specs.Laws.{IsReady}
 use Rattle.nm_world.proofs.Choose.{choose}
 use Rattle.nm_world.proofs.Writing.{open_sets, close_sets}
-use Rattle.nm_world.proofs.Moves.{edited, gone, known_op, some_op, sole_op}
+use Rattle.nm_world.proofs.Moves.{edited, gone, some_op}
 use Rattle.nm_locks.proofs.Still.{same_view, KeepsTurns, turns_still, least_still, lock_quiet, read_keeps, view_part}
 use Rattle.nm_locks.proofs.Edits.{by_op, op_lore}
 use Rattle.nm_locks.proofs.Turns.{cases_on, not_both}
+use Rattle.nm_world.proofs.Options.{some_and}
 
 none_there : {A : Type 0} (found : Option A) → found ≡ None → IsSome found → ⊥
 none_there None is some = cc
@@ -48,12 +46,13 @@ locks_opened g m m' a b k o number sets zero h c j =
       | inl ca ↦
           let here : op_at m' c j ≡ Some o = ap (λ n. op_at m' n j) ca ∙ ap (op_at m' a) jb ∙ sets.here in
           (λ _. some_op (op_at m' c j) o here, λ _. omega (arith, number, ca))
-      | inr ca ↦
-          (λ mine. absurd (not_both k a c number mine ca),
-           λ theirs. absurd (
-               let before : IsSome (op_at m c j) = subst IsSome (sets.others c j ca) theirs in
-               let word : lock_at m b ≡ c + 1 = subst (λ (n : ℕ). lock_at m n ≡ c + 1) jb ((h.locks c j).1 before) in
-               omega (arith, zero, word)))
+      | inr ca ↦ (
+        λ mine. absurd (not_both k a c number mine ca),
+        λ theirs. absurd (
+            let before : IsSome (op_at m c j) = subst IsSome (sets.others c j ca) theirs in
+            let word : lock_at m b ≡ c + 1 = subst (λ (n : ℕ). lock_at m n ≡ c + 1) jb ((h.locks c j).1 before) in
+            omega (arith, zero, word)),
+      )
     ])
     (λ jb. elim (cases_eq c a) [
       | inl ca ↦
@@ -68,13 +67,16 @@ locks_opened g m m' a b k o number sets zero h c j =
 locks_closed : (g : Geometry) (m m' : World) (a b : ℕ) (o : Op) → Sets (op_at m) (op_at m') a b None → op_at m a b ≡ Some o → LockLaw g m → (c j : ℕ) → ((if j == b then 0 else lock_at m j) ≡ c + 1) ↔ IsSome (op_at m' c j)
 locks_closed g m m' a b o sets here h c j =
     choose (λ n. (n ≡ c + 1) ↔ IsSome (op_at m' c j)) j b 0 (lock_at m j)
-    (λ jb. (λ mine. absurd (omega (arith, mine)), λ theirs. absurd (elim (cases_eq c a) [
-      | inl ca ↦ none_there (op_at m' c j) (ap (λ n. op_at m' n j) ca ∙ ap (op_at m' a) jb ∙ sets.here) theirs
-      | inr ca ↦
-          let before : IsSome (op_at m c j) = subst IsSome (sets.others c j ca) theirs in
-          let word : lock_at m b ≡ c + 1 = subst (λ (n : ℕ). lock_at m n ≡ c + 1) jb ((h.locks c j).1 before) in
-          not_both (lock_at m b) a c ((h.locks a b).1 (some_op (op_at m a b) o here)) word ca
-    ])))
+    (λ jb. (
+      λ mine. absurd (omega (arith, mine)),
+      λ theirs. absurd (elim (cases_eq c a) [
+        | inl ca ↦ none_there (op_at m' c j) (ap (λ n. op_at m' n j) ca ∙ ap (op_at m' a) jb ∙ sets.here) theirs
+        | inr ca ↦
+            let before : IsSome (op_at m c j) = subst IsSome (sets.others c j ca) theirs in
+            let word : lock_at m b ≡ c + 1 = subst (λ (n : ℕ). lock_at m n ≡ c + 1) jb ((h.locks c j).1 before) in
+            not_both (lock_at m b) a c ((h.locks a b).1 (some_op (op_at m a b) o here)) word ca
+      ]),
+    ))
     (λ jb. elim (cases_eq c a) [
       | inl ca ↦
           let same : op_at m' c j ≡ op_at m c j = ap (λ n. op_at m' n j) ca ∙ sets.rest j jb ∙ ap (λ n. op_at m n j) (sym ca) in
@@ -96,20 +98,20 @@ lock_lock g m a b r h =
     let Left : Bool → Type 0 = λ t. LockLaw g (record { word = written (words.Lock b) (if t then k else n) m.word; view = viewing a (after_of g view (Lock b) (if t then Done else Busy n)) m.view }) in
     cases_on Left (n == 0)
     (λ zero.
-        let new : View = after_of g view (Lock b) Done in
-        let o : Op = opened b view.room.aliases in
-        let m' : World = record { word = written (words.Lock b) k m.word; view = viewing a new m.view } in
-        let sets : Sets (op_at m) (op_at m') a b (Some o) = open_sets a o new m.view refl r.allowed.permitted.fresh in
-        let turns = turns_there g m b k a new refl refl in
-        record {
-          locks = locks_opened g m m' a b k o (omega (arith, r.shaped.number a)) sets (eqb-true n 0 zero) h;
-          turns = turns_still g m m' turns h;
-          known = by_op m' (λ c j p. IsTrueOp m' j p) (edited (λ c j p. IsTrueOp m' j (lore_of p)) (op_at m) (op_at m') a b o sets (true_opened m' b view.room.aliases)
-              (λ c j p apart is. true_there m b k m'.view j (lore_of p) (h.known c j (lore_of p) (op_lore m c j p is))));
-          least = least_still g m m' turns h;
-          staged = by_op m' (λ c j p. IsStaged g p) (edited (λ c j p. IsStaged g (lore_of p)) (op_at m) (op_at m') a b o sets (staged_opened g b view.room.aliases)
-              (λ c j p apart is. h.staged c j (lore_of p) (op_lore m c j p is)));
-        })
+    let new : View = after_of g view (Lock b) Done in
+    let o : Op = opened b view.room.aliases in
+    let m' : World = record { word = written (words.Lock b) k m.word; view = viewing a new m.view } in
+    let sets : Sets (op_at m) (op_at m') a b (Some o) = open_sets a o new m.view refl r.allowed.permitted.fresh in
+    let turns = turns_there g m b k a new refl refl in
+    record {
+      locks = locks_opened g m m' a b k o (omega (arith, r.shaped.number a)) sets (eqb-true n 0 zero) h;
+      turns = turns_still g m m' turns h;
+      known = by_op m' (λ c j p. IsTrueOp m' j p) (edited (λ c j p. IsTrueOp m' j (lore_of p)) (op_at m) (op_at m') a b o sets (true_opened m' b view.room.aliases)
+          (λ c j p apart is. true_there m b k m'.view j (lore_of p) (h.known c j (lore_of p) (op_lore m c j p is))));
+      least = least_still g m m' turns h;
+      staged = by_op m' (λ c j p. IsStaged g p) (edited (λ c j p. IsStaged g (lore_of p)) (op_at m) (op_at m') a b o sets (staged_opened g b view.room.aliases)
+          (λ c j p apart is. h.staged c j (lore_of p) (op_lore m c j p is)));
+    })
     (λ held. lock_quiet g m (written (words.Lock b) n m.word) a view (read_keeps g (words.Lock b) m.word) (same_view view) h)
 
 pub lock_unlock : (g : Geometry) (m : World) (a b : ℕ) → IsReady g m a (Unlock b) → LockLaw g m → LockLaw g (moved g m a (Unlock b))
@@ -117,7 +119,7 @@ lock_unlock g m a b r h =
     let view : View = m.view a in
     let new : View = after_of g view (Unlock b) Done in
     let m' : World = record { word = written (words.Lock b) 0 m.word; view = viewing a new m.view } in
-    let own = known_op _ (op_on view b) r.allowed.permitted in
+    let own = some_and (op_on view b) _ r.allowed.permitted in
     let sets : Sets (op_at m) (op_at m') a b None = close_sets a b new m.view refl (r.shaped.shape a r.actor).keyed.ops_once in
     let turns = turns_there g m b 0 a new refl refl in
     record {

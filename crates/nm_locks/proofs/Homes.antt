@@ -1,6 +1,5 @@
 -- The kinds that read and write homes and shadow words.
-use Rattle.std.proofs.Common.{◌≡◌, ◌≢◌, ℕ, ◌+◌, ◌==◌, if◌then◌else◌, Bool, true, false, List, [], Option, Some, None, IsSome, IsSomeAnd, IfSome, refl, sym, ap, subst, ◌∙◌, inl, inr, arith}
-use Rattle.std.proofs.lemmas.Bool.{cases_eq}
+use Rattle.std.proofs.Common.{◌≡◌, ◌≢◌, ℕ, Bool, true, false, Option, Some, None, IfSome, refl, sym, ap, subst, ◌∙◌, arith}
 use Rattle.nm_base.specs.Geometry.{Geometry}
 use Rattle.nm_base.specs.HomeWord.{home_word}
 use Rattle.nm_base.specs.ShadowWord.{shadow_word}
@@ -14,21 +13,21 @@ use Rattle.nm_view.specs.declared.view.Fill.{Fill}
 use Rattle.nm_view.specs.Views.{Op, View}
 use Rattle.nm_view.specs.Operations.{op_on, fill_of, names_one}
 use Rattle.nm_view.proofs.Items.{not_none, some_same}
-use Rattle.nm_permit.specs.Permitted.{MayRead, MaySetHome, MaySetShadow, MayUnshade, MayShade}
+use Rattle.nm_permit.specs.Permitted.{MaySetHome, MaySetShadow}
 use Rattle.nm_words.specs.declared.names.Where.{Where}
 use Rattle.nm_words.specs.declared.names.Where.TheVariants as words
 use Rattle.nm_event.specs.After.{after_of, read_cell, homed_at, shaded}
-use Rattle.nm_world.specs.Worlds.{World, moved, viewing, written, home_at, shadow_at, pte_at, lock_at, op_at}
-use Rattle.nm_world.specs.Parts.{Lore, lore_of}
+use Rattle.nm_world.specs.Worlds.{World, moved, viewing, written, home_at, shadow_at, op_at}
+use Rattle.nm_world.specs.Parts.{lore_of}
 use Rattle.nm_world.specs.Sights.{Sets}
-use Rattle.nm_world.specs.LockLaw.{LockLaw, IsTrueOp, IsStaged}
+use Rattle.nm_world.specs.LockLaw.{LockLaw, IsStaged}
 use Rattle.nm_world.specs.Laws.{IsReady}
 use Rattle.nm_world.proofs.Choose.{choose}
 use Rattle.nm_world.proofs.Writing.{edit_sets}
-use Rattle.nm_world.proofs.Moves.{known_op}
 use Rattle.nm_locks.specs.Facts.{LockFacts}
-use Rattle.nm_locks.proofs.Still.{if_more, true_still, KeepsWords, read_keeps, KeepsTurns, turns_kept, view_part}
+use Rattle.nm_locks.proofs.Still.{true_still, read_keeps, turns_kept, view_part}
 use Rattle.nm_locks.proofs.Edits.{lock_edit, op_lore}
+use Rattle.nm_world.proofs.Options.{if_more, some_and}
 
 -- a known value is what is found
 known_is : (o : Option ℕ) (x : ℕ) (P : ℕ → Type 0) → o ≡ Some x → IfSome o P → P x
@@ -47,7 +46,7 @@ lock_read_home g m a b page r h =
     let view : View = m.view a in
     let new : View = after_of g view (Read b (cells.Home page)) (Word n) in
     let m' : World = record { word = word; view = viewing a new m.view } in
-    let own = known_op _ (op_on view b) r.allowed.permitted in
+    let own = some_and (op_on view b) _ r.allowed.permitted in
     let o : Op = own.0 in
     let kept = read_keeps g (words.Home page) m.word in
     let sets : Sets (op_at m) (op_at m') a b (Some (read_cell (cells.Home page) n o)) = edit_sets a b (read_cell (cells.Home page) n) o new m.view (λ x. refl) refl own.1.0 in
@@ -64,7 +63,7 @@ lock_read_shadow g m a b frame r h =
     let view : View = m.view a in
     let new : View = after_of g view (Read b (cells.Shadow frame)) (Word n) in
     let m' : World = record { word = word; view = viewing a new m.view } in
-    let own = known_op _ (op_on view b) r.allowed.permitted in
+    let own = some_and (op_on view b) _ r.allowed.permitted in
     let o : Op = own.0 in
     let kept = read_keeps g (words.Shadow frame) m.word in
     let sets : Sets (op_at m) (op_at m') a b (Some (read_cell (cells.Shadow frame) n o)) = edit_sets a b (read_cell (cells.Shadow frame) n) o new m.view (λ x. refl) refl own.1.0 in
@@ -101,7 +100,7 @@ lock_set_home g m a b f facts r h =
     let view : View = m.view a in
     let new : View = after_of g view (SetHome b f) Done in
     let m' : World = record { word = word; view = viewing a new m.view } in
-    let own = known_op _ (op_on view b) r.allowed.permitted in
+    let own = some_and (op_on view b) _ r.allowed.permitted in
     let o : Op = own.0 in
     let fill = some_fill g (fill_of view f) o own.1.1 in
     let bare : shadow_at m f ≡ 0 = facts.unshaded f (λ c. facts.owned a c f fill.0 fill.1) in
@@ -143,7 +142,7 @@ lock_set_shadow g m a b k s facts r h =
     let view : View = m.view a in
     let new : View = after_of g view (SetShadow b k s) Done in
     let m' : World = record { word = word; view = viewing a new m.view } in
-    let own = known_op _ (op_on view b) r.allowed.permitted in
+    let own = some_and (op_on view b) _ r.allowed.permitted in
     let o : Op = own.0 in
     let sets : Sets (op_at m) (op_at m') a b (Some (shaded b s o)) = edit_sets a b (shaded b s) o new m.view (λ y. refl) refl own.1.0 in
     let known = h.known a b (lore_of o) (op_lore m a b o own.1.0) in

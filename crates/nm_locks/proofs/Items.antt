@@ -1,26 +1,22 @@
 -- Lists of looked and taken words after one was put, joined or erased, and the one virtual page that an operation names.
-use Rattle.std.proofs.Common.{◌≡◌, ◌≢◌, ℕ, ◌+◌, ◌==◌, ◌&&◌, not, if◌then◌else◌, Bool, true, false, List, [], ◌∷◌, ◌++◌, Option, Some, None, IsSome, IsSomeAnd, IfSome, IsTrue, All, refl, sym, ap, subst, ◌∙◌, ◌⊎◌, inl, inr, arith}
+use Rattle.std.proofs.Common.{◌≡◌, ◌≢◌, ℕ, ◌&&◌, Bool, true, false, List, [], ◌∷◌, ◌++◌, Option, Some, None, IsSome, IsSomeAnd, IfSome, All, refl, sym, ap, subst, ◌∙◌, ◌⊎◌, inl, inr, arith}
 use Rattle.std.proofs.lemmas.Bool.{cases_eq}
-use Rattle.nm_base.specs.Geometry.{Geometry, backing_page}
+use Rattle.nm_base.specs.Geometry.{Geometry}
 use Rattle.nm_view.specs.declared.view.Phase.{Phase}
 use Rattle.nm_view.specs.declared.view.Phase.TheVariants.{Held, Cleared, Taken}
 use Rattle.nm_view.specs.Lists.{find, edit, erase, put, first, Once}
 use Rattle.nm_view.specs.Views.{Op}
 use Rattle.nm_view.specs.Operations.{page_of, names_one, IsLookedOver}
-use Rattle.nm_view.proofs.Items.{all_find, all_head, all_tail, all_put, all_join, all_same, not_none}
-use Rattle.nm_view.proofs.Finds.{find_number, find_put, find_put_other, find_join, find_join_other}
+use Rattle.nm_view.proofs.Items.{all_find, all_head, all_tail, all_put, all_join}
+use Rattle.nm_view.proofs.Finds.{find_number, find_put, find_put_other, find_join}
 use Rattle.nm_event.specs.After.{has_some}
 use Rattle.nm_event.specs.Fitting.{Agrees}
-use Rattle.nm_world.specs.Sights.{Writes}
-use Rattle.nm_world.specs.Notions.{IsAloneAt, HasOne}
+use Rattle.nm_world.specs.Sights.{WritesOne}
+use Rattle.nm_world.specs.Notions.{IsAloneAt}
+use Rattle.nm_world.proofs.Options.{some_and}
 
 pub agrees_same : (n : ℕ) → Agrees n n
 agrees_same n = record { absent = (λ e. e, λ e. e); frame = refl; writable = refl; saved = refl }
-
--- a pair that is found, of which P holds
-pub found_and : (o : Option (ℕ × ℕ)) (P : ℕ × ℕ → Type 0) → IsSomeAnd o P → (p : ℕ × ℕ) × ((o ≡ Some p) × P p)
-found_and None P h = absurd h
-found_and (Some p) P h = (p, (refl, h))
 
 pub is_some_of : {A : Type 0} (o : Option A) (x : A) → o ≡ Some x → IsSome o
 is_some_of o x is = rw is cc
@@ -30,7 +26,7 @@ not_some None is some = cc
 not_some (Some x) is some = cc
 
 -- after the word x of v was noted, each noted word agrees with the table, in which v has x
-pub looked_put : (looked : List (ℕ × ℕ)) (v x : ℕ) (pte after : ℕ → ℕ) → Writes pte after v x → (u : ℕ) → (u ≢ v → IfSome (find first u looked) (λ p. Agrees p.1 (pte u))) → IfSome (find first u (put first (v, x) looked)) (λ p. Agrees p.1 (after u))
+pub looked_put : (looked : List (ℕ × ℕ)) (v x : ℕ) (pte after : ℕ → ℕ) → WritesOne pte after v x → (u : ℕ) → (u ≢ v → IfSome (find first u looked) (λ p. Agrees p.1 (pte u))) → IfSome (find first u (put first (v, x) looked)) (λ p. Agrees p.1 (after u))
 looked_put looked v x pte after writes u before =
     let Known : Option (ℕ × ℕ) → ℕ → Type 0 = λ o n. IfSome o (λ p. Agrees p.1 n) in
     elim (cases_eq u v) [
@@ -53,7 +49,7 @@ over_put g page v x looked h u of =
 -- a word that was looked at as not 0 is of the one virtual page, and so is a taken one
 pub looked_one : (looked taken : List (ℕ × ℕ)) (v w : ℕ) → IsAloneAt looked taken w → IsSomeAnd (find first v looked) (λ p. p.1 ≢ 0) → v ≡ w
 looked_one looked taken v w alone h =
-    let p = found_and (find first v looked) (λ p. p.1 ≢ 0) h in
+    let p = some_and (find first v looked) (λ p. p.1 ≢ 0) h in
     sym (find_number first v looked p.0 p.1.0) ∙ all_find first v (λ p. p.1 ≢ 0 → p.0 ≡ w) looked p.0 alone.looks p.1.0 p.1.1
 
 pub taken_one : (looked taken : List (ℕ × ℕ)) (v w : ℕ) (p : ℕ × ℕ) → IsAloneAt looked taken w → find first v taken ≡ Some p → v ≡ w

@@ -8,3 +8,4 @@ pub mod Homes
 pub mod Items
 pub mod Table
 pub mod Scans
+pub mod EachKind

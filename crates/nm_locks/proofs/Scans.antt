@@ -1,11 +1,11 @@
 -- The kind that scans free frames.
-use Rattle.std.proofs.Common.{◌≡◌, ◌≢◌, ℕ, ◌+◌, ◌-◌, ◌*◌, ◌/◌, ◌%◌, ◌^◌, ◌<◌, ◌≤◌, ◌==◌, ◌&&◌, nat_lt, if◌then◌else◌, Bool, true, false, Option, Some, None, refl, sym, ap, subst, ◌∙◌, inl, inr, arith}
+use Rattle.std.proofs.Common.{◌≡◌, ◌≢◌, ℕ, ◌+◌, ◌*◌, ◌^◌, ◌<◌, ◌==◌, true, Option, Some, None, refl, sym, ap, subst, ◌∙◌, arith}
 use Rattle.std.specs.Prelude.{slice_index}
 use Rattle.std.specs.Int.{bit_at, w64}
 use Rattle.std.proofs.lemmas.Bool.{eqb-false, eq-eqb, lt-ltb}
 use Rattle.std.proofs.lemmas.Nat.Bits.{bit_at-trailing_zeros}
 use Rattle.nm_base.specs.Geometry.{Geometry, IsInTier, first_frame, tier_of, frame_count}
-use Rattle.nm_base.specs.FreeWords.{free_index, free_bit, free_base, least_bit, least_frame}
+use Rattle.nm_base.specs.FreeWords.{free_index, free_bit, free_base, least_bit}
 use Rattle.nm_base.specs.Ranges.{IsWord, IsTier}
 use Rattle.nm_base.proofs.Tiers.{tier_of-IsInTier, IsInTier-from_first, IsInTier-lt}
 use Rattle.nm_action.specs.declared.action.Reply.TheVariants.{Word}
@@ -16,7 +16,6 @@ use Rattle.nm_words.specs.declared.names.Where.{Where}
 use Rattle.nm_words.specs.declared.names.Where.TheVariants as words
 use Rattle.nm_step.specs.Table.{free_word_of}
 use Rattle.nm_event.specs.After.{after_of, least_with}
-use Rattle.nm_event.specs.Fitting.{IsScanOf}
 use Rattle.nm_world.specs.Worlds.{World, moved, viewing, written}
 use Rattle.nm_world.specs.Sights.{free_in}
 use Rattle.nm_world.specs.LockLaw.{LockLaw, IsFreeIn}
@@ -55,8 +54,8 @@ least_scanned g word t k n f None is tier range own before found =
     decide P (n == 0) None (Some (free_base g t k + least_bit n))
     (λ zero none. absurd (not_none f none))
     (λ some here.
-        let Q : ℕ → Type 0 = λ x. IsInTier g x t × (free_in g word x ≡ true) in
-        subst Q (some_same (free_base g t k + least_bit n) f here) (least_free g word t k n is tier range (eqb-false n 0 some) own))
+    let Q : ℕ → Type 0 = λ x. IsInTier g x t × (free_in g word x ≡ true) in
+    subst Q (some_same (free_base g t k + least_bit n) f here) (least_free g word t k n is tier range (eqb-false n 0 some) own))
     found
 
 pub lock_scan : (g : Geometry) (m : World) (a t k : ℕ) → IsReady g m a (Scan t k) → LockLaw g m → LockLaw g (moved g m a (Scan t k))
@@ -71,9 +70,9 @@ lock_scan g m a t k r h =
     lock_turns g m word a new kept.pte kept.home kept.shadow kept.lock refl
     (λ c u. view_turn g m a new refl h c u)
     (λ c u f. choose (λ v. v.turn ≡ Some u → v.scan.least ≡ Some f → IsFreeIn g (record { word = word; view = viewing a new m.view }) u f) c a new (m.view c)
-      (λ ca is found.
-          let same : t ≡ u = some_same t u (sym mine ∙ is) in
-          let scanned = least_scanned g m.word t k n f view.scan.least refl r.allowed.range.tier r.fits.told.bits (λ bit set. (said bit set).within)
-              (λ x there. let was = h.least a t x mine there in (was.tier, was.free)) found in
-          record { tier = subst (IsInTier g f) same scanned.0; free = kept.free f ∙ scanned.1 })
-      (λ ca is found. let was = h.least c u f is found in record { tier = was.tier; free = kept.free f ∙ was.free })) h
+    (λ ca is found.
+    let same : t ≡ u = some_same t u (sym mine ∙ is) in
+    let scanned = least_scanned g m.word t k n f view.scan.least refl r.allowed.range.tier r.fits.told.bits (λ bit set. (said bit set).within)
+    (λ x there. let was = h.least a t x mine there in (was.tier, was.free)) found in
+    record { tier = subst (IsInTier g f) same scanned.0; free = kept.free f ∙ scanned.1 })
+    (λ ca is found. let was = h.least c u f is found in record { tier = was.tier; free = kept.free f ∙ was.free })) h

@@ -5,10 +5,9 @@ use Rattle.std.proofs.lemmas.Bool.{cases_eq, eqb-true}
 use Rattle.nm_base.specs.Geometry.{Geometry, tier_of}
 use Rattle.nm_base.specs.PageWord.{all_but}
 use Rattle.nm_base.specs.FreeWords.{free_bit}
-use Rattle.nm_base.specs.Ranges.{IsFrame}
 use Rattle.nm_base.proofs.Tiers.{tier_of-IsInTier}
 use Rattle.nm_action.specs.declared.action.Reply.TheVariants.{Done, Word, Busy}
-use Rattle.nm_action.specs.declared.action.Action.TheVariants.{TakeTurn, ReleaseTurn, Scan, GiveFrame, PutFrame}
+use Rattle.nm_action.specs.declared.action.Action.TheVariants.{TakeTurn, ReleaseTurn, GiveFrame, PutFrame}
 use Rattle.nm_view.specs.Lists.{find}
 use Rattle.nm_view.specs.Operations.{page_of, op_on}
 use Rattle.nm_view.specs.Views.{View}
@@ -17,14 +16,14 @@ use Rattle.nm_words.specs.declared.names.Where.{Where}
 use Rattle.nm_words.specs.declared.names.Where.TheVariants as words
 use Rattle.nm_step.specs.Table.{free_word_of}
 use Rattle.nm_event.specs.After.{after_of}
-use Rattle.nm_world.specs.Worlds.{World, moved, viewing, written, turn_at, found_in, left_in, reply_in}
+use Rattle.nm_world.specs.Worlds.{World, moved, viewing, written, turn_at}
 use Rattle.nm_world.specs.Parts.{lore_of, lore_at}
-use Rattle.nm_world.specs.Sights.{free_in, Writes}
+use Rattle.nm_world.specs.Sights.{free_in}
 use Rattle.nm_world.specs.LockLaw.{LockLaw, IsFreeIn}
 use Rattle.nm_world.specs.Laws.{IsReady}
 use Rattle.nm_world.proofs.Choose.{choose}
 use Rattle.nm_world.proofs.FreeBits.{give_bit, put_bit}
-use Rattle.nm_locks.proofs.Still.{true_still, locks_still, lock_quiet, view_part, read_keeps, same_view, KeepsView}
+use Rattle.nm_locks.proofs.Still.{true_still, locks_still, lock_quiet, view_part, read_keeps, same_view}
 
 -- what a step at turns and free frames leaves, and what it has to show: that turns agree with the views, and the least frames
 pub lock_turns : (g : Geometry) (m : World) (word : Where → ℕ) (a : ℕ) (new : View) → ((v : ℕ) → word (words.Pte v) ≡ m.word (words.Pte v)) → ((b : ℕ) → word (words.Home b) ≡ m.word (words.Home b)) → ((k : ℕ) → word (words.Shadow k) ≡ m.word (words.Shadow k)) → ((b : ℕ) → word (words.Lock b) ≡ m.word (words.Lock b)) → new.ops ≡ (m.view a).ops → ((c t : ℕ) → (word (words.Turn t) ≡ c + 1) ↔ ((viewing a new m.view c).turn ≡ Some t)) → ((c t f : ℕ) → (viewing a new m.view c).turn ≡ Some t → (viewing a new m.view c).scan.least ≡ Some f → IsFreeIn g (record { word = word; view = viewing a new m.view }) t f) → LockLaw g m → LockLaw g (record { word = word; view = viewing a new m.view })
@@ -52,28 +51,36 @@ turn_taken : (g : Geometry) (m : World) (a t k : ℕ) (new : View) → k ≡ a +
 turn_taken g m a t k new number is zero none h c u =
     choose (λ n. (n ≡ c + 1) ↔ ((viewing a new m.view c).turn ≡ Some u)) u t k (turn_at m u)
     (λ ut. choose (λ v. (k ≡ c + 1) ↔ (v.turn ≡ Some u)) c a new (m.view c)
-      (λ ca. (λ _. is ∙ ap Some (sym ut), λ _. omega (arith, number, ca)))
-      (λ ca. (λ mine. absurd (not_both k a c number mine ca),
-        λ theirs. absurd (let word : turn_at m t ≡ c + 1 = subst (λ (n : ℕ). turn_at m n ≡ c + 1) ut ((h.turns c u).1 theirs) in omega (arith, zero, word)))))
+    (λ ca. (λ _. is ∙ ap Some (sym ut), λ _. omega (arith, number, ca)))
+    (λ ca. (
+      λ mine. absurd (not_both k a c number mine ca),
+      λ theirs. absurd (let word : turn_at m t ≡ c + 1 = subst (λ (n : ℕ). turn_at m n ≡ c + 1) ut ((h.turns c u).1 theirs) in omega (arith, zero, word)),
+    )))
     (λ ut. choose (λ v. (turn_at m u ≡ c + 1) ↔ (v.turn ≡ Some u)) c a new (m.view c)
-      (λ ca. (λ mine. absurd (not_none u (sym none ∙ (h.turns a u).0 (subst (λ (n : ℕ). turn_at m u ≡ n + 1) ca mine))),
-        λ theirs. absurd (ut (some_same u t (sym theirs ∙ is)))))
-      (λ ca. h.turns c u))
+    (λ ca. (
+      λ mine. absurd (not_none u (sym none ∙ (h.turns a u).0 (subst (λ (n : ℕ). turn_at m u ≡ n + 1) ca mine))),
+      λ theirs. absurd (ut (some_same u t (sym theirs ∙ is))),
+    ))
+    (λ ca. h.turns c u))
 
 -- the same after it was given back
 turn_left : (g : Geometry) (m : World) (a t : ℕ) (new : View) → new.turn ≡ None → (m.view a).turn ≡ Some t → LockLaw g m → (c u : ℕ) → (written (words.Turn t) 0 m.word (words.Turn u) ≡ c + 1) ↔ ((viewing a new m.view c).turn ≡ Some u)
 turn_left g m a t new none is h c u =
     choose (λ n. (n ≡ c + 1) ↔ ((viewing a new m.view c).turn ≡ Some u)) u t 0 (turn_at m u)
-    (λ ut. (λ mine. absurd (omega (arith, mine)),
+    (λ ut. (
+      λ mine. absurd (omega (arith, mine)),
       choose (λ v. v.turn ≡ Some u → 0 ≡ c + 1) c a new (m.view c)
-      (λ ca theirs. absurd (not_none u (sym none ∙ theirs)))
-      (λ ca theirs.
+          (λ ca theirs. absurd (not_none u (sym none ∙ theirs)))
+          (λ ca theirs.
           let word : turn_at m t ≡ c + 1 = subst (λ (n : ℕ). turn_at m n ≡ c + 1) ut ((h.turns c u).1 theirs) in
-          absurd (not_both (turn_at m t) a c ((h.turns a t).1 is) word ca))))
+          absurd (not_both (turn_at m t) a c ((h.turns a t).1 is) word ca)),
+    ))
     (λ ut. choose (λ v. (turn_at m u ≡ c + 1) ↔ (v.turn ≡ Some u)) c a new (m.view c)
-      (λ ca. (λ mine. absurd (ut (some_same u t (sym ((h.turns a u).0 (subst (λ (n : ℕ). turn_at m u ≡ n + 1) ca mine)) ∙ is))),
-        λ theirs. absurd (not_none u (sym none ∙ theirs))))
-      (λ ca. h.turns c u))
+    (λ ca. (
+      λ mine. absurd (ut (some_same u t (sym ((h.turns a u).0 (subst (λ (n : ℕ). turn_at m u ≡ n + 1) ca mine)) ∙ is))),
+      λ theirs. absurd (not_none u (sym none ∙ theirs)),
+    ))
+    (λ ca. h.turns c u))
 
 -- the least frames of others, and of the actor where nothing is scanned
 least_left : (g : Geometry) (m : World) (word : Where → ℕ) (a : ℕ) (new : View) → new.scan.least ≡ None → ((c t f : ℕ) → c ≢ a → IsFreeIn g m t f → (m.view c).turn ≡ Some t → free_in g word f ≡ true) → LockLaw g m → (c t f : ℕ) → (viewing a new m.view c).turn ≡ Some t → (viewing a new m.view c).scan.least ≡ Some f → IsFreeIn g (record { word = word; view = viewing a new m.view }) t f
@@ -95,11 +102,11 @@ lock_take_turn g m a t r h =
     let Left : Bool → Type 0 = λ b. LockLaw g (record { word = written (words.Turn t) (if b then view.number + 1 else n) m.word; view = viewing a (after_of g view (TakeTurn t) (if b then Done else Busy n)) m.view }) in
     cases_on Left (n == 0)
     (λ zero.
-        let new : View = after_of g view (TakeTurn t) Done in
-        let k : ℕ = view.number + 1 in
-        lock_turns g m (written (words.Turn t) k m.word) a new (λ v. refl) (λ b. refl) (λ s. refl) (λ b. refl) refl
-        (turn_taken g m a t k new (omega (arith, r.shaped.number a)) refl (eqb-true n 0 zero) r.allowed.permitted h)
-        (least_left g m (written (words.Turn t) k m.word) a new refl (λ c u f other was is. was.free) h) h)
+    let new : View = after_of g view (TakeTurn t) Done in
+    let k : ℕ = view.number + 1 in
+    lock_turns g m (written (words.Turn t) k m.word) a new (λ v. refl) (λ b. refl) (λ s. refl) (λ b. refl) refl
+    (turn_taken g m a t k new (omega (arith, r.shaped.number a)) refl (eqb-true n 0 zero) r.allowed.permitted h)
+    (least_left g m (written (words.Turn t) k m.word) a new refl (λ c u f other was is. was.free) h) h)
     (λ held. lock_quiet g m (written (words.Turn t) n m.word) a view (read_keeps g (words.Turn t) m.word) (same_view view) h)
 
 pub lock_release_turn : (g : Geometry) (m : World) (a t : ℕ) → IsReady g m a (ReleaseTurn t) → LockLaw g m → LockLaw g (moved g m a (ReleaseTurn t))
@@ -126,11 +133,11 @@ lock_give g m a f r h =
     lock_turns g m word a new (λ v. refl) (λ b. refl) (λ s. refl) (λ b. refl) refl
     (λ c t. view_turn g m a new refl h c t)
     (least_left g m word a new refl (λ c t k other was is.
-        bits.rest k (λ same.
-            let tier : t ≡ turn.0 = tier_of-IsInTier g k t was.tier ∙ ap (tier_of g) same ∙ sym (tier_of-IsInTier g f turn.0 lies) in
-            let theirs : turn_at m turn.0 ≡ c + 1 = subst (λ (n : ℕ). turn_at m n ≡ c + 1) tier ((h.turns c t).1 is) in
-            not_both (turn_at m turn.0) a c mine theirs other)
-        ∙ was.free) h) h
+    bits.rest k (λ same.
+    let tier : t ≡ turn.0 = tier_of-IsInTier g k t was.tier ∙ ap (tier_of g) same ∙ sym (tier_of-IsInTier g f turn.0 lies) in
+    let theirs : turn_at m turn.0 ≡ c + 1 = subst (λ (n : ℕ). turn_at m n ≡ c + 1) tier ((h.turns c t).1 is) in
+    not_both (turn_at m turn.0) a c mine theirs other)
+    ∙ was.free) h) h
 
 -- a frame is put back: the least frames stay free
 pub lock_put : (g : Geometry) (m : World) (a f : ℕ) → IsReady g m a (PutFrame f) → LockLaw g m → LockLaw g (moved g m a (PutFrame f))
@@ -143,6 +150,6 @@ lock_put g m a f r h =
     lock_turns g m word a new (λ v. refl) (λ b. refl) (λ s. refl) (λ b. refl) refl
     (λ c t. view_turn g m a new refl h c t)
     (λ c t k is found.
-        let turn : (m.view c).turn ≡ Some t = sym (view_part (λ v. v.turn) a new m.view refl c) ∙ is in
-        let was = h.least c t k turn (sym (view_part (λ v. v.scan.least) a new m.view refl c) ∙ found) in
-        record { tier = was.tier; free = free k was.free }) h
+    let turn : (m.view c).turn ≡ Some t = sym (view_part (λ v. v.turn) a new m.view refl c) ∙ is in
+    let was = h.least c t k turn (sym (view_part (λ v. v.scan.least) a new m.view refl c) ∙ found) in
+    record { tier = was.tier; free = free k was.free }) h
