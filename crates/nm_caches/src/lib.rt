@@ -1,0 +1,2 @@
+//! That permitted steps keep the cache law.
+#![tactic(auto)]
