@@ -1,3 +1,4 @@
 pub mod Shapes
 pub mod Still
 pub mod Table
+pub mod Desks

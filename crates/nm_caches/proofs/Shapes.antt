@@ -84,17 +84,15 @@ each_entry g m p Q shape h step =
 abbrev pub Stands : Geometry → World → ℕ → CacheEntry → Type 0
 Stands g m p e = IsStanding (pte_at m e.vpage) e ⊎ IsOwed g m p e
 
--- what goes on at most steps: raises and bumps do not become fewer, homes and acknowledgements are as before
+-- raises and bumps do not become fewer
 pub record GoesOn (m m' : World) : Type 0 where
   pub stamps : (v : ℕ) → stamp_at m v ≤ stamp_at m' v
-  pub homes : (b : ℕ) → home_at m' b ≡ home_at m b
-  pub acks : (p : ℕ) → ack_at m' p ≡ ack_at m p
   pub req : m.word Req ≤ m'.word Req
 
-pub entry_kept : (g : Geometry) (m m' : World) (p : ℕ) (e : CacheEntry) → GoesOn m m' → (Stands g m p e → Stands g m' p e) → IsEntrySound g m p e → IsEntrySound g m' p e
-entry_kept g m m' p e goes stands h = record {
+pub entry_kept : (g : Geometry) (m m' : World) (p : ℕ) (e : CacheEntry) → GoesOn m m' → ((b : ℕ) → home_at m' b ≡ home_at m b) → (Stands g m p e → Stands g m' p e) → IsEntrySound g m p e → IsEntrySound g m' p e
+entry_kept g m m' p e goes homes stands h = record {
   stamp = omega (arith, h.stamp, goes.stamps e.vpage);
-  home = some_more (backing_page g e.vpage) _ _ (λ b _ is. goes.homes b ∙ is) h.home;
+  home = some_more (backing_page g e.vpage) _ _ (λ b _ is. homes b ∙ is) h.home;
   stands = stands h.stands;
 }
 
@@ -117,27 +115,26 @@ stands_still g m m' p e stands ack flights (inr owed) = inr (owed_still g m m' p
 
 -- Desks.
 
--- what a processor caches and has seen stays sound: its entries go on standing, or being owed, and its fresh peeks are no
--- older than the flushes
-pub desk_kept : (g : Geometry) (m m' : World) (p : ℕ) → GoesOn m m' → (IsRunning g m p → (e : CacheEntry) → IsEntrySound g m p e → Stands g m' p e) → ((a b : ℕ) (o : Flight) → flight_at m' a b ≡ Some o → All (IsPeekSound (desk_at m p).req_seen o) (desk_at m p).peeked) → ShapeLaw g m → CacheLaw g m → IsDeskSound g m' p (desk_at m p)
-desk_kept g m m' p goes entries fresh shape h =
+-- what a processor caches and has seen stays sound: its entries stay so, and its fresh peeks are no older than the flushes
+pub desk_kept : (g : Geometry) (m m' : World) (p : ℕ) → GoesOn m m' → ack_at m' p ≡ ack_at m p → (IsRunning g m p → (e : CacheEntry) → IsEntrySound g m p e → IsEntrySound g m' p e) → ((a b : ℕ) (o : Flight) → flight_at m' a b ≡ Some o → All (IsPeekSound (desk_at m p).req_seen o) (desk_at m p).peeked) → ShapeLaw g m → CacheLaw g m → IsDeskSound g m' p (desk_at m p)
+desk_kept g m m' p goes ack entries fresh shape h =
     let was = h.desks p in
     record {
-      acked = λ there. was.acked there ∙ sym (goes.acks p);
-      off = λ there none. was.off there (λ number. none (subst IsNumber (sym (goes.acks p)) number));
+      acked = λ there. was.acked there ∙ sym ack;
+      off = λ there none. was.off there (λ number. none (subst IsNumber (sym ack) number));
       polled = λ number. let before : (desk_at m p).req_seen ≤ m.word Req = was.polled number in omega (arith, before, goes.req);
-      entries = each_entry g m p (IsEntrySound g m' p) shape h (λ runs e sound. entry_kept g m m' p e goes (λ _. entries runs e sound) sound);
+      entries = each_entry g m p (IsEntrySound g m' p) shape h entries;
       peeks = all_same (λ (k : Peeked). k.stamp ≤ stamp_at m k.vpage) (λ k. k.stamp ≤ stamp_at m' k.vpage) (desk_at m p).peeked (λ k le. omega (arith, le, goes.stamps k.vpage)) was.peeks;
       fresh = fresh;
     }
 
--- acknowledgements stay no more than the bumps
-pub acks_kept : (g : Geometry) (m m' : World) → GoesOn m m' → CacheLaw g m → (p : ℕ) → p < g.cpus → IsNumber (ack_at m' p) → ack_at m' p ≤ m'.word Req
-acks_kept g m m' goes h p there number =
-    let before : ack_at m p ≤ m.word Req = h.acks p there (subst IsNumber (goes.acks p) number) in
-    omega (arith, before, goes.acks p, goes.req)
+-- an acknowledgement that is as before is no more than the bumps
+pub ack_kept : (g : Geometry) (m m' : World) (p : ℕ) → GoesOn m m' → ack_at m' p ≡ ack_at m p → CacheLaw g m → p < g.cpus → IsNumber (ack_at m' p) → ack_at m' p ≤ m'.word Req
+ack_kept g m m' p goes ack h there number =
+    let before : ack_at m p ≤ m.word Req = h.acks p there (subst IsNumber ack number) in
+    omega (arith, before, ack, goes.req)
 
--- The flushes of an operation stay sound where raises do not become fewer.
+-- the flushes of an operation stay sound where raises do not become fewer
 pub flight_kept : (m m' : World) (o : Flight) → ((v : ℕ) → stamp_at m v ≤ stamp_at m' v) → IsFlightSound m o → IsFlightSound m' o
 flight_kept m m' o stamps h = record {
   raised = all_same (λ (p : ℕ × ℕ). p.1 ≤ stamp_at m p.0) (λ p. p.1 ≤ stamp_at m' p.0) o.raised (λ p le. omega (arith, le, stamps p.0)) h.raised;
@@ -146,23 +143,60 @@ flight_kept m m' o stamps h = record {
 
 -- Whole laws.
 
--- where desks are as before, the law is kept if each entry goes on standing or being owed, each operation's flushes are sound,
+-- where desks and acknowledgements are as before, the law is kept if each entry stays sound, each operation's flushes are,
 -- and fresh peeks are no older than they
-pub law_kept : (g : Geometry) (m m' : World) → GoesOn m m' → ((p : ℕ) → desk_at m' p ≡ desk_at m p) → ((p : ℕ) → IsRunning g m p → (e : CacheEntry) → IsEntrySound g m p e → Stands g m' p e) → ((a b : ℕ) (o : Flight) → flight_at m' a b ≡ Some o → IsFlightSound m' o) → ((p a b : ℕ) (o : Flight) → flight_at m' a b ≡ Some o → All (IsPeekSound (desk_at m p).req_seen o) (desk_at m p).peeked) → ShapeLaw g m → CacheLaw g m → CacheLaw g m'
-law_kept g m m' goes desks entries flights fresh shape h = record {
-  acks = acks_kept g m m' goes h;
-  desks = λ p. subst (IsDeskSound g m' p) (sym (desks p)) (desk_kept g m m' p goes (entries p) (fresh p) shape h);
+pub law_kept : (g : Geometry) (m m' : World) → GoesOn m m' → ((p : ℕ) → ack_at m' p ≡ ack_at m p) → ((p : ℕ) → desk_at m' p ≡ desk_at m p) → ((p : ℕ) → IsRunning g m p → (e : CacheEntry) → IsEntrySound g m p e → IsEntrySound g m' p e) → ((a b : ℕ) (o : Flight) → flight_at m' a b ≡ Some o → IsFlightSound m' o) → ((p a b : ℕ) (o : Flight) → flight_at m' a b ≡ Some o → All (IsPeekSound (desk_at m p).req_seen o) (desk_at m p).peeked) → ShapeLaw g m → CacheLaw g m → CacheLaw g m'
+law_kept g m m' goes acks desks entries flights fresh shape h = record {
+  acks = λ p. ack_kept g m m' p goes (acks p) h;
+  desks = λ p. subst (IsDeskSound g m' p) (sym (desks p)) (desk_kept g m m' p goes (acks p) (entries p) (fresh p) shape h);
   flights = flights;
 }
 
+-- Steps that leave the operations' flushes.
+
+-- all but the table, the caches and what was seen is as before
+pub record LeavesFlights (m m' : World) : Type 0 where
+  pub stamps : (v : ℕ) → stamp_at m' v ≡ stamp_at m v
+  pub homes : (b : ℕ) → home_at m' b ≡ home_at m b
+  pub req : m'.word Req ≡ m.word Req
+  pub flights : (c j : ℕ) → flight_at m' c j ≡ flight_at m c j
+
+pub leaves_on : (m m' : World) → LeavesFlights m m' → GoesOn m m'
+leaves_on m m' h = record { stamps = λ v. omega (arith, h.stamps v); req = omega (arith, h.req) }
+
+-- the entries of a processor stay sound where they go on standing on the table
+pub entry_still : (g : Geometry) (m m' : World) (p : ℕ) (e : CacheEntry) → LeavesFlights m m' → ack_at m' p ≡ ack_at m p → (IsStanding (pte_at m e.vpage) e → IsStanding (pte_at m' e.vpage) e) → IsEntrySound g m p e → IsEntrySound g m' p e
+entry_still g m m' p e leaves ack stands sound = entry_kept g m m' p e (leaves_on m m' leaves) leaves.homes (stands_still g m m' p e stands ack leaves.flights) sound
+
+-- so does all that it caches and has seen
+pub desk_still : (g : Geometry) (m m' : World) (p : ℕ) → LeavesFlights m m' → ack_at m' p ≡ ack_at m p → ((e : CacheEntry) → IsStanding (pte_at m e.vpage) e → IsStanding (pte_at m' e.vpage) e) → ShapeLaw g m → CacheLaw g m → IsDeskSound g m' p (desk_at m p)
+desk_still g m m' p leaves ack stands shape h =
+    desk_kept g m m' p (leaves_on m m' leaves) ack (λ _ e sound. entry_still g m m' p e leaves ack (stands e) sound)
+    (λ a b o is. (h.desks p).fresh a b o (sym (leaves.flights a b) ∙ is)) shape h
+
+pub flights_still : (g : Geometry) (m m' : World) → LeavesFlights m m' → CacheLaw g m → (a b : ℕ) (o : Flight) → flight_at m' a b ≡ Some o → IsFlightSound m' o
+flights_still g m m' leaves h a b o is = flight_kept m m' o (leaves_on m m' leaves).stamps (h.flights a b o (sym (leaves.flights a b) ∙ is))
+
 -- where table words alone change, and entries go on standing on them
-pub cache_table : (g : Geometry) (m m' : World) → GoesOn m m' → ((p : ℕ) → desk_at m' p ≡ desk_at m p) → ((c j : ℕ) → flight_at m' c j ≡ flight_at m c j) → ((e : CacheEntry) → IsStanding (pte_at m e.vpage) e → IsStanding (pte_at m' e.vpage) e) → ShapeLaw g m → CacheLaw g m → CacheLaw g m'
-cache_table g m m' goes desks flights stands shape h =
-    law_kept g m m' goes desks
-    (λ p _ e sound. stands_still g m m' p e (stands e) (goes.acks p) flights sound.stands)
-    (λ a b o is. flight_kept m m' o goes.stamps (h.flights a b o (sym (flights a b) ∙ is)))
-    (λ p a b o is. (h.desks p).fresh a b o (sym (flights a b) ∙ is))
-    shape h
+cache_table : (g : Geometry) (m m' : World) → LeavesFlights m m' → ((p : ℕ) → ack_at m' p ≡ ack_at m p) → ((p : ℕ) → desk_at m' p ≡ desk_at m p) → ((e : CacheEntry) → IsStanding (pte_at m e.vpage) e → IsStanding (pte_at m' e.vpage) e) → ShapeLaw g m → CacheLaw g m → CacheLaw g m'
+cache_table g m m' leaves acks desks stands shape h = record {
+  acks = λ p. ack_kept g m m' p (leaves_on m m' leaves) (acks p) h;
+  desks = λ p. subst (IsDeskSound g m' p) (sym (desks p)) (desk_still g m m' p leaves (acks p) stands shape h);
+  flights = flights_still g m m' leaves h;
+}
+
+-- a step of an actor: what it caches and has seen afterwards is sound
+pub desk_step : (g : Geometry) (m : World) (word : Where → ℕ) (a : ℕ) (new : View) → LeavesFlights m (record { word = word; view = viewing a new m.view }) → ((p : ℕ) → p ≢ a → word (Ack p) ≡ ack_at m p) → (a < g.cpus → IsNumber (word (Ack a)) → word (Ack a) ≤ word Req) → ((e : CacheEntry) → IsStanding (pte_at m e.vpage) e → IsStanding (word (Pte e.vpage)) e) → IsDeskSound g (record { word = word; view = viewing a new m.view }) a (desk_of new) → ShapeLaw g m → CacheLaw g m → CacheLaw g (record { word = word; view = viewing a new m.view })
+desk_step g m word a new leaves acks own_ack stands own shape h =
+    let m' : World = record { word = word; view = viewing a new m.view } in
+    record {
+      acks = λ p. elim (cases_eq p a) [
+        | inl same ↦ let Bounded : ℕ → Type 0 = λ n. n < g.cpus → IsNumber (word (Ack n)) → word (Ack n) ≤ word Req in subst Bounded (sym same) own_ack
+        | inr other ↦ ack_kept g m m' p (leaves_on m m' leaves) (acks p other) h
+      ];
+      desks = each_view (λ p v. IsDeskSound g m' p (desk_of v)) a new m.view own (λ p other. desk_still g m m' p leaves (acks p other) stands shape h);
+      flights = flights_still g m m' leaves h;
+    }
 
 -- Words.
 
@@ -192,19 +226,14 @@ pub record LeavesWords (word after : Where → ℕ) : Type 0 where
   pub ack : (p : ℕ) → after (Ack p) ≡ word (Ack p)
   pub req : after Req ≡ word Req
 
-pub goes_on : (m m' : World) → LeavesWords m.word m'.word → GoesOn m m'
-goes_on m m' h = record {
-  stamps = λ v. omega (arith, h.stamp v);
-  homes = h.home;
-  acks = h.ack;
-  req = omega (arith, h.req);
-}
-
 -- a step of an actor whose view keeps its desk and flushes, and which leaves all that entries stand on
 pub table_step : (g : Geometry) (m : World) (word : Where → ℕ) (a : ℕ) (new : View) → LeavesWords m.word word → ((e : CacheEntry) → IsStanding (pte_at m e.vpage) e → IsStanding (word (Pte e.vpage)) e) → KeepsFlights (m.view a) new → ShapeLaw g m → CacheLaw g m → CacheLaw g (record { word = word; view = viewing a new m.view })
 table_step g m word a new words stands view shape h =
     let m' : World = record { word = word; view = viewing a new m.view } in
-    cache_table g m m' (goes_on m m' words)
-    (view_part desk_of a new m.view view.desk)
-    (λ c j. view_part (λ v. option_map flight_of (op_on v j)) a new m.view (view.flights j) c)
-    stands shape h
+    let leaves : LeavesFlights m m' = record {
+      stamps = words.stamp;
+      homes = words.home;
+      req = words.req;
+      flights = λ c j. view_part (λ v. option_map flight_of (op_on v j)) a new m.view (view.flights j) c;
+    } in
+    cache_table g m m' leaves words.ack (view_part desk_of a new m.view view.desk) stands shape h
