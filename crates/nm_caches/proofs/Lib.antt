@@ -2,3 +2,4 @@ pub mod Shapes
 pub mod Still
 pub mod Table
 pub mod Desks
+pub mod Acks
