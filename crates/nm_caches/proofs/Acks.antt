@@ -68,7 +68,7 @@ behind_is ack p None seen h = absurd h
 behind_is ack p (Some f) seen h = (f, (refl, h))
 
 -- a wet page is of a due operation
-wet_due : (o : Flight) (v : ℕ) → IsTrue o.due ⊎ (o.wet ≡ []) → IsSome (find itself v o.wet) → IsTrue o.due
+pub wet_due : (o : Flight) (v : ℕ) → IsTrue o.due ⊎ (o.wet ≡ []) → IsSome (find itself v o.wet) → IsTrue o.due
 wet_due o v (inl due) wet = due
 wet_due o v (inr none) wet = absurd (let nothing : find itself v o.wet ≡ None = ap (find itself v) none in let bad : ⊥ = cc in bad)
 

@@ -126,7 +126,7 @@ peek_below m view v all =
         let below : k.stamp ≤ stamp_at m k.vpage = all_find peeked_page v (λ k. k.stamp ≤ stamp_at m k.vpage) view.peeked k all found in
         subst (λ (u : ℕ). k.stamp ≤ stamp_at m u) same below)
 
-some_at : {A : Type 0} (found : Option A) (x : A) (P : A → Type 0) → found ≡ Some x → P x → IsSomeAnd found P
+pub some_at : {A : Type 0} (found : Option A) (x : A) (P : A → Type 0) → found ≡ Some x → P x → IsSomeAnd found P
 some_at found x P is p = rw is p
 
 -- a word on which an entry is walked is not 0

@@ -3,3 +3,4 @@ pub mod Still
 pub mod Table
 pub mod Desks
 pub mod Acks
+pub mod Edits
