@@ -4,3 +4,4 @@ pub mod Table
 pub mod Desks
 pub mod Acks
 pub mod Edits
+pub mod Maps
