@@ -5,3 +5,5 @@ pub mod Desks
 pub mod Acks
 pub mod Edits
 pub mod Maps
+pub mod Holds
+pub mod Homes
