@@ -3,7 +3,7 @@ use Rattle.std.proofs.Common.{◌≡◌, ◌≢◌, ℕ, ◌+◌, ◌≤◌, ◌
 use Rattle.std.specs.Prelude.{option_map}
 use Rattle.std.specs.Int.{bit_at}
 use Rattle.std.proofs.lemmas.Bool.{cases_eq}
-use Rattle.nm_base.specs.Geometry.{Geometry}
+use Rattle.nm_base.specs.Geometry.{Geometry, backing_page}
 use Rattle.nm_action.specs.declared.action.Reply.TheVariants.{Done, Busy}
 use Rattle.nm_action.specs.declared.action.Action.TheVariants.{Lock, Unlock}
 use Rattle.nm_words.specs.declared.names.Where.{Where}
@@ -21,11 +21,12 @@ use Rattle.nm_world.specs.Parts.{Flight, flight_of, desk_of, flight_at, desk_at}
 use Rattle.nm_world.specs.Sights.{Sets}
 use Rattle.nm_world.specs.Notions.{IsBehind, Owes, IsOwed}
 use Rattle.nm_world.specs.ShapeLaw.{ShapeLaw}
+use Rattle.nm_world.specs.LockLaw.{LockLaw}
 use Rattle.nm_world.specs.Laws.{IsReady}
 use Rattle.nm_world.specs.CacheLaw.{IsEntrySound, IsPeekSound, IsFlightSound, CacheLaw}
-use Rattle.nm_world.proofs.Moves.{edited, gone, part_sets}
+use Rattle.nm_world.proofs.Moves.{edited, gone, part_sets, sole_op}
 use Rattle.nm_world.proofs.Writing.{open_sets, close_sets}
-use Rattle.nm_caches.proofs.Shapes.{GoesOn, entry_kept, flight_kept, law_kept, view_part}
+use Rattle.nm_caches.proofs.Shapes.{GoesOn, IsRunning, part_from, entry_kept, flight_kept, law_kept, view_part}
 use Rattle.nm_caches.proofs.Still.{read_still, same_view}
 use Rattle.nm_caches.proofs.Edits.{owed_by}
 
@@ -44,6 +45,18 @@ seen_all cpus ack p (Some f) seen there all behind = let one : bit_at seen p ≡
 pub nobody_owed : (g : Geometry) (ack p : ℕ) (o : Op) → IsFlushEnded g o → p < g.cpus → Owes ack p (flight_of o) → ⊥
 nobody_owed g ack p o ended there (inl due) = let made : o.due ≡ false = ended.made in let is : o.due ≡ true = due in let bad : ⊥ = cc in bad
 nobody_owed g ack p o ended there (inr behind) = seen_all g.cpus ack p o.flush o.seen there ended.seen behind
+
+-- where the flush of an operation ended, no entry of its page is owed
+pub page_not_owed : (g : Geometry) (m : World) (a b : ℕ) (o : Op) → op_at m a b ≡ Some o → IsFlushEnded g o → LockLaw g m → (p : ℕ) → IsRunning g m p → (e : CacheEntry) → backing_page g e.vpage ≡ Some b → IsOwed g m p e → ⊥
+page_not_owed g m a b o here ended locks p runs e of owed =
+    let page : owed.page ≡ b = some_same owed.page b (sym owed.of ∙ of) in
+    let On : ℕ → Type 0 = λ j. flight_at m owed.actor j ≡ Some owed.op in
+    let found = part_from flight_of (op_at m owed.actor b) owed.op (subst On page owed.here) in
+    let actor : owed.actor ≡ a = sole_op g m a b o locks here owed.actor found.0 found.1.0 in
+    let At : ℕ → Type 0 = λ c. op_at m c b ≡ Some found.0 in
+    let same : found.0 ≡ o = some_same found.0 o (sym (subst At actor found.1.0) ∙ here) in
+    let Owe : Flight → Type 0 = λ x. Owes (ack_at m p) p x in
+    nobody_owed g (ack_at m p) p o ended runs.processor (subst Owe (sym found.1.1 ∙ ap flight_of same) owed.owes)
 
 -- an entry is owed still where one operation is changed that did not owe it
 owed_others : (g : Geometry) (m m' : World) (p : ℕ) (e : CacheEntry) (a b : ℕ) (x : Option Flight) → ack_at m' p ≡ ack_at m p → Sets (flight_at m) (flight_at m') a b x → ((o : Flight) → flight_at m a b ≡ Some o → Owes (ack_at m p) p o → ⊥) → IsOwed g m p e → IsOwed g m' p e

@@ -33,7 +33,7 @@ use Rattle.nm_world.proofs.Parts.{part_edit}
 use Rattle.nm_caches.specs.Facts.{AreCopiesOut, HasCacheFacts}
 use Rattle.nm_caches.proofs.Shapes.{GoesOn, IsRunning, some_more, part_from, flight_kept, law_kept, stands_still, view_part}
 use Rattle.nm_caches.proofs.Table.{none_stands, known_of}
-use Rattle.nm_caches.proofs.Holds.{some_parts, nobody_owed}
+use Rattle.nm_caches.proofs.Holds.{some_parts, page_not_owed}
 
 -- a page has no entry in any cache
 abbrev NoEntry : Geometry → World → ℕ → Type 0
@@ -113,15 +113,7 @@ out_empty : (g : Geometry) (m : World) (a b : ℕ) (o : Op) → op_at m a b ≡ 
 out_empty g m a b o here ended out locks p runs e sound of =
     elim sound.stands [
       | inl stands ↦ none_stands (pte_at m e.vpage) e (out e.vpage of) stands
-      | inr owed ↦
-          let page : owed.page ≡ b = some_same owed.page b (sym owed.of ∙ of) in
-          let On : ℕ → Type 0 = λ j. flight_at m owed.actor j ≡ Some owed.op in
-          let found = part_from flight_of (op_at m owed.actor b) owed.op (subst On page owed.here) in
-          let actor : owed.actor ≡ a = sole_op g m a b o locks here owed.actor found.0 found.1.0 in
-          let At : ℕ → Type 0 = λ c. op_at m c b ≡ Some found.0 in
-          let same : found.0 ≡ o = some_same found.0 o (sym (subst At actor found.1.0) ∙ here) in
-          let Owe : Flight → Type 0 = λ x. Owes (ack_at m p) p x in
-          nobody_owed g (ack_at m p) p o ended runs.processor (subst Owe (sym found.1.1 ∙ ap flight_of same) owed.owes)
+      | inr owed ↦ page_not_owed g m a b o here ended locks p runs e of owed
     ]
 
 known_at : (found : Option ℕ) (h n : ℕ) → found ≡ Some h → IfSome found (λ x. x ≡ n) → h ≡ n

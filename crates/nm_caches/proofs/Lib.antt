@@ -7,3 +7,5 @@ pub mod Edits
 pub mod Maps
 pub mod Holds
 pub mod Homes
+pub mod Kept
+pub mod Given
