@@ -1,8 +1,8 @@
 -- That an acknowledgement keeps the cache law: what is kept of the cache was seen since, and what is owed is owed still.
-use Rattle.std.proofs.Common.{◌≡◌, ◌≢◌, ℕ, ◌*◌, ◌^◌, ◌≤◌, ◌<◌, ◌==◌, ◌&&◌, if◌then◌else◌, Bool, true, false, List, [], ◌∷◌, Option, Some, None, IsSome, IsSomeAnd, IsTrue, All, refl, sym, ap, subst, ◌∙◌, ◌⊎◌, inl, inr, arith}
+use Rattle.std.proofs.Common.{◌≡◌, ◌≢◌, ℕ, ◌≤◌, ◌<◌, ◌==◌, if◌then◌else◌, Bool, true, false, List, [], ◌∷◌, Option, Some, None, IsSomeAnd, IsTrue, All, refl, sym, ap, subst, ◌∙◌, ◌⊎◌, inl, inr, arith}
 use Rattle.std.specs.List.{filter}
 use Rattle.std.proofs.lemmas.Bool.{and_parts, eqb-true, cases_lt}
-use Rattle.nm_base.specs.Geometry.{Geometry, backing_page}
+use Rattle.nm_base.specs.Geometry.{Geometry}
 use Rattle.nm_action.specs.declared.action.AckTo.{AckTo}
 use Rattle.nm_action.specs.declared.action.AckTo.TheVariants.{Seen, Off, End}
 use Rattle.nm_action.specs.declared.action.Reply.TheVariants.{Done}
@@ -12,21 +12,21 @@ use Rattle.nm_words.specs.declared.names.Where.TheVariants as words
 use Rattle.nm_step.specs.Table.{acked_word}
 use Rattle.nm_view.specs.declared.view.CacheEntry.{CacheEntry}
 use Rattle.nm_view.specs.declared.view.Peeked.{Peeked}
-use Rattle.nm_view.specs.Lists.{find, first, itself}
-use Rattle.nm_view.specs.Views.{View, off_word, end_word, most_bumps}
+use Rattle.nm_view.specs.Lists.{find, first}
+use Rattle.nm_view.specs.Views.{View, off_word, most_bumps}
 use Rattle.nm_view.specs.Operations.{peeked_page}
-use Rattle.nm_view.proofs.Items.{all_find, all_head, all_tail, more, none_left, not_none}
+use Rattle.nm_view.proofs.Items.{all_find, all_head, all_tail, more, none_left}
 use Rattle.nm_view.proofs.Finds.{find_number}
-use Rattle.nm_permit.specs.Permitted.{Allowed, IsPolledFor, MayAck}
+use Rattle.nm_permit.specs.Permitted.{Allowed, IsPolledFor}
 use Rattle.nm_event.specs.After.{after_of, is_fresh_at, is_confirmed, kept_entries}
-use Rattle.nm_world.specs.Worlds.{World, written, viewing, moved, pte_at, stamp_at, home_at, ack_at}
-use Rattle.nm_world.specs.Parts.{Flight, desk_of, flight_at, desk_at}
-use Rattle.nm_world.specs.Notions.{IsNumber, IsUnseenBelow, IsBehind, Owes, IsMeant, IsOwed}
+use Rattle.nm_world.specs.Worlds.{World, written, viewing, moved, ack_at}
+use Rattle.nm_world.specs.Parts.{Flight}
+use Rattle.nm_world.specs.Notions.{IsNumber, IsUnseenBelow, IsBehind, Owes, IsMeant}
 use Rattle.nm_world.specs.ShapeLaw.{ShapeLaw}
-use Rattle.nm_world.specs.CacheLaw.{IsEntrySound, IsPeekSound, IsDeskSound, IsFlightSound, CacheLaw}
+use Rattle.nm_world.specs.CacheLaw.{IsEntrySound, IsPeekSound, CacheLaw}
 use Rattle.nm_world.proofs.Choose.{choose}
-use Rattle.nm_caches.proofs.Shapes.{LeavesFlights, Stands, desk_step, leaves_on, entry_kept}
-use Rattle.nm_caches.proofs.Desks.{leaves_table, not_true}
+use Rattle.nm_caches.proofs.Shapes.{LeavesFlights, some_parts, not_true, wet_due, desk_step, leaves_on, entry_kept}
+use Rattle.nm_caches.proofs.Desks.{leaves_table}
 
 -- Lists.
 
@@ -67,19 +67,10 @@ behind_is : (ack p : ℕ) (flush : Option ℕ) (seen : ℕ) → IsBehind ack p f
 behind_is ack p None seen h = absurd h
 behind_is ack p (Some f) seen h = (f, (refl, h))
 
--- a wet page is of a due operation
-pub wet_due : (o : Flight) (v : ℕ) → IsTrue o.due ⊎ (o.wet ≡ []) → IsSome (find itself v o.wet) → IsTrue o.due
-wet_due o v (inl due) wet = due
-wet_due o v (inr none) wet = absurd (let nothing : find itself v o.wet ≡ None = ap (find itself v) none in let bad : ⊥ = cc in bad)
-
-raised_more : (found : Option (ℕ × ℕ)) (stamp : ℕ) → IsSomeAnd found (λ p. stamp < p.1) → (p : ℕ × ℕ) × ((found ≡ Some p) × (stamp < p.1))
-raised_more None stamp h = absurd h
-raised_more (Some p) stamp h = (p, (refl, h))
-
 -- no peek that is no older than a flush confirms an entry for which the flush is meant
 stale_entry : (req_seen flush : ℕ) (o : Flight) (e : CacheEntry) (k : Peeked) → k.vpage ≡ e.vpage → k.fresh ≡ true → k.stamp ≡ e.stamp → IsNumber req_seen → o.flush ≡ Some flush → flush ≤ req_seen → IsPeekSound req_seen o k → IsSomeAnd (find first e.vpage o.raised) (λ p. e.stamp < p.1) → ⊥
 stale_entry req_seen flush o e k page fresh stamp number has reached sound raised =
-    let p = raised_more (find first e.vpage o.raised) e.stamp raised in
+    let p = some_parts (find first e.vpage o.raised) (λ q. e.stamp < q.1) raised in
     let found : find first k.vpage o.raised ≡ Some p.0 = ap (λ (v : ℕ). find first v o.raised) page ∙ p.1.0 in
     let seen : p.0.1 ≤ k.stamp = sound flush p.0.0 p.0.1 has found number reached fresh in
     omega (arith, seen, stamp, p.1.1)

@@ -1,5 +1,5 @@
 -- The kinds by which a processor sees something: Peek, Poll and Walk.
-use Rattle.std.proofs.Common.{◌≡◌, ◌≢◌, ℕ, ◌+◌, ◌^◌, ◌≤◌, ◌<◌, ◌==◌, ◌&&◌, ◌||◌, if◌then◌else◌, Bool, true, false, List, Option, Some, None, IsSome, IsSomeAnd, IsTrue, All, map, refl, sym, ap, subst, ◌∙◌, ◌⊎◌, inl, inr, arith, bit_or}
+use Rattle.std.proofs.Common.{◌≡◌, ◌≢◌, ℕ, ◌^◌, ◌≤◌, ◌<◌, ◌==◌, ◌||◌, if◌then◌else◌, Bool, true, false, List, Option, Some, None, IsTrue, All, refl, sym, ap, subst, ◌∙◌, inl, arith}
 use Rattle.std.specs.Prelude.{option_map}
 use Rattle.std.specs.Int.{bit_at}
 use Rattle.std.proofs.lemmas.Bool.{and_parts, eqb-true, eq-eqb}
@@ -13,28 +13,24 @@ use Rattle.nm_words.specs.declared.names.Where.{Where}
 use Rattle.nm_words.specs.declared.names.Where.TheVariants as words
 use Rattle.nm_view.specs.declared.view.CacheEntry.{CacheEntry}
 use Rattle.nm_view.specs.declared.view.Peeked.{Peeked}
-use Rattle.nm_view.specs.Lists.{find, put, first}
+use Rattle.nm_view.specs.Lists.{find, first}
 use Rattle.nm_view.specs.Views.{Op, View}
 use Rattle.nm_view.specs.Operations.{op_on, cached_page, peeked_page}
-use Rattle.nm_view.proofs.Items.{all_find, all_put, all_map, all_same}
+use Rattle.nm_view.proofs.Items.{all_find, all_put, all_map}
 use Rattle.nm_view.proofs.Finds.{find_number}
 use Rattle.nm_permit.specs.Permitted.{Allowed}
 use Rattle.nm_event.specs.After.{after_of, stale, stamp_of, walked}
-use Rattle.nm_world.specs.Worlds.{World, written, viewing, moved, pte_at, stamp_at, home_at, ack_at}
-use Rattle.nm_world.specs.Parts.{Flight, flight_of, desk_of, flight_at, desk_at}
+use Rattle.nm_world.specs.Worlds.{World, written, viewing, moved, pte_at, stamp_at, home_at}
+use Rattle.nm_world.specs.Parts.{Flight, flight_of, flight_at}
 use Rattle.nm_world.specs.Notions.{IsNumber, IsStanding}
 use Rattle.nm_world.specs.ShapeLaw.{ShapeLaw}
-use Rattle.nm_world.specs.CacheLaw.{IsEntrySound, IsPeekSound, IsDeskSound, CacheLaw}
-use Rattle.nm_world.specs.FrameLaw.{IsMapping}
-use Rattle.nm_world.proofs.Choose.{decide, choose}
+use Rattle.nm_world.specs.CacheLaw.{IsEntrySound, IsPeekSound, CacheLaw}
+use Rattle.nm_world.proofs.Choose.{choose}
 use Rattle.nm_world.proofs.Bits.{frame_or, bit_or_set, standing_or}
 use Rattle.nm_caches.specs.Facts.{AreMappings}
-use Rattle.nm_caches.proofs.Shapes.{LeavesFlights, desk_step, entry_still, each_entry, after_read, view_part}
+use Rattle.nm_caches.proofs.Shapes.{LeavesFlights, some_at, not_true, desk_step, entry_still, each_entry, after_read, view_part}
 use Rattle.nm_caches.proofs.Still.{same_view, read_still}
-use Rattle.nm_caches.proofs.Table.{none_stands, written_stands}
-
-pub not_true : IsTrue false → ⊥
-not_true h = cc
+use Rattle.nm_caches.proofs.Table.{written_stands}
 
 -- the new view has the operations of the old one, and of the words the table alone may change
 pub leaves_table : (m : World) (word : Where → ℕ) (a : ℕ) (new : View) → ((v : ℕ) → word (words.Stamp v) ≡ stamp_at m v) → ((b : ℕ) → word (words.Home b) ≡ home_at m b) → word words.Req ≡ m.word words.Req → new.ops ≡ (m.view a).ops → LeavesFlights m (record { word = word; view = viewing a new m.view })
@@ -61,18 +57,18 @@ cache_peek g m a v shape h =
     let was = h.desks a in
     let leaves : LeavesFlights m m' = leaves_table m m.word a new (λ u. refl) (λ b. refl) refl refl in
     after_read g (words.Stamp v) m.word (viewing a new m.view) (
-      desk_step g m m.word a new leaves (λ p _. refl) (h.acks a) (λ e is. is) (record {
-        acked = was.acked;
-        off = was.off;
-        polled = was.polled;
-        entries = each_entry g m a (IsEntrySound g m' a) shape h (λ _ e sound. entry_still g m m' a e leaves refl (λ is. is) sound);
-        peeks = all_put peeked_page (λ k. k.stamp ≤ stamp_at m k.vpage) seen (m.view a).peeked (omega arith) was.peeks;
-        fresh = λ c b o is.
-            let before : flight_at m c b ≡ Some o = sym (leaves.flights c b) ∙ is in
-            all_put peeked_page (IsPeekSound (m.view a).req_seen o) seen (m.view a).peeked
-            (λ flush u x has found number le fresh. raised_below m o v u x (h.flights c b o before).raised found)
-            (was.fresh c b o before);
-      }) shape h
+    desk_step g m m.word a new leaves (λ p _. refl) (h.acks a) (λ e is. is) (record {
+      acked = was.acked;
+      off = was.off;
+      polled = was.polled;
+      entries = each_entry g m a (IsEntrySound g m' a) shape h (λ _ e sound. entry_still g m m' a e leaves refl (λ is. is) sound);
+      peeks = all_put peeked_page (λ k. k.stamp ≤ stamp_at m k.vpage) seen (m.view a).peeked (omega arith) was.peeks;
+      fresh = λ c b o is.
+          let before : flight_at m c b ≡ Some o = sym (leaves.flights c b) ∙ is in
+          all_put peeked_page (IsPeekSound (m.view a).req_seen o) seen (m.view a).peeked
+          (λ flush u x has found number le fresh. raised_below m o v u x (h.flights c b o before).raised found)
+          (was.fresh c b o before);
+    }) shape h
     )
 
 pub cache_poll : (g : Geometry) (m : World) (a : ℕ) → ShapeLaw g m → CacheLaw g m → CacheLaw g (moved g m a Poll)
@@ -84,14 +80,14 @@ cache_poll g m a shape h =
     let leaves : LeavesFlights m m' = leaves_table m m.word a new (λ u. refl) (λ b. refl) refl refl in
     let Below : Peeked → Type 0 = λ k. k.stamp ≤ stamp_at m k.vpage in
     after_read g words.Req m.word (viewing a new m.view) (
-      desk_step g m m.word a new leaves (λ p _. refl) (h.acks a) (λ e is. is) (record {
-        acked = was.acked;
-        off = was.off;
-        polled = λ number. omega arith;
-        entries = each_entry g m a (IsEntrySound g m' a) shape h (λ _ e sound. entry_still g m m' a e leaves refl (λ is. is) sound);
-        peeks = all_map Below Below stale (m.view a).peeked (λ k le. le) was.peeks;
-        fresh = λ c b o is. all_map Below (IsPeekSound n o) stale (m.view a).peeked (λ k le flush u x has found number below fresh. absurd (not_true fresh)) was.peeks;
-      }) shape h
+    desk_step g m m.word a new leaves (λ p _. refl) (h.acks a) (λ e is. is) (record {
+      acked = was.acked;
+      off = was.off;
+      polled = λ number. omega arith;
+      entries = each_entry g m a (IsEntrySound g m' a) shape h (λ _ e sound. entry_still g m m' a e leaves refl (λ is. is) sound);
+      peeks = all_map Below Below stale (m.view a).peeked (λ k le. le) was.peeks;
+      fresh = λ c b o is. all_map Below (IsPeekSound n o) stale (m.view a).peeked (λ k le flush u x has found number below fresh. absurd (not_true fresh)) was.peeks;
+    }) shape h
     )
 
 -- Walk.
@@ -122,12 +118,9 @@ seen_stamp n (Some k) below = below k refl
 peek_below : (m : World) (view : View) (v : ℕ) → All (λ k. k.stamp ≤ stamp_at m k.vpage) view.peeked → stamp_of (find peeked_page v view.peeked) ≤ stamp_at m v
 peek_below m view v all =
     seen_stamp (stamp_at m v) (find peeked_page v view.peeked) (λ k found.
-        let same : k.vpage ≡ v = find_number peeked_page v view.peeked k found in
-        let below : k.stamp ≤ stamp_at m k.vpage = all_find peeked_page v (λ k. k.stamp ≤ stamp_at m k.vpage) view.peeked k all found in
-        subst (λ (u : ℕ). k.stamp ≤ stamp_at m u) same below)
-
-pub some_at : {A : Type 0} (found : Option A) (x : A) (P : A → Type 0) → found ≡ Some x → P x → IsSomeAnd found P
-some_at found x P is p = rw is p
+    let same : k.vpage ≡ v = find_number peeked_page v view.peeked k found in
+    let below : k.stamp ≤ stamp_at m k.vpage = all_find peeked_page v (λ k. k.stamp ≤ stamp_at m k.vpage) view.peeked k all found in
+    subst (λ (u : ℕ). k.stamp ≤ stamp_at m u) same below)
 
 -- a word on which an entry is walked is not 0
 present_some : (e : ℕ) → IsTrue (is_present e) → e ≢ 0
@@ -157,7 +150,7 @@ walk_done g m a v e write found allowed mappings shape h =
     let leaves : LeavesFlights m m' = leaves_table m word a new (λ u. refl) (λ b. refl) refl refl in
     let Stood : ℕ → CacheEntry → Type 0 = λ n e. IsStanding n e in
     let stands : (c : CacheEntry) → Stood (pte_at m c.vpage) c → Stood (word (words.Pte c.vpage)) c =
-        λ c is. written_stands v (walked_word e write) m.word c (λ _ on. standing_or e (walk_mask write) c (walk_low write) (subst (λ (n : ℕ). Stood n c) found on)) is in
+    λ c is. written_stands v (walked_word e write) m.word c (λ _ on. standing_or e (walk_mask write) c (walk_low write) (subst (λ (n : ℕ). Stood n c) found on)) is in
     let left : word (words.Pte v) ≡ walked_word e write = choose (λ n. n ≡ walked_word e write) v v (walked_word e write) (pte_at m v) (λ _. refl) (λ other. absurd (other refl)) in
     desk_step g m word a new leaves (λ p _. refl) (h.acks a) stands (record {
       acked = was.acked;

@@ -1,5 +1,5 @@
 -- The kinds by which the flushes of one operation change: ClearDirty, Unmap and Raise.
-use Rattle.std.proofs.Common.{◌≡◌, ◌≢◌, ℕ, ◌+◌, ◌%◌, ◌^◌, ◌≤◌, ◌<◌, ◌==◌, if◌then◌else◌, Bool, true, false, List, [], Option, Some, None, IsSome, IsSomeAnd, IsTrue, All, refl, sym, ap, subst, ◌∙◌, ◌⊎◌, inl, inr, arith, bit_and}
+use Rattle.std.proofs.Common.{◌≡◌, ◌≢◌, ℕ, ◌+◌, ◌%◌, ◌^◌, ◌≤◌, ◌<◌, true, Option, Some, None, IsSome, IsSomeAnd, IsTrue, All, refl, sym, ap, subst, ◌∙◌, ◌⊎◌, inl, inr, arith}
 use Rattle.std.specs.Prelude.{option_map}
 use Rattle.std.proofs.lemmas.Bool.{cases_eq}
 use Rattle.nm_base.specs.Geometry.{Geometry, backing_page}
@@ -11,13 +11,11 @@ use Rattle.nm_view.specs.declared.view.CacheEntry.{CacheEntry}
 use Rattle.nm_view.specs.declared.view.Peeked.{Peeked}
 use Rattle.nm_view.specs.Lists.{find, edit, erase, put, first, itself}
 use Rattle.nm_view.specs.Views.{Op, View, most_raises}
-use Rattle.nm_view.specs.Opening.{IsActor}
 use Rattle.nm_view.specs.Operations.{page_of, op_on}
 use Rattle.nm_view.proofs.Items.{all_find, all_put, all_erase, all_same, some_same, not_none}
 use Rattle.nm_view.proofs.Finds.{find_put, find_put_other, find_erase_other}
 use Rattle.nm_permit.specs.Permitted.{Allowed, MayClear, MayUnmap, IsWet}
 use Rattle.nm_event.specs.After.{after_of, edit_under, edit_of, cleared_at, taken_at, raised_to}
-use Rattle.nm_event.specs.Fitting.{Fits}
 use Rattle.nm_shape.specs.Shape.{IsOpShaped}
 use Rattle.nm_world.specs.Worlds.{World, written, viewing, moved, left_in, pte_at, stamp_at, home_at, ack_at, op_at}
 use Rattle.nm_world.specs.Parts.{Flight, flight_of, desk_of, flight_at, desk_at}
@@ -27,14 +25,9 @@ use Rattle.nm_world.specs.ShapeLaw.{ShapeLaw}
 use Rattle.nm_world.specs.Laws.{IsReady}
 use Rattle.nm_world.specs.CacheLaw.{IsEntrySound, IsPeekSound, IsFlightSound, CacheLaw}
 use Rattle.nm_world.proofs.Choose.{choose}
-use Rattle.nm_world.proofs.Moves.{OnPage, on_page, edited, part_sets}
+use Rattle.nm_world.proofs.Moves.{on_page, edited, part_sets}
 use Rattle.nm_world.proofs.Writing.{edit_sets}
-use Rattle.nm_caches.proofs.Shapes.{GoesOn, Stands, IsRunning, entry_kept, flight_kept, law_kept, view_part}
-use Rattle.nm_caches.proofs.Acks.{wet_due}
-use Rattle.nm_caches.proofs.Desks.{some_at}
-
-pub is_some : {A : Type 0} (found : Option A) (x : A) → found ≡ Some x → IsSome found
-is_some found x is = rw is cc
+use Rattle.nm_caches.proofs.Shapes.{GoesOn, Stands, some_at, is_some, wet_due, entry_kept, flight_kept, law_kept, view_part}
 
 -- the flushes of the operation on the page of v, after it was edited
 pub flight_sets : (g : Geometry) (m : World) (word : Where → ℕ) (a v b : ℕ) (f : Op → Op) (o : Op) (new : View) → ((x : Op) → page_of (f x) ≡ page_of x) → new.ops ≡ edit_of g v f (m.view a).ops → backing_page g v ≡ Some b → op_at m a b ≡ Some o → Sets (flight_at m) (flight_at (record { word = word; view = viewing a new m.view })) a b (Some (flight_of (f o)))
@@ -46,25 +39,57 @@ flight_sets g m word a v b f o new same is of here =
 pub owed_by : (g : Geometry) (m : World) (p : ℕ) (e : CacheEntry) (a b : ℕ) (o : Flight) → backing_page g e.vpage ≡ Some b → flight_at m a b ≡ Some o → Owes (ack_at m p) p o → IsMeant e.vpage e.stamp o → IsOwed g m p e
 owed_by g m p e a b o of here owes meant = record { actor = a; page = b; op = o; of = of; here = here; owes = owes; meant = meant }
 
--- an entry is owed still where the flushes of one operation change: by another, or as this one owes it
-pub owed_edit : (g : Geometry) (m m' : World) (p : ℕ) (e : CacheEntry) (a b : ℕ) (o u : Flight) → ack_at m' p ≡ ack_at m p → Sets (flight_at m) (flight_at m') a b (Some u) → flight_at m a b ≡ Some o → (Owes (ack_at m p) p o → IsMeant e.vpage e.stamp o → Owes (ack_at m p) p u × IsMeant e.vpage e.stamp u) → IsOwed g m p e → IsOwed g m' p e
-owed_edit g m m' p e a b o u ack sets here own owed =
-    let Owe : Flight → ℕ → Type 0 = λ q n. Owes n p q in
+-- actor a's operation on b owes the flush
+record IsOwedBy (g : Geometry) (m : World) (p : ℕ) (e : CacheEntry) (a b : ℕ) : Type 0 where
+  op : Flight
+  of : backing_page g e.vpage ≡ Some b
+  here : flight_at m a b ≡ Some op
+  owes : Owes (ack_at m p) p op
+  meant : IsMeant e.vpage e.stamp op
+
+-- where one operation changes, an entry is owed by another as before, or was owed by this one
+owed_or : (g : Geometry) (m m' : World) (p : ℕ) (e : CacheEntry) (a b : ℕ) (x : Option Flight) → ack_at m' p ≡ ack_at m p → Sets (flight_at m) (flight_at m') a b x → IsOwed g m p e → IsOwed g m' p e ⊎ IsOwedBy g m p e a b
+owed_or g m m' p e a b x ack sets owed =
+    let Owe : ℕ → Type 0 = λ n. Owes n p owed.op in
     let kept : flight_at m' owed.actor owed.page ≡ flight_at m owed.actor owed.page → IsOwed g m' p e =
-        λ same. owed_by g m' p e owed.actor owed.page owed.op owed.of (same ∙ owed.here) (subst (Owe owed.op) (sym ack) owed.owes) owed.meant in
+    λ same. owed_by g m' p e owed.actor owed.page owed.op owed.of (same ∙ owed.here) (subst Owe (sym ack) owed.owes) owed.meant in
     elim (cases_eq owed.actor a) [
-      | inr other ↦ kept (sets.others owed.actor owed.page other)
+      | inr other ↦ inl (kept (sets.others owed.actor owed.page other))
       | inl actor ↦ elim (cases_eq owed.page b) [
-        | inr away ↦ kept (let Kept : ℕ → Type 0 = λ c. flight_at m' c owed.page ≡ flight_at m c owed.page in subst Kept (sym actor) (sets.rest owed.page away))
+        | inr away ↦ inl (kept (let Kept : ℕ → Type 0 = λ c. flight_at m' c owed.page ≡ flight_at m c owed.page in subst Kept (sym actor) (sets.rest owed.page away)))
         | inl page ↦
             let At : ℕ → Type 0 = λ c. flight_at m c b ≡ Some owed.op in
             let On : ℕ → Type 0 = λ j. flight_at m owed.actor j ≡ Some owed.op in
-            let there : flight_at m a b ≡ Some owed.op = subst At actor (subst On page owed.here) in
-            let same : owed.op ≡ o = some_same owed.op o (sym there ∙ here) in
-            let Meant : Flight → Type 0 = λ q. IsMeant e.vpage e.stamp q in
-            let both = own (let Was : Flight → Type 0 = λ q. Owes (ack_at m p) p q in subst Was same owed.owes) (subst Meant same owed.meant) in
-            owed_by g m' p e a b u (owed.of ∙ ap (λ (j : ℕ). Some j) page) sets.here (subst (Owe u) (sym ack) both.0) both.1
+            inr (record {
+              op = owed.op;
+              of = owed.of ∙ ap (λ (j : ℕ). Some j) page;
+              here = subst At actor (subst On page owed.here);
+              owes = owed.owes;
+              meant = owed.meant;
+            })
       ]
+    ]
+
+-- an entry is owed still where one operation changes that goes on owing what it owed
+pub owed_edit : (g : Geometry) (m m' : World) (p : ℕ) (e : CacheEntry) (a b : ℕ) (o u : Flight) → ack_at m' p ≡ ack_at m p → Sets (flight_at m) (flight_at m') a b (Some u) → flight_at m a b ≡ Some o → (Owes (ack_at m p) p o → IsMeant e.vpage e.stamp o → Owes (ack_at m p) p u × IsMeant e.vpage e.stamp u) → IsOwed g m p e → IsOwed g m' p e
+owed_edit g m m' p e a b o u ack sets here own owed =
+    elim (owed_or g m m' p e a b (Some u) ack sets owed) [
+      | inl kept ↦ kept
+      | inr by ↦
+          let same : by.op ≡ o = some_same by.op o (sym by.here ∙ here) in
+          let Owe : Flight → Type 0 = λ q. Owes (ack_at m p) p q in
+          let Meant : Flight → Type 0 = λ q. IsMeant e.vpage e.stamp q in
+          let both = own (subst Owe same by.owes) (subst Meant same by.meant) in
+          let New : ℕ → Type 0 = λ n. Owes n p u in
+          owed_by g m' p e a b u by.of sets.here (subst New (sym ack) both.0) both.1
+    ]
+
+-- an entry is owed still where one operation changes that did not owe it
+pub owed_others : (g : Geometry) (m m' : World) (p : ℕ) (e : CacheEntry) (a b : ℕ) (x : Option Flight) → ack_at m' p ≡ ack_at m p → Sets (flight_at m) (flight_at m') a b x → ((o : Flight) → flight_at m a b ≡ Some o → Owes (ack_at m p) p o → ⊥) → IsOwed g m p e → IsOwed g m' p e
+owed_others g m m' p e a b x ack sets none owed =
+    elim (owed_or g m m' p e a b x ack sets owed) [
+      | inl kept ↦ kept
+      | inr by ↦ absurd (none by.op by.here by.owes)
     ]
 
 -- the law where the flushes of one operation change
@@ -182,6 +207,6 @@ cache_raise g m a v ready h =
     let due : IsTrue on.op.due = wet_due (flight_of on.op) v (h.flights a on.page (flight_of on.op) here).wet on.may in
     let Number : ℕ → Type 0 = λ x. x ≡ n + 1 → CacheLaw g (record { word = written (words.Stamp v) x m.word; view = viewing a new m.view }) in
     let step : Number (n + 1) = λ _. cache_raised g m a on.page v (n + 1) (flight_of on.op) new refl here due (shaped.due due) refl
-        (flight_sets g m (written (words.Stamp v) (n + 1) m.word) a v on.page (raised_to v (n + 1)) on.op new (λ o. refl) refl on.of on.here) ready.shaped h in
+    (flight_sets g m (written (words.Stamp v) (n + 1) m.word) a v on.page (raised_to v (n + 1)) on.op new (λ o. refl) refl on.of on.here) ready.shaped h in
     let whole : (n + 1) % 2 ^ 64 ≡ n + 1 = omega (arith, few) in
     subst Number (sym whole) step whole

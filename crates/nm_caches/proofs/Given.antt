@@ -1,5 +1,5 @@
 -- What the other groups take from the cache law: an entry leads to the home of its page, and stands once a flush ended.
-use Rattle.std.proofs.Common.{◌≡◌, ℕ, [], Option, Some, None, sym, ap, subst, ◌∙◌, ◌⊎◌, inl, inr}
+use Rattle.std.proofs.Common.{◌≡◌, ℕ, Some, sym, ap, subst, ◌∙◌, inl, inr}
 use Rattle.nm_base.specs.Geometry.{Geometry, backing_page}
 use Rattle.nm_base.specs.HomeWord.{home_word}
 use Rattle.nm_view.specs.declared.view.CacheEntry.{CacheEntry}
@@ -9,13 +9,12 @@ use Rattle.nm_view.specs.Operations.{cached_page, IsFlushEnded}
 use Rattle.nm_view.proofs.Items.{all_find, some_same, not_none}
 use Rattle.nm_view.proofs.Finds.{find_number}
 use Rattle.nm_world.specs.Worlds.{World, pte_at, home_at, op_at}
-use Rattle.nm_world.specs.Parts.{desk_at}
 use Rattle.nm_world.specs.Notions.{IsStanding}
 use Rattle.nm_world.specs.ShapeLaw.{ShapeLaw}
 use Rattle.nm_world.specs.LockLaw.{LockLaw}
 use Rattle.nm_world.specs.CacheLaw.{IsEntrySound, CacheLaw}
-use Rattle.nm_caches.proofs.Shapes.{IsRunning, caches_or_runs}
-use Rattle.nm_caches.proofs.Holds.{some_parts, page_not_owed}
+use Rattle.nm_caches.proofs.Shapes.{some_parts, caches_or_runs}
+use Rattle.nm_caches.proofs.Holds.{page_not_owed}
 
 -- an entry that is cached is sound, and of the virtual page under which it is found
 found_sound : (g : Geometry) (m : World) (p v : ℕ) (e : CacheEntry) → CacheLaw g m → find cached_page v (m.view p).cache ≡ Some e → IsEntrySound g m p e

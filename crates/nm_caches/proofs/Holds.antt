@@ -1,8 +1,7 @@
 -- The kinds by which an operation comes or goes: Lock and Unlock.
-use Rattle.std.proofs.Common.{◌≡◌, ◌≢◌, ℕ, ◌+◌, ◌≤◌, ◌<◌, ◌==◌, if◌then◌else◌, Bool, true, false, List, [], ◌∷◌, ◌++◌, Option, Some, None, IsSome, IsSomeAnd, IfSome, IsTrue, All, refl, sym, ap, subst, ◌∙◌, ◌⊎◌, inl, inr, arith}
+use Rattle.std.proofs.Common.{◌≡◌, ℕ, ◌+◌, ◌≤◌, ◌<◌, ◌==◌, if◌then◌else◌, Bool, true, false, Option, Some, None, IfSome, All, refl, sym, ap, subst, ◌∙◌, inl, inr, arith}
 use Rattle.std.specs.Prelude.{option_map}
 use Rattle.std.specs.Int.{bit_at}
-use Rattle.std.proofs.lemmas.Bool.{cases_eq}
 use Rattle.nm_base.specs.Geometry.{Geometry, backing_page}
 use Rattle.nm_action.specs.declared.action.Reply.TheVariants.{Done, Busy}
 use Rattle.nm_action.specs.declared.action.Action.TheVariants.{Lock, Unlock}
@@ -12,7 +11,7 @@ use Rattle.nm_view.specs.declared.view.CacheEntry.{CacheEntry}
 use Rattle.nm_view.specs.declared.view.Peeked.{Peeked}
 use Rattle.nm_view.specs.Views.{Op, View}
 use Rattle.nm_view.specs.Opening.{opened}
-use Rattle.nm_view.specs.Operations.{op_on, IsFlushEnded, AreSeen}
+use Rattle.nm_view.specs.Operations.{IsFlushEnded, AreSeen}
 use Rattle.nm_view.proofs.Items.{all_same, none_left, some_same, not_none}
 use Rattle.nm_permit.specs.Permitted.{Allowed, MayUnlock}
 use Rattle.nm_event.specs.After.{after_of}
@@ -23,17 +22,12 @@ use Rattle.nm_world.specs.Notions.{IsBehind, Owes, IsOwed}
 use Rattle.nm_world.specs.ShapeLaw.{ShapeLaw}
 use Rattle.nm_world.specs.LockLaw.{LockLaw}
 use Rattle.nm_world.specs.Laws.{IsReady}
-use Rattle.nm_world.specs.CacheLaw.{IsEntrySound, IsPeekSound, IsFlightSound, CacheLaw}
+use Rattle.nm_world.specs.CacheLaw.{IsPeekSound, IsFlightSound, CacheLaw}
 use Rattle.nm_world.proofs.Moves.{edited, gone, part_sets, sole_op}
 use Rattle.nm_world.proofs.Writing.{open_sets, close_sets}
-use Rattle.nm_caches.proofs.Shapes.{GoesOn, IsRunning, part_from, entry_kept, flight_kept, law_kept, view_part}
+use Rattle.nm_caches.proofs.Shapes.{GoesOn, IsRunning, some_parts, part_from, entry_kept, flight_kept, law_kept, view_part}
 use Rattle.nm_caches.proofs.Still.{read_still, same_view}
-use Rattle.nm_caches.proofs.Edits.{owed_by}
-
--- what an optional item is known to be
-pub some_parts : {A : Type 0} (found : Option A) (P : A → Type 0) → IsSomeAnd found P → (x : A) × ((found ≡ Some x) × P x)
-some_parts None P h = absurd h
-some_parts (Some x) P h = (x, (refl, h))
+use Rattle.nm_caches.proofs.Edits.{owed_others}
 
 -- Nobody is owed.
 
@@ -58,23 +52,6 @@ page_not_owed g m a b o here ended locks p runs e of owed =
     let Owe : Flight → Type 0 = λ x. Owes (ack_at m p) p x in
     nobody_owed g (ack_at m p) p o ended runs.processor (subst Owe (sym found.1.1 ∙ ap flight_of same) owed.owes)
 
--- an entry is owed still where one operation is changed that did not owe it
-owed_others : (g : Geometry) (m m' : World) (p : ℕ) (e : CacheEntry) (a b : ℕ) (x : Option Flight) → ack_at m' p ≡ ack_at m p → Sets (flight_at m) (flight_at m') a b x → ((o : Flight) → flight_at m a b ≡ Some o → Owes (ack_at m p) p o → ⊥) → IsOwed g m p e → IsOwed g m' p e
-owed_others g m m' p e a b x ack sets none owed =
-    let Owe : ℕ → Type 0 = λ n. Owes n p owed.op in
-    let kept : flight_at m' owed.actor owed.page ≡ flight_at m owed.actor owed.page → IsOwed g m' p e =
-        λ same. owed_by g m' p e owed.actor owed.page owed.op owed.of (same ∙ owed.here) (subst Owe (sym ack) owed.owes) owed.meant in
-    elim (cases_eq owed.actor a) [
-      | inr other ↦ kept (sets.others owed.actor owed.page other)
-      | inl actor ↦ elim (cases_eq owed.page b) [
-        | inr away ↦ kept (let Kept : ℕ → Type 0 = λ c. flight_at m' c owed.page ≡ flight_at m c owed.page in subst Kept (sym actor) (sets.rest owed.page away))
-        | inl page ↦
-            let At : ℕ → Type 0 = λ c. flight_at m c b ≡ Some owed.op in
-            let On : ℕ → Type 0 = λ j. flight_at m owed.actor j ≡ Some owed.op in
-            absurd (none owed.op (subst At actor (subst On page owed.here)) owed.owes)
-      ]
-    ]
-
 -- Lock.
 
 lock_done : (g : Geometry) (m : World) (a b : ℕ) → op_at m a b ≡ None → ShapeLaw g m → CacheLaw g m → CacheLaw g (record { word = written (words.Lock b) ((m.view a).number + 1) m.word; view = viewing a (after_of g (m.view a) (Lock b) Done) m.view })
@@ -92,11 +69,11 @@ lock_done g m a b none shape h =
       | inr owed ↦ inr (owed_others g m m' p e a b (Some (flight_of o)) refl sets (λ q here _. not_none q (sym absent ∙ here)) owed)
     ]) sound)
     (edited (λ c j q. IsFlightSound m' q) (flight_at m) (flight_at m') a b (flight_of o) sets
-        (record { raised = none_left (λ (p : ℕ × ℕ). p.1 ≤ stamp_at m p.0); wet = inr refl })
-        (λ c j q _ is. flight_kept m m' q goes.stamps (h.flights c j q is)))
+    (record { raised = none_left (λ (p : ℕ × ℕ). p.1 ≤ stamp_at m p.0); wet = inr refl })
+    (λ c j q _ is. flight_kept m m' q goes.stamps (h.flights c j q is)))
     (λ p. edited (λ c j q. All (IsPeekSound (desk_at m p).req_seen q) (desk_at m p).peeked) (flight_at m) (flight_at m') a b (flight_of o) sets
-        (all_same (λ (k : Peeked). k.stamp ≤ stamp_at m k.vpage) (IsPeekSound (desk_at m p).req_seen (flight_of o)) (desk_at m p).peeked (λ k _ flush v n has found number reached fresh. absurd (not_none flush has)) (h.desks p).peeks)
-        (λ c j q _ is. (h.desks p).fresh c j q is))
+    (all_same (λ (k : Peeked). k.stamp ≤ stamp_at m k.vpage) (IsPeekSound (desk_at m p).req_seen (flight_of o)) (desk_at m p).peeked (λ k _ flush v n has found number reached fresh. absurd (not_none flush has)) (h.desks p).peeks)
+    (λ c j q _ is. (h.desks p).fresh c j q is))
     shape h
 
 -- done where the lock is free, and busy where another has it

@@ -1,12 +1,11 @@
 -- That a SetHome keeps the cache law: no cache has an entry of the page.
-use Rattle.std.proofs.Common.{◌≡◌, ◌≢◌, ℕ, ◌+◌, ◌<◌, ◌≤◌, ◌==◌, ◌&&◌, not, if◌then◌else◌, Bool, true, false, List, [], ◌∷◌, Option, Some, None, IsSome, IsSomeAnd, IfSome, IsTrue, All, refl, sym, ap, subst, ◌∙◌, ◌⊎◌, inl, inr, arith}
+use Rattle.std.proofs.Common.{◌≡◌, ◌≢◌, ℕ, ◌==◌, not, Bool, true, false, List, [], ◌∷◌, Option, Some, None, IsSome, IfSome, All, refl, sym, ap, subst, ◌∙◌, ◌⊎◌, inl, inr, arith}
 use Rattle.std.specs.Prelude.{option_map}
 use Rattle.std.proofs.lemmas.Bool.{cases_eq, eq-eqb}
 use Rattle.nm_base.specs.Geometry.{Geometry, backing_page}
 use Rattle.nm_base.specs.HomeWord.{home_word}
 use Rattle.nm_action.specs.declared.action.Reply.TheVariants.{Done}
 use Rattle.nm_action.specs.declared.action.Action.TheVariants.{SetHome}
-use Rattle.nm_words.specs.declared.names.Where.{Where}
 use Rattle.nm_words.specs.declared.names.Where.TheVariants as words
 use Rattle.nm_view.specs.declared.view.CacheEntry.{CacheEntry}
 use Rattle.nm_view.specs.declared.view.Phase.{Phase}
@@ -18,22 +17,21 @@ use Rattle.nm_view.specs.Views.{Op, View}
 use Rattle.nm_view.specs.Operations.{page_of, op_on, fill_of, names_one, IsTaken, IsLookedOver, IsUnmapped, IsFlushEnded}
 use Rattle.nm_view.proofs.Items.{all_find, all_head, some_same}
 use Rattle.nm_view.proofs.Finds.{find_number}
-use Rattle.nm_permit.specs.Permitted.{Allowed, MaySetHome, HasNewHome, IsHomeDemanded, IsHomeCommitted, IsHomeMoved}
+use Rattle.nm_permit.specs.Permitted.{Allowed, MaySetHome, HasNewHome, IsHomeCommitted}
 use Rattle.nm_event.specs.After.{after_of, homed_at}
 use Rattle.nm_event.specs.Fitting.{Agrees}
-use Rattle.nm_world.specs.Worlds.{World, written, viewing, moved, pte_at, stamp_at, home_at, ack_at, op_at}
-use Rattle.nm_world.specs.Parts.{Flight, flight_of, desk_of, lore_of, flight_at, desk_at, lore_at}
-use Rattle.nm_world.specs.Notions.{IsStanding, Owes, IsOwed, IsOut, HasOne}
+use Rattle.nm_world.specs.Worlds.{World, written, viewing, moved, pte_at, home_at, op_at}
+use Rattle.nm_world.specs.Parts.{flight_of, desk_of, lore_of, flight_at}
+use Rattle.nm_world.specs.Notions.{IsOut, HasOne}
 use Rattle.nm_world.specs.ShapeLaw.{ShapeLaw}
 use Rattle.nm_world.specs.LockLaw.{LockLaw, IsTrueOp, IsStaged}
 use Rattle.nm_world.specs.CacheLaw.{IsEntrySound, CacheLaw}
 use Rattle.nm_world.proofs.Choose.{choose}
-use Rattle.nm_world.proofs.Moves.{sole_op}
 use Rattle.nm_world.proofs.Parts.{part_edit}
-use Rattle.nm_caches.specs.Facts.{AreCopiesOut, HasCacheFacts}
-use Rattle.nm_caches.proofs.Shapes.{GoesOn, IsRunning, some_more, part_from, flight_kept, law_kept, stands_still, view_part}
+use Rattle.nm_caches.specs.Facts.{HasCacheFacts}
+use Rattle.nm_caches.proofs.Shapes.{GoesOn, IsRunning, some_parts, some_more, flight_kept, law_kept, stands_still, view_part}
 use Rattle.nm_caches.proofs.Table.{none_stands, known_of}
-use Rattle.nm_caches.proofs.Holds.{some_parts, page_not_owed}
+use Rattle.nm_caches.proofs.Holds.{page_not_owed}
 
 -- a page has no entry in any cache
 abbrev NoEntry : Geometry → World → ℕ → Type 0
@@ -74,8 +72,8 @@ out_of g m b o page known over some v of =
 unmapped_out : (g : Geometry) (m : World) (b : ℕ) (o : Op) → o.page ≡ b → IsTrueOp m b (lore_of o) → IsUnmapped g o → IsOut g (pte_at m) b
 unmapped_out g m b o page known is =
     out_of g m b o page known is.over (λ v p found there.
-        let taken : IsTaken o.taken p.0 = all_find first v (λ q. q.1 ≢ 0 → IsTaken o.taken q.0) o.looked p is.taken found there in
-        known.taken v (subst (IsTaken o.taken) (find_number first v o.looked p found) taken))
+    let taken : IsTaken o.taken p.0 = all_find first v (λ q. q.1 ≢ 0 → IsTaken o.taken q.0) o.looked p is.taken found there in
+    known.taken v (subst (IsTaken o.taken) (find_number first v o.looked p found) taken))
 
 -- where something was taken, and only of v, v was taken
 one_taken : (v : ℕ) (taken : List (ℕ × ℕ)) → taken ≢ [] → All (λ p. p.0 ≡ v) taken → IsTaken taken v
@@ -86,9 +84,9 @@ one_taken v (p ∷ ps) some all = let same : (p.0 == v) ≡ true = eq-eqb p.0 v 
 alone_out : (g : Geometry) (m : World) (b : ℕ) (o : Op) → o.page ≡ b → IsTrueOp m b (lore_of o) → IsLookedOver g o.page o.looked → HasOne o.looked o.taken → o.taken ≢ [] → IsOut g (pte_at m) b
 alone_out g m b o page known over one some =
     out_of g m b o page known over (λ v p found there.
-        let same : p.0 ≡ one.0 = all_find first v (λ q. q.1 ≢ 0 → q.0 ≡ one.0) o.looked p one.1.looks found there in
-        let at : one.0 ≡ v = sym same ∙ find_number first v o.looked p found in
-        known.taken v (subst (IsTaken o.taken) at (one_taken one.0 o.taken some one.1.takes)))
+    let same : p.0 ≡ one.0 = all_find first v (λ q. q.1 ≢ 0 → q.0 ≡ one.0) o.looked p one.1.looks found there in
+    let at : one.0 ≡ v = sym same ∙ find_number first v o.looked p found in
+    known.taken v (subst (IsTaken o.taken) at (one_taken one.0 o.taken some one.1.takes)))
 
 -- whether an operation in phase Taken that is cleared names a virtual page
 taken_names : (phase : Phase) (cleared moved : Bool) → phase ≡ Taken → cleared ≡ true → names_one phase cleared moved ≡ not moved

@@ -1,5 +1,5 @@
 -- That every step that is ready keeps the cache law, by the kind of its action.
-use Rattle.std.proofs.Common.{◌≡◌, ℕ, inr}
+use Rattle.std.proofs.Common.{ℕ, inr}
 use Rattle.nm_base.specs.Geometry.{Geometry}
 use Rattle.nm_action.specs.declared.action.Action.{Action}
 use Rattle.nm_action.specs.declared.action.Action.TheVariants.{Load, Store, Add, Look, Walk, Peek, Poll, Ack, Lock, Unlock, Bump, SeeAck, Raise, Soften, Arm, ClearDirty, Unmap, Map, Grant, CopyLoad, CopyStore, SetHome, SetShadow, TakeTurn, Scan, GiveFrame, PutFrame, ReleaseTurn, Mark, Read}

@@ -1,7 +1,6 @@
 -- The kinds by which the flushes of all operations of an actor change: Bump and SeeAck.
-use Rattle.std.proofs.Common.{◌≡◌, ◌≢◌, ℕ, ◌+◌, ◌*◌, ◌%◌, ◌^◌, ◌≤◌, ◌<◌, ◌==◌, nat_le, if◌then◌else◌, Bool, true, false, List, [], Option, Some, None, IsSome, IsTrue, All, map, refl, sym, ap, subst, ◌∙◌, ◌⊎◌, inl, inr, arith, bit_or}
+use Rattle.std.proofs.Common.{◌≡◌, ◌≢◌, ℕ, ◌+◌, ◌%◌, ◌^◌, ◌≤◌, ◌<◌, nat_le, if◌then◌else◌, Bool, true, false, List, [], Option, Some, None, IsTrue, All, map, refl, sym, ap, subst, ◌∙◌, ◌⊎◌, inl, inr, arith, bit_or}
 use Rattle.std.specs.Prelude.{option_map}
-use Rattle.std.specs.Int.{bit_at}
 use Rattle.std.proofs.lemmas.Bool.{cases_eq, leb-true}
 use Rattle.std.proofs.lemmas.Nat.Bits.{bit_at-zero, bit_at_or, bit_at-pow_other}
 use Rattle.nm_base.specs.Geometry.{Geometry}
@@ -18,13 +17,12 @@ use Rattle.nm_view.proofs.Items.{all_find, all_same, some_same}
 use Rattle.nm_view.proofs.Finds.{find_map}
 use Rattle.nm_permit.specs.Permitted.{AreDueDry}
 use Rattle.nm_event.specs.After.{after_of, bumped_to, seen_with, seen_at}
-use Rattle.nm_world.specs.Worlds.{World, written, viewing, moved, stamp_at, home_at, ack_at, op_at}
+use Rattle.nm_world.specs.Worlds.{World, written, viewing, moved, home_at, ack_at, op_at}
 use Rattle.nm_world.specs.Parts.{Flight, flight_of, desk_of, flight_at, desk_at}
 use Rattle.nm_world.specs.Notions.{IsNumber, IsUnseenBelow, IsBehind, Owes, IsMeant, IsOwed}
 use Rattle.nm_world.specs.ShapeLaw.{ShapeLaw}
 use Rattle.nm_world.specs.Laws.{IsReady}
 use Rattle.nm_world.specs.CacheLaw.{IsEntrySound, IsPeekSound, IsFlightSound, CacheLaw}
-use Rattle.nm_world.proofs.Choose.{decide}
 use Rattle.nm_world.proofs.Writing.{own_view, other_view}
 use Rattle.nm_caches.proofs.Shapes.{GoesOn, Stands, IsRunning, entry_kept, flight_kept, law_kept, part_from, view_part, after_read}
 use Rattle.nm_caches.proofs.Edits.{owed_by}
@@ -114,14 +112,14 @@ cache_see_ack g m a cpu shape h =
     let goes : GoesOn m m' = record { stamps = λ v. omega arith; req = omega arith } in
     let maps = map_maps m m.word a (seen_at cpu n) (seen_flight cpu n) new refl (λ o. refl) (λ o. refl) in
     after_read g (words.Ack cpu) m.word (viewing a new m.view) (
-      flights_map g m m' a (seen_flight cpu n) goes (λ p. refl) (view_part desk_of a new m.view refl) (λ j. refl) maps
-      (λ p _ e sound. elim sound.stands [
-        | inl stands ↦ inl stands
-        | inr owed ↦ inr (owed_mapped g m m' p e a (seen_flight cpu n) refl maps (λ j o _ owes. seen_owes cpu n (ack_at m p) p o (λ same. ap (ack_at m) same) owes) (λ o meant. meant) owed)
-      ])
-      (λ j o is. let was = h.flights a j o is in record { raised = was.raised; wet = was.wet })
-      (λ p j o is. (h.desks p).fresh a j o is)
-      shape h
+    flights_map g m m' a (seen_flight cpu n) goes (λ p. refl) (view_part desk_of a new m.view refl) (λ j. refl) maps
+    (λ p _ e sound. elim sound.stands [
+      | inl stands ↦ inl stands
+      | inr owed ↦ inr (owed_mapped g m m' p e a (seen_flight cpu n) refl maps (λ j o _ owes. seen_owes cpu n (ack_at m p) p o (λ same. ap (ack_at m) same) owes) (λ o meant. meant) owed)
+    ])
+    (λ j o is. let was = h.flights a j o is in record { raised = was.raised; wet = was.wet })
+    (λ p j o is. (h.desks p).fresh a j o is)
+    shape h
     )
 
 -- Bump.
@@ -165,8 +163,8 @@ bump_done g m a n new is desk ops dry shape h =
     ])
     (λ j o found. let was = h.flights a j o found in record { raised = was.raised; wet = inr (bumped_dry m a j o dry found was.wet) })
     (λ p j o found. all_same (IsPeekSound (desk_at m p).req_seen o) (IsPeekSound (desk_at m p).req_seen (bumped_flight n o)) (desk_at m p).peeked
-        (λ k sound flush v x has at number reached fresh. bumped_peek (desk_at m p).req_seen n o k o.due (λ number. let most : (desk_at m p).req_seen ≤ m.word words.Req = (h.desks p).polled number in omega (arith, most, is)) sound flush v x has at number reached fresh)
-        ((h.desks p).fresh a j o found))
+    (λ k sound flush v x has at number reached fresh. bumped_peek (desk_at m p).req_seen n o k o.due (λ number. let most : (desk_at m p).req_seen ≤ m.word words.Req = (h.desks p).polled number in omega (arith, most, is)) sound flush v x has at number reached fresh)
+    ((h.desks p).fresh a j o found))
     shape h
 
 pub cache_bump : (g : Geometry) (m : World) (a : ℕ) → IsReady g m a Bump → CacheLaw g m → CacheLaw g (moved g m a Bump)

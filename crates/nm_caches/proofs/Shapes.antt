@@ -1,21 +1,20 @@
 -- The cache law in pieces: what is kept of an entry, of what a processor caches, and of the whole.
-use Rattle.std.proofs.Common.{◌≡◌, ◌≢◌, ℕ, ◌+◌, ◌<◌, ◌≤◌, Bool, true, false, List, [], Option, Some, None, IsSome, IsSomeAnd, IsTrue, All, refl, sym, ap, subst, ◌∙◌, ◌⊎◌, inl, inr, arith}
+use Rattle.std.proofs.Common.{◌≡◌, ◌≢◌, ℕ, ◌+◌, ◌<◌, ◌≤◌, false, [], Option, Some, None, IsSome, IsSomeAnd, IsTrue, All, refl, sym, ap, subst, ◌∙◌, ◌⊎◌, inl, inr, arith}
 use Rattle.std.specs.Prelude.{option_map}
 use Rattle.std.proofs.Math.Path.{fun_ext}
 use Rattle.std.proofs.lemmas.Bool.{cases_eq, cases_lt}
 use Rattle.nm_base.specs.Geometry.{Geometry, backing_page}
-use Rattle.nm_base.specs.HomeWord.{home_word}
 use Rattle.nm_view.specs.declared.view.CacheEntry.{CacheEntry}
 use Rattle.nm_view.specs.declared.view.Peeked.{Peeked}
-use Rattle.nm_view.specs.Views.{Op, View, off_word, end_word}
+use Rattle.nm_view.specs.Lists.{find, itself}
+use Rattle.nm_view.specs.Views.{View, off_word, end_word}
 use Rattle.nm_view.specs.Operations.{op_on}
-use Rattle.nm_view.specs.Opening.{opening, IsActor}
 use Rattle.nm_view.proofs.Items.{all_same, none_left, some_same, not_none}
 use Rattle.nm_words.specs.declared.names.Where.{Where}
-use Rattle.nm_words.specs.declared.names.Where.TheVariants.{Req, Pte, Stamp, Home, Shadow, Lock, Mark, Ack, Turn, Free, Mem}
-use Rattle.nm_world.specs.Worlds.{World, written, viewing, pte_at, stamp_at, home_at, ack_at, op_at}
-use Rattle.nm_world.specs.Parts.{Flight, Desk, flight_of, desk_of, flight_at, desk_at}
-use Rattle.nm_world.specs.Notions.{IsNumber, IsStanding, Owes, IsMeant, IsOwed}
+use Rattle.nm_words.specs.declared.names.Where.TheVariants.{Req, Pte, Stamp, Home, Ack}
+use Rattle.nm_world.specs.Worlds.{World, written, viewing, pte_at, stamp_at, home_at, ack_at}
+use Rattle.nm_world.specs.Parts.{Flight, flight_of, desk_of, flight_at, desk_at}
+use Rattle.nm_world.specs.Notions.{IsNumber, IsStanding, Owes, IsOwed}
 use Rattle.nm_world.specs.ShapeLaw.{ShapeLaw}
 use Rattle.nm_world.specs.CacheLaw.{IsEntrySound, IsPeekSound, IsDeskSound, IsFlightSound, CacheLaw}
 use Rattle.nm_world.proofs.Choose.{choose, choose_name}
@@ -32,6 +31,20 @@ some_more (Some x) P Q step h = step x refl h
 pub part_from : {A B : Type 0} (part : A → B) (found : Option A) (p : B) → option_map part found ≡ Some p → (o : A) × ((found ≡ Some o) × (part o ≡ p))
 part_from part None p is = absurd (not_none p is)
 part_from part (Some o) p is = (o, (refl, some_same (part o) p is))
+
+-- what an optional item is known to be
+pub some_parts : {A : Type 0} (found : Option A) (P : A → Type 0) → IsSomeAnd found P → (x : A) × ((found ≡ Some x) × P x)
+some_parts None P h = absurd h
+some_parts (Some x) P h = (x, (refl, h))
+
+pub some_at : {A : Type 0} (found : Option A) (x : A) (P : A → Type 0) → found ≡ Some x → P x → IsSomeAnd found P
+some_at found x P is p = rw is p
+
+pub is_some : {A : Type 0} (found : Option A) (x : A) → found ≡ Some x → IsSome found
+is_some found x is = rw is cc
+
+pub not_true : IsTrue false → ⊥
+not_true h = cc
 
 -- Processors that cache.
 
@@ -140,6 +153,11 @@ flight_kept m m' o stamps h = record {
   raised = all_same (λ (p : ℕ × ℕ). p.1 ≤ stamp_at m p.0) (λ p. p.1 ≤ stamp_at m' p.0) o.raised (λ p le. omega (arith, le, stamps p.0)) h.raised;
   wet = h.wet;
 }
+
+-- a wet page is of a due operation
+pub wet_due : (o : Flight) (v : ℕ) → IsTrue o.due ⊎ (o.wet ≡ []) → IsSome (find itself v o.wet) → IsTrue o.due
+wet_due o v (inl due) wet = due
+wet_due o v (inr none) wet = absurd (let nothing : find itself v o.wet ≡ None = ap (find itself v) none in let bad : ⊥ = cc in bad)
 
 -- Whole laws.
 

@@ -1,6 +1,5 @@
 -- The kinds that touch nothing of the cache law.
-use Rattle.std.proofs.Common.{◌≡◌, ◌≢◌, ℕ, ◌+◌, ◌==◌, if◌then◌else◌, Bool, true, false, List, Option, Some, None, refl, ap, ◌∙◌}
-use Rattle.std.specs.Prelude.{option_map}
+use Rattle.std.proofs.Common.{◌≡◌, ℕ, Option, refl}
 use Rattle.nm_base.specs.Geometry.{Geometry}
 use Rattle.nm_action.specs.declared.action.Cell.{Cell}
 use Rattle.nm_action.specs.declared.action.Cell.TheVariants as cells
@@ -20,7 +19,6 @@ use Rattle.nm_world.specs.Parts.{flight_of}
 use Rattle.nm_world.specs.Notions.{IsStanding}
 use Rattle.nm_world.specs.ShapeLaw.{ShapeLaw}
 use Rattle.nm_world.specs.CacheLaw.{CacheLaw}
-use Rattle.nm_world.proofs.Choose.{decide}
 use Rattle.nm_world.proofs.Parts.{part_edit, part_under, part_of}
 use Rattle.nm_caches.proofs.Shapes.{KeepsFlights, LeavesWords, table_step, after_read}
 

@@ -1,9 +1,9 @@
 -- The kinds that write a table word, and leave what operations and processors know.
-use Rattle.std.proofs.Common.{◌≡◌, ◌≢◌, ℕ, ◌+◌, ◌^◌, ◌<◌, ◌==◌, if◌then◌else◌, Bool, true, false, Option, Some, None, IsSome, IsSomeAnd, IfSome, IsTrue, refl, sym, ap, subst, ◌∙◌, ◌⊎◌, inl, inr, arith, bit_and, bit_or}
+use Rattle.std.proofs.Common.{◌≡◌, ℕ, false, Option, Some, None, IsSomeAnd, IfSome, IsTrue, refl, ap, subst, ◌∙◌, inl, inr, arith, bit_and, bit_or}
 use Rattle.std.specs.Prelude.{option_map}
 use Rattle.std.specs.Int.{bit_at}
 use Rattle.std.proofs.lemmas.Nat.Bits.{bit_at-zero}
-use Rattle.nm_base.specs.Geometry.{Geometry, backing_page}
+use Rattle.nm_base.specs.Geometry.{Geometry}
 use Rattle.nm_base.specs.PageWord.{hint_mask, accessed_mask, all_but, granted_word, is_writable, is_present}
 use Rattle.nm_action.specs.declared.action.Bit.{Bit}
 use Rattle.nm_action.specs.declared.action.Bit.TheVariants.{Hint, Accessed}
@@ -15,12 +15,11 @@ use Rattle.nm_step.specs.Table.{bit_mask}
 use Rattle.nm_view.specs.declared.view.CacheEntry.{CacheEntry}
 use Rattle.nm_view.specs.Lists.{find, first}
 use Rattle.nm_view.specs.Views.{Op, View}
-use Rattle.nm_view.specs.Operations.{IsTaken}
 use Rattle.nm_permit.specs.Permitted.{Allowed, MayMap, MayGrant, IsSavedWord, IsVacant, HasMappedWord}
 use Rattle.nm_event.specs.After.{after_of, mapped_at, granted_at}
 use Rattle.nm_event.specs.Fitting.{Agrees}
 use Rattle.nm_world.specs.Worlds.{World, written, viewing, moved, pte_at, op_at}
-use Rattle.nm_world.specs.Parts.{flight_of, lore_of, lore_at}
+use Rattle.nm_world.specs.Parts.{flight_of, lore_of}
 use Rattle.nm_world.specs.Notions.{IsStanding}
 use Rattle.nm_world.specs.ShapeLaw.{ShapeLaw}
 use Rattle.nm_world.specs.LockLaw.{LockLaw, IsTrueOp}
@@ -28,8 +27,8 @@ use Rattle.nm_world.specs.CacheLaw.{CacheLaw}
 use Rattle.nm_world.proofs.Choose.{choose}
 use Rattle.nm_world.proofs.Parts.{part_of}
 use Rattle.nm_world.proofs.Bits.{standing_or, standing_and, standing_granted}
-use Rattle.nm_world.proofs.Moves.{OnPage, on_page}
-use Rattle.nm_caches.proofs.Shapes.{KeepsFlights, LeavesWords, table_step}
+use Rattle.nm_world.proofs.Moves.{on_page}
+use Rattle.nm_caches.proofs.Shapes.{KeepsFlights, LeavesWords, table_step, some_parts, is_some}
 use Rattle.nm_caches.proofs.Still.{same_view}
 
 pub table_leaves : (v x : ℕ) (word : Where → ℕ) → LeavesWords word (written (words.Pte v) x word)
@@ -78,12 +77,8 @@ vacant_none : (m : World) (b v : ℕ) (o : Op) → IsTrueOp m b (lore_of o) → 
 vacant_none m b v o known (inl taken) = known.taken v taken.taken
 vacant_none m b v o known (inr absent) = agrees_none (find first v o.looked) (pte_at m v) absent.looked (known.looked v absent.there)
 
-some_is : {A : Type 0} (found : Option A) (P : A → Type 0) → IsSomeAnd found P → IsSome found
-some_is None P h = absurd h
-some_is (Some x) P h = cc
-
 mapped_none : (g : Geometry) (m : World) (b v word : ℕ) (o : Op) → IsTrueOp m b (lore_of o) → HasMappedWord g v word o → pte_at m v ≡ 0
-mapped_none g m b v word o known (inl back) = known.taken v (some_is (find first v o.taken) (λ p. p.1 ≡ word) back.taken)
+mapped_none g m b v word o known (inl back) = let p = some_parts (find first v o.taken) (λ q. q.1 ≡ word) back.taken in known.taken v (is_some (find first v o.taken) p.0 p.1.0)
 mapped_none g m b v word o known (inr new) = vacant_none m b v o known new.vacant
 
 pub cache_map : (g : Geometry) (m : World) (a v word : ℕ) → Allowed g (m.view a) (Map v word) → LockLaw g m → ShapeLaw g m → CacheLaw g m → CacheLaw g (moved g m a (Map v word))

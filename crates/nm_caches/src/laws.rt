@@ -2,12 +2,13 @@
 
 ghost use Rattle.std.specs.Prelude.{◌≡◌, ℕ, Some};
 ghost use Rattle.nm_base.specs.Geometry.{Geometry, backing_page};
+ghost use Rattle.nm_base.specs.HomeWord.{home_word};
 ghost use Rattle.nm_action.specs.declared.action.Action.{Action};
 ghost use Rattle.nm_view.specs.declared.view.CacheEntry.{CacheEntry};
 ghost use Rattle.nm_view.specs.Lists.{find};
 ghost use Rattle.nm_view.specs.Operations.{cached_page, IsFlushEnded};
 ghost use Rattle.nm_view.specs.Views.{Op};
-ghost use Rattle.nm_world.specs.Worlds.{World, moved, pte_at, op_at};
+ghost use Rattle.nm_world.specs.Worlds.{World, moved, pte_at, home_at, op_at};
 ghost use Rattle.nm_world.specs.Notions.{IsStanding};
 ghost use Rattle.nm_world.specs.CacheLaw.{CacheLaw};
 ghost use Rattle.nm_world.specs.Laws.{AreAll, IsReady};
@@ -30,4 +31,10 @@ pub fn an_ended_flush_leaves_what_stands()
     ensures { (g : Geometry) (m : World) (actor page : ℕ) (o : Op) → AreAll g m → op_at m actor page ≡ Some o
         → IsFlushEnded g o → (p v : ℕ) (e : CacheEntry) → backing_page g v ≡ Some page
         → find cached_page v (m.view p).cache ≡ Some e → IsStanding (pte_at m v) e }
+{}
+
+/// A cached translation leads to the home of its page.
+pub fn a_cached_translation_leads_home()
+    ensures { (g : Geometry) (m : World) (p v page : ℕ) (e : CacheEntry) → CacheLaw g m
+        → find cached_page v (m.view p).cache ≡ Some e → backing_page g v ≡ Some page → home_at m page ≡ home_word e.frame }
 {}
