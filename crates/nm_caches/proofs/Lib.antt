@@ -1,0 +1,11 @@
+pub mod Shapes
+pub mod Still
+pub mod Table
+pub mod Desks
+pub mod Acks
+pub mod Edits
+pub mod Maps
+pub mod Holds
+pub mod Homes
+pub mod Kept
+pub mod Given

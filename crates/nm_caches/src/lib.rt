@@ -1,0 +1,4 @@
+//! That permitted steps keep the cache law.
+#![tactic(auto)]
+
+pub mod laws;
