@@ -1,0 +1,2 @@
+//! That permitted steps keep the frame law and the shadow law.
+#![tactic(auto)]
