@@ -1,3 +1,4 @@
 pub mod Still
 pub mod Quiet
 pub mod Table
+pub mod Owners
