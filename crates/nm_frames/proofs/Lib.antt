@@ -2,3 +2,4 @@ pub mod Still
 pub mod Quiet
 pub mod Table
 pub mod Owners
+pub mod Shadings

@@ -77,18 +77,35 @@ record Hands (n after : Names) (a f : ℕ) (free : Bool) (fill : Option Fill) : 
 pub some_same_fill : (x y : Option Fill) → x ≡ y → IsSome x → IsSome y
 some_same_fill x y e h = subst (λ (z : Option Fill). IsSome z) e h
 
+-- owners of frames that the step doesn't name
+pub by_forth : (fill after : ℕ → ℕ → Option Fill) (a f : ℕ) (x : Option Fill) → Sets fill after a f x → (d h : ℕ) → h ≢ f → IsSome (fill d h) → IsSome (after d h)
+by_forth fill after a f x sets d h other owned = elim (cases_eq d a) [
+  | inl same ↦
+      let here : IsSome (fill a h) = some_same_fill (fill d h) (fill a h) (ap (λ i. fill i h) same) owned in
+      let there : IsSome (after a h) = some_same_fill (fill a h) (after a h) (sym (sets.rest h other)) here in
+      some_same_fill (after a h) (after d h) (ap (λ i. after i h) (sym same)) there
+  | inr apart ↦ some_same_fill (fill d h) (after d h) (sym (sets.others d h apart)) owned
+]
+
+-- an owner after the step was one before it, or is the actor with the frame
+pub by_back : (fill after : ℕ → ℕ → Option Fill) (a f : ℕ) (x : Option Fill) → Sets fill after a f x → (d h : ℕ) → IsSome (after d h) → ((By d ≡ By a) × (h ≡ f)) ⊎ IsSome (fill d h)
+by_back fill after a f x sets d h owned = elim (cases_eq d a) [
+  | inl same ↦ elim (cases_eq h f) [
+    | inl at ↦ inl (ap By same, at)
+    | inr other ↦
+        let here : IsSome (after a h) = some_same_fill (after d h) (after a h) (ap (λ i. after i h) same) owned in
+        let there : IsSome (fill a h) = some_same_fill (after a h) (fill a h) (sets.rest h other) here in
+        inr (some_same_fill (fill a h) (fill d h) (ap (λ i. fill i h) (sym same)) there)
+  ]
+  | inr apart ↦ inr (some_same_fill (after d h) (fill d h) (sets.others d h apart) owned)
+]
+
 -- a claim on a frame that the step doesn't name
 other_forth : (n after : Names) (a f : ℕ) (bit : Bool) (fill : Option Fill) → Hands n after a f bit fill → (c : Claim) (h : ℕ) → h ≢ f → Claims n c h → Claims after c h
 other_forth n after a f bit fill hands Bit h other claims = hands.bits.rest h other ∙ claims
 other_forth n after a f bit fill hands (AtHome b) h other claims = hands.home b ∙ claims
 other_forth n after a f bit fill hands (AtShadow k) h other claims = subst (λ (w : ℕ). NamesAsShadow w h) (sym (hands.shadow k)) claims
-other_forth n after a f bit fill hands (By d) h other claims = elim (cases_eq d a) [
-  | inl same ↦
-      let here : IsSome (n.fill a h) = some_same_fill (n.fill d h) (n.fill a h) (ap (λ i. n.fill i h) same) claims in
-      let there : IsSome (after.fill a h) = some_same_fill (n.fill a h) (after.fill a h) (sym (hands.fills.rest h other)) here in
-      some_same_fill (after.fill a h) (after.fill d h) (ap (λ i. after.fill i h) (sym same)) there
-  | inr apart ↦ some_same_fill (n.fill d h) (after.fill d h) (sym (hands.fills.others d h apart)) claims
-]
+other_forth n after a f bit fill hands (By d) h other claims = by_forth n.fill after.fill a f fill hands.fills d h other claims
 
 -- a claim after the step stood before it, but that of the actor on the frame, and that of its bit
 other_back : (n after : Names) (a f : ℕ) (bit : Bool) (fill : Option Fill) → Hands n after a f bit fill → (c : Claim) (h : ℕ) → Claims after c h → (((c ≡ By a) ⊎ (c ≡ Bit)) × (h ≡ f)) ⊎ Claims n c h
@@ -98,15 +115,9 @@ other_back n after a f bit fill hands Bit h claims = elim (cases_eq h f) [
 ]
 other_back n after a f bit fill hands (AtHome b) h claims = inr (sym (hands.home b) ∙ claims)
 other_back n after a f bit fill hands (AtShadow k) h claims = inr (subst (λ (w : ℕ). NamesAsShadow w h) (hands.shadow k) claims)
-other_back n after a f bit fill hands (By d) h claims = elim (cases_eq d a) [
-  | inl same ↦ elim (cases_eq h f) [
-    | inl at ↦ inl (inl (ap By same), at)
-    | inr other ↦
-        let here : IsSome (after.fill a h) = some_same_fill (after.fill d h) (after.fill a h) (ap (λ i. after.fill i h) same) claims in
-        let there : IsSome (n.fill a h) = some_same_fill (after.fill a h) (n.fill a h) (hands.fills.rest h other) here in
-        inr (some_same_fill (n.fill a h) (n.fill d h) (ap (λ i. n.fill i h) (sym same)) there)
-  ]
-  | inr apart ↦ inr (some_same_fill (after.fill d h) (n.fill d h) (hands.fills.others d h apart) claims)
+other_back n after a f bit fill hands (By d) h claims = elim (by_back n.fill after.fill a f fill hands.fills d h claims) [
+  | inl new ↦ inl (inl new.0, new.1)
+  | inr old ↦ inr old
 ]
 
 not_true : (t : Bool) → t ≡ false → t ≡ true → ⊥
