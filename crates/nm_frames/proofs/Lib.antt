@@ -3,3 +3,4 @@ pub mod Quiet
 pub mod Table
 pub mod Owners
 pub mod Shadings
+pub mod Homes
