@@ -4,3 +4,4 @@ pub mod Table
 pub mod Owners
 pub mod Shadings
 pub mod Homes
+pub mod Shadows
