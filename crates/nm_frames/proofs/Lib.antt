@@ -5,3 +5,5 @@ pub mod Owners
 pub mod Shadings
 pub mod Homes
 pub mod Shadows
+pub mod Twins
+pub mod Steps

@@ -127,7 +127,7 @@ more_shaded g homes shades after b v word k x writes own h =
 
 -- The kind.
 
-few_frames : (g : Geometry) → IsGeometry g → frame_count g ≤ 4096
+pub few_frames : (g : Geometry) → IsGeometry g → frame_count g ≤ 4096
 few_frames g is = is.ranges.1.3
 
 frames_unshade : (g : Geometry) (m : World) (a b k : ℕ) → IsGeometry g → LockLaw g m → HasBounds g m → IsReady g m a (SetShadow b k None) → FrameLaw g (sight_of g m) → FrameLaw g (sight_of g (moved g m a (SetShadow b k None)))
