@@ -1,10 +1,10 @@
 -- SetHome: a page gets a new home, and its old one goes to the actor.
-use Rattle.std.proofs.Common.{◌≡◌, ◌≢◌, ℕ, zero, suc, ◌+◌, ◌-◌, ◌<◌, ◌==◌, ◌&&◌, if◌then◌else◌, Bool, true, false, List, [], ◌∷◌, Option, Some, None, IsSome, IsSomeAnd, IfSome, All, refl, sym, ap, subst, ◌∙◌, ◌⊎◌, inl, inr, arith}
+use Rattle.std.proofs.Common.{◌≡◌, ◌≢◌, ℕ, ◌-◌, ◌==◌, ◌&&◌, if◌then◌else◌, true, false, List, [], ◌∷◌, Option, Some, None, IsSome, IsSomeAnd, All, refl, sym, ap, subst, ◌∙◌, ◌⊎◌, inl, inr, arith}
 use Rattle.std.specs.Prelude.{option_map}
 use Rattle.std.proofs.lemmas.Bool.{cases_eq}
-use Rattle.nm_base.specs.Geometry.{Geometry, backing_page}
+use Rattle.nm_base.specs.Geometry.{Geometry}
 use Rattle.nm_base.specs.HomeWord.{home_word}
-use Rattle.nm_base.specs.PageWord.{is_dirty, frame_of}
+use Rattle.nm_base.specs.PageWord.{frame_of}
 use Rattle.nm_base.specs.Ranges.{IsFrame}
 use Rattle.nm_action.specs.declared.action.Reply.TheVariants.{Done}
 use Rattle.nm_action.specs.declared.action.Action.TheVariants.{SetHome}
@@ -15,28 +15,27 @@ use Rattle.nm_view.specs.declared.view.Owned.{Owned}
 use Rattle.nm_view.specs.Lists.{find, first, erase, put, Once}
 use Rattle.nm_view.specs.Views.{Op, View}
 use Rattle.nm_view.specs.Operations.{page_of, owned_frame, op_on, fill_of, known_home, IsTaken, IsLookedOver, IsInLastTier, names_one, IsUnmapped}
-use Rattle.nm_view.proofs.Items.{some_same, not_none, all_find, all_same, all_head}
+use Rattle.nm_view.proofs.Items.{all_find, all_head}
 use Rattle.nm_view.proofs.Finds.{find_number, find_put, find_put_other, find_erase, find_erase_other}
-use Rattle.nm_permit.specs.Permitted.{MaySetHome, HasNewHome, IsHomeCommitted, IsHomeMoved, IsFreeOfShadow}
+use Rattle.nm_permit.specs.Permitted.{MaySetHome, HasNewHome, IsHomeCommitted, IsFreeOfShadow}
 use Rattle.nm_shape.specs.Shape.{IsOpShaped}
-use Rattle.nm_words.specs.declared.names.Where.{Where}
 use Rattle.nm_words.specs.declared.names.Where.TheVariants as words
 use Rattle.nm_event.specs.After.{after_of, homed_at, let_go}
 use Rattle.nm_event.specs.Fitting.{Agrees}
 use Rattle.nm_world.specs.Worlds.{World, moved, viewing, written, pte_at, home_at, shadow_at, op_at}
 use Rattle.nm_world.specs.Parts.{lore_of}
 use Rattle.nm_world.specs.Sights.{Sight, Writes, Sets, sight_of, sight_at}
-use Rattle.nm_world.specs.Notions.{IsOut, HasOne, IsAloneAt}
+use Rattle.nm_world.specs.Notions.{IsOut, HasOne}
 use Rattle.nm_world.specs.LockLaw.{LockLaw, IsTrueOp}
 use Rattle.nm_world.specs.CopyLaw.{CopyLaw}
-use Rattle.nm_world.specs.FrameLaw.{Claim, Bit, AtHome, AtShadow, By, Claims, Names, names_of, NamesAsShadow, AreRoles, IsWordOf, IsMapping, FrameLaw}
+use Rattle.nm_world.specs.FrameLaw.{Claim, Bit, AtHome, AtShadow, By, Claims, Names, names_of, NamesAsShadow, AreRoles, IsWordOf, FrameLaw}
 use Rattle.nm_world.specs.Bounds.{HasBounds}
 use Rattle.nm_world.specs.Laws.{IsReady}
 use Rattle.nm_world.proofs.Choose.{choose, choose_both}
 use Rattle.nm_world.proofs.Moves.{each_op, sole_op}
-use Rattle.nm_world.proofs.Roles.{MovesOne, one_moves, one_claim}
+use Rattle.nm_world.proofs.Roles.{one_moves, one_claim}
 use Rattle.nm_world.proofs.Writing.{own_view, other_view, word_writes, edit_sets, fill_gone}
-use Rattle.nm_frames.proofs.Still.{cases_on, word_of_still, taken_words_still}
+use Rattle.nm_frames.proofs.Still.{not_both, cases_on, word_of_still, taken_words_still}
 use Rattle.nm_frames.proofs.Table.{if_at, known_item, true_op}
 use Rattle.nm_frames.proofs.Owners.{by_forth, by_back, some_same_fill, none_some}
 
@@ -74,12 +73,12 @@ zero_word : (m : World) (b v : ℕ) (o : Op) → IsTrueOp m b (lore_of o) → Is
 zero_word m b v o known looked zeros =
     by_find (find first v o.taken) (pte_at m v ≡ 0)
     (λ none.
-        by_find (find first v o.looked) (pte_at m v ≡ 0)
-        (λ unlooked. absurd (none_pair (find first v o.looked) unlooked looked))
-        (λ some.
-            let p = some_pair (find first v o.looked) some in
-            let agrees : Agrees p.0.1 (pte_at m v) = if_at (λ q. Agrees q.1 (pte_at m v)) (find first v o.looked) p.0 (known.looked v none) p.1 in
-            agrees.absent.0 (zeros p.0 p.1 none)))
+    by_find (find first v o.looked) (pte_at m v ≡ 0)
+    (λ unlooked. absurd (none_pair (find first v o.looked) unlooked looked))
+    (λ some.
+    let p = some_pair (find first v o.looked) some in
+    let agrees : Agrees p.0.1 (pte_at m v) = if_at (λ q. Agrees q.1 (pte_at m v)) (find first v o.looked) p.0 (known.looked v none) p.1 in
+    agrees.absent.0 (zeros p.0 p.1 none)))
     (λ taken. known.taken v taken)
 
 -- every word that is not 0 was taken
@@ -123,8 +122,8 @@ committed_out g m a b f o fill locks copies here page owned c =
     cases_on (λ t. o.moved ≡ t → IsOut g (pte_at m) b) o.moved
     (λ _ gone. (copies.ops a b o here).out (names_moved o c.phase c.cleared gone) (inr (record { frame = f; count = g.words; is = copied })))
     (λ _ unmoved.
-        let naming = names_unmoved o c.phase c.cleared unmoved in
-        one_taken_out g m b o known page c.clean.some (staged.over naming) (staged.alone naming)) refl
+    let naming = names_unmoved o c.phase c.cleared unmoved in
+    one_taken_out g m b o known page c.clean.some (staged.over naming) (staged.alone naming)) refl
 
 -- where a home may be set, the page has none or is out of the table
 pub out_or_homeless : (g : Geometry) (m : World) (a b f : ℕ) (o : Op) (fill : Fill) → LockLaw g m → CopyLaw g (sight_of g m) → op_at m a b ≡ Some o → o.page ≡ b → fill_of (m.view a) f ≡ Some fill → HasNewHome g fill o → (home_at m b ≡ 0) ⊎ IsOut g (pte_at m) b
@@ -257,9 +256,6 @@ let_go_none b h owned none = rw none refl
 let_go_some : (b h : ℕ) (owned : List Owned) → h ≢ 0 → let_go b (Some h) owned ≡ put owned_frame (record { frame = h - 1; fill = Equal b }) owned
 let_go_some b h owned some = choose (λ xs. xs ≡ put owned_frame (record { frame = h - 1; fill = Equal b }) owned) h 0 owned (put owned_frame (record { frame = h - 1; fill = Equal b }) owned) (λ none. absurd (some none)) (λ _. refl)
 
-not_moved : (t : Bool) → t ≡ true → t ≡ false → ⊥
-not_moved t on off = cc
-
 pub frames_set_home : (g : Geometry) (m : World) (a b f : ℕ) → LockLaw g m → CopyLaw g (sight_of g m) → HasBounds g m → IsReady g m a (SetHome b f) → FrameLaw g (sight_of g m) → FrameLaw g (sight_of g (moved g m a (SetHome b f)))
 frames_set_home g m a b f locks copies bounds r law =
     let view : View = m.view a in
@@ -303,6 +299,6 @@ frames_set_home g m a b f locks copies bounds r law =
             ])) refl maps.is;
       });
       taken = each_op P (op_at m) (λ c d. op_on (viewing a new m.view c) d) a b (homed_at f o) (edit_sets a b (homed_at f) o new m.view (λ y. refl) refl on.1.0) (sole_op g m a b o locks on.1.0)
-          (λ unmoved. absurd (not_moved true refl unmoved))
+          (λ unmoved. absurd (not_both true refl unmoved))
           (λ c d p other is unmoved. taken_words_still g (home_at m) (shadow_at m) after.home (shadow_at m) d p.taken (writes.rest d other) (λ k. refl) (law.taken c d p is unmoved));
     }

@@ -1,7 +1,7 @@
 -- The kinds at which an operation comes or goes, or a frame.
-use Rattle.std.proofs.Common.{◌≡◌, ◌≢◌, ◌↔◌, ℕ, ◌+◌, ◌^◌, ◌==◌, if◌then◌else◌, bit_and, bit_or, Bool, true, false, List, Option, Some, None, IsSome, IsSomeAnd, All, refl, sym, ap, subst, ◌∙◌, ◌⊎◌, inl, inr, arith}
+use Rattle.std.proofs.Common.{◌≡◌, ◌≢◌, ℕ, ◌+◌, ◌^◌, ◌==◌, if◌then◌else◌, bit_and, bit_or, Bool, true, false, Option, Some, None, IsSome, All, refl, sym, ap, subst, ◌∙◌, ◌⊎◌, inl, inr}
 use Rattle.std.specs.Prelude.{option_map}
-use Rattle.std.proofs.lemmas.Bool.{cases_eq, eqb-true}
+use Rattle.std.proofs.lemmas.Bool.{cases_eq}
 use Rattle.nm_base.specs.Geometry.{Geometry}
 use Rattle.nm_base.specs.PageWord.{all_but}
 use Rattle.nm_base.specs.FreeWords.{free_bit, free_words}
@@ -14,22 +14,22 @@ use Rattle.nm_view.specs.declared.view.Owned.{Owned}
 use Rattle.nm_view.specs.Lists.{find}
 use Rattle.nm_view.specs.Views.{Op, View}
 use Rattle.nm_view.specs.Opening.{opened}
-use Rattle.nm_view.specs.Operations.{owned_frame, op_on, fill_of}
+use Rattle.nm_view.specs.Operations.{owned_frame, op_on}
 use Rattle.nm_view.proofs.Items.{none_left}
 use Rattle.nm_words.specs.declared.names.Where.{Where}
 use Rattle.nm_words.specs.declared.names.Where.TheVariants as words
 use Rattle.nm_step.specs.Table.{free_word_of}
 use Rattle.nm_event.specs.After.{after_of, spoiled_frame}
 use Rattle.nm_world.specs.Worlds.{World, moved, viewing, written, home_at, shadow_at, op_at}
-use Rattle.nm_world.specs.Sights.{Sight, Writes, Sets, free_in, sight_of, sight_at}
+use Rattle.nm_world.specs.Sights.{Sight, Writes, Sets, sight_of, sight_at}
 use Rattle.nm_world.specs.LockLaw.{LockLaw}
 use Rattle.nm_world.specs.FrameLaw.{Claim, Bit, AtHome, AtShadow, By, Claims, Names, names_of, NamesAsShadow, AreRoles, IsWordOf, FrameLaw}
 use Rattle.nm_world.specs.Laws.{IsReady}
 use Rattle.nm_world.proofs.FreeBits.{give_bit, put_bit}
 use Rattle.nm_world.proofs.Moves.{edited, gone}
-use Rattle.nm_world.proofs.Roles.{MovesOne, one_moves}
+use Rattle.nm_world.proofs.Roles.{one_moves}
 use Rattle.nm_world.proofs.Writing.{open_sets, close_sets, fill_put, fill_gone}
-use Rattle.nm_frames.proofs.Still.{cases_on, KeepsView, KeepsWords, same_view, same_fills, map_fills, roles_kept, words_still, taken_still, takings_of, takings_kept, unread_keeps, view_part, frames_quiet}
+use Rattle.nm_frames.proofs.Still.{cases_on, not_both, same_view, same_fills, map_fills, roles_kept, words_still, taken_still, takings_of, unread_keeps, view_part, frames_quiet}
 use Rattle.nm_frames.proofs.Table.{known_item}
 
 -- Operations.
@@ -42,15 +42,15 @@ frames_lock g m a b r law =
     let Left : Bool → Type 0 = λ t. FrameLaw g (sight_of g (record { word = written (words.Lock b) (if t then view.number + 1 else n) m.word; view = viewing a (after_of g view (Lock b) (if t then Done else Busy n)) m.view })) in
     cases_on Left (n == 0)
     (λ free.
-        let new : View = after_of g view (Lock b) Done in
-        let o : Op = opened b view.room.aliases in
-        let P : ℕ → ℕ → Op → Type 0 = λ c d p. p.moved ≡ false → All (λ q. IsWordOf g (home_at m) (shadow_at m) d q.0 q.1) p.taken in
-        record {
-          roles = roles_kept g m (word true) a new (λ f. refl) (λ d. refl) (λ k. refl) (λ f. same_fills) law;
-          words = words_still g (sight_of g m) (sight_at g (word true) (viewing a new m.view)) (λ v. refl) (λ d. refl) (λ k. refl) law;
-          taken = edited P (op_at m) (λ c d. op_on (viewing a new m.view c) d) a b o (open_sets a o new m.view refl r.allowed.permitted.fresh)
-              (λ _. none_left (λ q. IsWordOf g (home_at m) (shadow_at m) b q.0 q.1)) (λ c d p apart there. law.taken c d p there);
-        })
+    let new : View = after_of g view (Lock b) Done in
+    let o : Op = opened b view.room.aliases in
+    let P : ℕ → ℕ → Op → Type 0 = λ c d p. p.moved ≡ false → All (λ q. IsWordOf g (home_at m) (shadow_at m) d q.0 q.1) p.taken in
+    record {
+      roles = roles_kept g m (word true) a new (λ f. refl) (λ d. refl) (λ k. refl) (λ f. same_fills) law;
+      words = words_still g (sight_of g m) (sight_at g (word true) (viewing a new m.view)) (λ v. refl) (λ d. refl) (λ k. refl) law;
+      taken = edited P (op_at m) (λ c d. op_on (viewing a new m.view c) d) a b o (open_sets a o new m.view refl r.allowed.permitted.fresh)
+          (λ _. none_left (λ q. IsWordOf g (home_at m) (shadow_at m) b q.0 q.1)) (λ c d p apart there. law.taken c d p there);
+    })
     (λ held. frames_quiet g m (word false) a view (unread_keeps g (words.Lock b) n m.word tt) (same_view view) law)
 
 pub frames_unlock : (g : Geometry) (m : World) (a b : ℕ) → IsReady g m a (Unlock b) → FrameLaw g (sight_of g m) → FrameLaw g (sight_of g (moved g m a (Unlock b)))
@@ -120,9 +120,6 @@ other_back n after a f bit fill hands (By d) h claims = elim (by_back n.fill aft
   | inr old ↦ inr old
 ]
 
-not_true : (t : Bool) → t ≡ false → t ≡ true → ⊥
-not_true t off on = cc
-
 pub none_some : (x : Option Fill) → x ≡ None → IsSome x → ⊥
 none_some None e h = cc
 none_some (Some f) e h = cc
@@ -132,13 +129,13 @@ gives : (g : Geometry) (n after : Names) (a f : ℕ) (fill : Fill) → Hands n a
 gives g n after a f fill hands was frame roles = one_moves g n after f Bit (By a) (record {
   was = was;
   is = some_same_fill (Some fill) (after.fill a f) (sym hands.fills.here) cc;
-  gone = λ set. absurd (not_true (after.free f) hands.bits.here set);
+  gone = λ set. absurd (not_both (after.free f) set hands.bits.here);
   back = λ c h claims. elim (other_back n after a f false (Some fill) hands c h claims) [
     | inl new ↦ elim new.0 [
       | inl by ↦ inl (by, new.1)
       | inr bit ↦
           let set : Claims after Bit h = subst (λ (d : Claim). Claims after d h) bit claims in
-          absurd (not_true (after.free f) hands.bits.here (ap after.free (sym new.1) ∙ set))
+          absurd (not_both (after.free f) (ap after.free (sym new.1) ∙ set) hands.bits.here)
     ]
     | inr old ↦ inr old
   ];

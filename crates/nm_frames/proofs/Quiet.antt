@@ -1,6 +1,5 @@
 -- The kinds that touch nothing that the frame law reads.
-use Rattle.std.proofs.Common.{◌≡◌, ℕ, ◌+◌, ◌==◌, if◌then◌else◌, Bool, true, false, Option, Some, None, IsSome, ◌↔◌, refl}
-use Rattle.std.specs.Prelude.{option_map}
+use Rattle.std.proofs.Common.{◌≡◌, ℕ, ◌+◌, Option, refl}
 use Rattle.nm_base.specs.Geometry.{Geometry}
 use Rattle.nm_action.specs.declared.action.AckTo.{AckTo}
 use Rattle.nm_action.specs.declared.action.Cell.{Cell}
@@ -10,11 +9,10 @@ use Rattle.nm_action.specs.declared.action.Reply.TheVariants.{Done, Word, Busy, 
 use Rattle.nm_action.specs.declared.action.Action.{Action}
 use Rattle.nm_action.specs.declared.action.Action.TheVariants.{Load, Store, Add, Look, Peek, Poll, Ack, Bump, SeeAck, Raise, CopyLoad, CopyStore, TakeTurn, ReleaseTurn, Scan, Mark, Read}
 use Rattle.nm_words.specs.declared.names.Where.TheVariants as words
-use Rattle.nm_step.specs.Table.{where_of, cached_frame, home_frame, cell_word}
-use Rattle.nm_view.specs.Operations.{owned_frame}
+use Rattle.nm_step.specs.Table.{where_of, home_frame, cell_word}
 use Rattle.nm_view.specs.Views.{Op, View}
 use Rattle.nm_event.specs.After.{after_of, bumped_to, seen_at, raised_to, looked_at, read_cell, loaded, copied_one, filled, stored_fill}
-use Rattle.nm_world.specs.Worlds.{World, moved, found_in, left_in, reply_in}
+use Rattle.nm_world.specs.Worlds.{World, moved, left_in, reply_in}
 use Rattle.nm_world.specs.Sights.{sight_of}
 use Rattle.nm_world.specs.FrameLaw.{FrameLaw}
 use Rattle.nm_world.proofs.Parts.{part_edit, part_under, part_of, part_map}

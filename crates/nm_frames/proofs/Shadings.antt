@@ -1,8 +1,7 @@
 -- SetShadow: a shadow is given to a home, or taken away from it.
-use Rattle.std.proofs.Common.{◌≡◌, ◌≢◌, ℕ, ◌+◌, ◌*◌, ◌^◌, ◌<◌, ◌≤◌, Bool, true, false, List, Option, Some, None, IsSome, IsSomeAnd, All, refl, sym, ap, subst, ◌∙◌, ◌⊎◌, inl, inr, arith}
-use Rattle.std.specs.Prelude.{option_map}
+use Rattle.std.proofs.Common.{◌≡◌, ◌≢◌, ℕ, ◌≤◌, false, Option, Some, None, IsSome, All, refl, sym, ap, subst, ◌∙◌, ◌⊎◌, inl, inr, arith}
 use Rattle.std.proofs.lemmas.Bool.{cases_eq}
-use Rattle.nm_base.specs.Geometry.{Geometry, IsGeometry, frame_count, backing_page}
+use Rattle.nm_base.specs.Geometry.{Geometry, IsGeometry, frame_count}
 use Rattle.nm_base.specs.HomeWord.{home_word}
 use Rattle.nm_base.specs.PageWord.{is_writable, frame_of}
 use Rattle.nm_base.specs.Ranges.{IsFrame}
@@ -13,28 +12,24 @@ use Rattle.nm_action.specs.declared.action.Action.TheVariants.{SetShadow}
 use Rattle.nm_view.specs.declared.view.Fill.{Fill}
 use Rattle.nm_view.specs.declared.view.Fill.TheVariants.{Equal}
 use Rattle.nm_view.specs.declared.view.Owned.{Owned}
-use Rattle.nm_view.specs.Lists.{find}
 use Rattle.nm_view.specs.Views.{Op, View}
-use Rattle.nm_view.specs.Operations.{page_of, owned_frame, op_on, fill_of}
+use Rattle.nm_view.specs.Operations.{page_of, op_on, fill_of}
 use Rattle.nm_view.proofs.Items.{all_same}
 use Rattle.nm_view.proofs.Finds.{find_number}
-use Rattle.nm_permit.specs.Permitted.{MayShade, MayUnshade, MaySetShadow}
-use Rattle.nm_words.specs.declared.names.Where.{Where}
+use Rattle.nm_permit.specs.Permitted.{MayShade, MayUnshade}
 use Rattle.nm_words.specs.declared.names.Where.TheVariants as words
 use Rattle.nm_event.specs.After.{after_of, shaded, shading, unshading, unshaded_fill, is_quiet}
 use Rattle.nm_world.specs.Worlds.{World, moved, viewing, written, pte_at, home_at, shadow_at, op_at}
-use Rattle.nm_world.specs.Parts.{lore_of}
 use Rattle.nm_world.specs.Sights.{Sight, Writes, Sets, sight_of, sight_at}
-use Rattle.nm_world.specs.LockLaw.{LockLaw, IsTrueOp}
+use Rattle.nm_world.specs.LockLaw.{LockLaw}
 use Rattle.nm_world.specs.CopyLaw.{CopyLaw}
-use Rattle.nm_world.specs.FrameLaw.{Claim, Bit, AtHome, AtShadow, By, Claims, Names, names_of, NamesAsShadow, AreRoles, IsWordOf, IsMapping, FrameLaw}
+use Rattle.nm_world.specs.FrameLaw.{Claim, Bit, AtHome, AtShadow, By, Claims, Names, names_of, NamesAsShadow, AreRoles, IsWordOf, FrameLaw}
 use Rattle.nm_world.specs.Bounds.{HasBounds}
 use Rattle.nm_world.specs.Laws.{IsReady}
 use Rattle.nm_world.proofs.Moves.{each_op, edited, sole_op}
-use Rattle.nm_world.proofs.Parts.{part_edit}
-use Rattle.nm_world.proofs.Roles.{MovesOne, one_moves, one_claim}
+use Rattle.nm_world.proofs.Roles.{one_moves, one_claim}
 use Rattle.nm_world.proofs.Writing.{word_writes, edit_sets, fill_put, fill_gone}
-use Rattle.nm_frames.proofs.Still.{takings_of, view_part}
+use Rattle.nm_frames.proofs.Still.{not_both}
 use Rattle.nm_frames.proofs.Table.{if_at, known_item, true_op, no_shadow}
 use Rattle.nm_frames.proofs.Owners.{by_forth, by_back, some_same_fill, none_some}
 
@@ -159,10 +154,7 @@ frames_unshade g m a b k isg locks bounds r law =
           (less a b o on.1.0) (λ c d p apart is. less c d p is);
     }
 
-not_moved : (t : Bool) → t ≡ true → t ≡ false → ⊥
-not_moved t on off = cc
-
-same_page : (b c : ℕ) → AtHome b ≡ AtHome c → b ≡ c
+pub same_page : (b c : ℕ) → AtHome b ≡ AtHome c → b ≡ c
 same_page b c e = cc
 
 frames_shade : (g : Geometry) (m : World) (a b k s : ℕ) → IsGeometry g → LockLaw g m → CopyLaw g (sight_of g m) → IsReady g m a (SetShadow b k (Some s)) → FrameLaw g (sight_of g m) → FrameLaw g (sight_of g (moved g m a (SetShadow b k (Some s))))
@@ -193,9 +185,9 @@ frames_shade g m a b k s isg locks copies r law =
         is = more_shaded g (home_at m) (shadow_at m) after.shadow maps.page v (pte_at m v) k x writes (λ at. twin.unwritable v (maps.of ∙ ap Some (lone maps.page at))) maps.is;
       });
       taken = each_op P (op_at m) (λ c d. op_on (viewing a new m.view c) d) a b (shaded b (Some s) o) (edit_sets a b (shaded b (Some s)) o new m.view (λ y. refl) refl on.1.0) (sole_op g m a b o locks on.1.0)
-          (λ unmoved. absurd (not_moved o.moved may.moved unmoved))
+          (λ unmoved. absurd (not_both o.moved may.moved unmoved))
           (λ c d p other is unmoved. all_same (λ q. IsWordOf g (home_at m) (shadow_at m) d q.0 q.1) (λ q. IsWordOf g (home_at m) after.shadow d q.0 q.1) p.taken
-              (λ q h. more_shaded g (home_at m) (shadow_at m) after.shadow d q.0 q.1 k x writes (λ at. absurd (other (lone d at))) h) (law.taken c d p is unmoved));
+          (λ q h. more_shaded g (home_at m) (shadow_at m) after.shadow d q.0 q.1 k x writes (λ at. absurd (other (lone d at))) h) (law.taken c d p is unmoved));
     }
 
 pub frames_set_shadow : (g : Geometry) (m : World) (a b k : ℕ) (shadow : Option ℕ) → IsGeometry g → LockLaw g m → CopyLaw g (sight_of g m) → HasBounds g m → IsReady g m a (SetShadow b k shadow) → FrameLaw g (sight_of g m) → FrameLaw g (sight_of g (moved g m a (SetShadow b k shadow)))

@@ -1,7 +1,6 @@
 -- The shadow law in pieces, and the kinds that touch nothing that it reads.
-use Rattle.std.proofs.Common.{◌≡◌, ◌≢◌, ℕ, ◌==◌, if◌then◌else◌, Bool, true, false, Option, Some, None, refl, sym, ap, subst, ◌∙◌, arith}
-use Rattle.nm_base.specs.Geometry.{Geometry, tier_of}
-use Rattle.nm_base.specs.HomeWord.{home_word}
+use Rattle.std.proofs.Common.{◌≡◌, ℕ, Option, Some, refl, sym, ap, subst, ◌∙◌}
+use Rattle.nm_base.specs.Geometry.{Geometry}
 use Rattle.nm_base.specs.Ranges.{IsIndex}
 use Rattle.nm_base.specs.ShadowWord.{NamesShadow}
 use Rattle.nm_action.specs.declared.action.Bit.{Bit}

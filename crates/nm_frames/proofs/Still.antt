@@ -1,5 +1,5 @@
 -- The frame law in pieces: each is kept where what it reads is as before.
-use Rattle.std.proofs.Common.{◌≡◌, ◌≢◌, ◌↔◌, ℕ, ◌+◌, ◌==◌, Bool, true, false, List, map, Option, Some, None, IsSome, All, refl, sym, ap, subst, ◌∙◌, inl, inr, arith}
+use Rattle.std.proofs.Common.{◌≡◌, ◌≢◌, ◌↔◌, ℕ, Bool, true, false, List, map, Option, Some, None, IsSome, All, refl, sym, ap, subst, ◌∙◌, inl, inr}
 use Rattle.std.specs.Prelude.{option_map}
 use Rattle.std.proofs.lemmas.Bool.{cases_eq}
 use Rattle.nm_base.specs.Geometry.{Geometry}
@@ -11,16 +11,20 @@ use Rattle.nm_view.specs.Operations.{op_on, fill_of, owned_frame}
 use Rattle.nm_view.proofs.Items.{some_same, not_none, all_same}
 use Rattle.nm_view.proofs.Finds.{find_edit, find_edit_other, find_map}
 use Rattle.nm_words.specs.declared.names.Where.{Where}
-use Rattle.nm_words.specs.declared.names.Where.TheVariants.{Req, Pte, Stamp, Home, Shadow, Lock, Mark, Ack, Turn, Free, Mem}
+use Rattle.nm_words.specs.declared.names.Where.TheVariants.{Req, Pte, Stamp, Home, Shadow, Lock, Mark, Ack, Turn, Mem}
 use Rattle.nm_world.specs.Worlds.{World, written, viewing}
 use Rattle.nm_world.specs.Sights.{Sight, Writes, free_in, sight_of, sight_at}
-use Rattle.nm_world.specs.FrameLaw.{Claim, Bit, AtHome, AtShadow, By, Claims, Names, names_of, NamesAsShadow, HasRole, AreRoles, IsWordOf, IsMapping, FrameLaw}
+use Rattle.nm_world.specs.FrameLaw.{Claim, Bit, AtHome, AtShadow, By, Claims, Names, names_of, NamesAsShadow, AreRoles, IsWordOf, IsMapping, FrameLaw}
 use Rattle.nm_world.proofs.Choose.{choose, choose_name}
 
 -- by cases on a test
 pub cases_on : (P : Bool → Type 0) (t : Bool) → (t ≡ true → P true) → (t ≡ false → P false) → P t
 cases_on P true p q = p refl
 cases_on P false p q = q refl
+
+-- a test is not both
+pub not_both : (t : Bool) → t ≡ true → t ≡ false → ⊥
+not_both t on off = cc
 
 -- Claims.
 

@@ -1,5 +1,5 @@
 -- The kinds that write a table word.
-use Rattle.std.proofs.Common.{◌≡◌, ◌≢◌, ◌↔◌, ℕ, ◌+◌, ◌^◌, ◌<◌, ◌≤◌, ◌==◌, if◌then◌else◌, bit_and, bit_or, bit_xor, Bool, true, false, IsTrue, List, [], ◌∷◌, ◌++◌, Option, Some, None, IsSome, IsSomeAnd, IfSome, All, refl, sym, ap, subst, ◌∙◌, inl, inr, arith}
+use Rattle.std.proofs.Common.{◌≡◌, ◌≢◌, ◌↔◌, ℕ, ◌^◌, ◌<◌, ◌==◌, if◌then◌else◌, bit_and, bit_or, Bool, true, false, List, Option, Some, None, IsSome, IsSomeAnd, IfSome, All, refl, sym, ap, subst, ◌∙◌, inl, inr, arith}
 use Rattle.std.specs.Prelude.{option_map}
 use Rattle.std.specs.Int.{bit_at}
 use Rattle.std.proofs.lemmas.Bool.{eqb-true}
@@ -14,25 +14,24 @@ use Rattle.nm_action.specs.declared.action.Bit.TheVariants.{Hint, Accessed}
 use Rattle.nm_action.specs.declared.action.Reply.TheVariants.{Done, Word, Lost}
 use Rattle.nm_action.specs.declared.action.Action.TheVariants.{Soften, Arm, Walk, ClearDirty, Unmap, Map, Grant}
 use Rattle.nm_view.specs.declared.view.Owned.{Owned}
-use Rattle.nm_view.specs.Lists.{find, first, edit}
+use Rattle.nm_view.specs.Lists.{find, first}
 use Rattle.nm_view.specs.Views.{Op, View}
-use Rattle.nm_view.specs.Operations.{page_of, owned_frame, op_on, fill_of}
+use Rattle.nm_view.specs.Operations.{owned_frame, op_on, fill_of}
 use Rattle.nm_view.proofs.Items.{some_same, all_find, all_join, all_erase}
 use Rattle.nm_view.proofs.Finds.{find_number}
 use Rattle.nm_permit.specs.Permitted.{MayUnmap, MayMap, MayGrant, IsWordBack, IsWordNew, IsSavedWord}
-use Rattle.nm_words.specs.declared.names.Where.{Where}
 use Rattle.nm_words.specs.declared.names.Where.TheVariants as words
 use Rattle.nm_step.specs.Table.{bit_mask}
-use Rattle.nm_event.specs.After.{after_of, edit_under, edit_of, cleared_at, taken_at, mapped_at, granted_at, spoiled_frame, spoiled_under}
+use Rattle.nm_event.specs.After.{after_of, edit_under, cleared_at, taken_at, mapped_at, granted_at, spoiled_frame, spoiled_under}
 use Rattle.nm_event.specs.Fitting.{Agrees}
 use Rattle.nm_world.specs.Worlds.{World, moved, viewing, written, pte_at, home_at, shadow_at, op_at}
 use Rattle.nm_world.specs.Parts.{lore_of}
-use Rattle.nm_world.specs.Sights.{Sight, Sets, sight_of, sight_at}
+use Rattle.nm_world.specs.Sights.{sight_of, sight_at}
 use Rattle.nm_world.specs.LockLaw.{LockLaw, IsTrueOp}
 use Rattle.nm_world.specs.FrameLaw.{FrameLaw, IsWordOf, IsMapping}
 use Rattle.nm_world.specs.Laws.{IsReady}
 use Rattle.nm_world.proofs.Bits.{frame_and, frame_or, frame_xor, bit_and_kept, bit_or_kept, bit_or_set, bit_xor_kept}
-use Rattle.nm_world.proofs.Moves.{OnPage, edited, on_page}
+use Rattle.nm_world.proofs.Moves.{edited, on_page}
 use Rattle.nm_world.proofs.Parts.{part_of}
 use Rattle.nm_world.proofs.Writing.{word_writes, edit_sets}
 use Rattle.nm_frames.proofs.Still.{cases_on, takings_of, KeepsView, same_view, same_fills, map_fills, roles_kept, words_written, taken_still, takings_kept, read_keeps, frames_quiet}

@@ -1,19 +1,19 @@
 -- The kinds that touch what the shadow law reads.
-use Rattle.std.proofs.Common.{◌≡◌, ◌≢◌, ℕ, ◌+◌, ◌-◌, ◌^◌, ◌<◌, ◌≤◌, ◌%◌, ◌==◌, ◌&&◌, ◌||◌, if◌then◌else◌, Bool, true, false, IsTrue, List, [], ◌∷◌, Option, Some, None, IsSome, IsSomeAnd, All, length, take, refl, sym, ap, subst, ◌∙◌, ◌⊎◌, inl, inr, arith, take_all}
+use Rattle.std.proofs.Common.{◌≡◌, ◌≢◌, ℕ, ◌+◌, ◌-◌, ◌^◌, ◌<◌, ◌%◌, ◌==◌, ◌&&◌, ◌||◌, if◌then◌else◌, Bool, false, IsTrue, List, [], ◌∷◌, Option, Some, None, IsSome, IsSomeAnd, length, refl, sym, ap, subst, ◌∙◌, inl, inr, arith, take_all}
 use Rattle.std.specs.Prelude.{sum}
 use Rattle.std.specs.List.{filter}
 use Rattle.std.proofs.lemmas.Bool.{cases_eq, eqb-true}
 use Rattle.std.specs.Int.{bit_at}
-use Rattle.nm_base.specs.Geometry.{Geometry, IsGeometry, IsInTier, tier_of, frame_count, first_frame, backing_page}
+use Rattle.nm_base.specs.Geometry.{Geometry, IsGeometry, tier_of, frame_count, first_frame, backing_page}
 use Rattle.nm_base.specs.HomeWord.{home_word}
 use Rattle.nm_base.specs.PageWord.{is_writable, is_dirty, frame_of, walked_word}
-use Rattle.nm_base.specs.Ranges.{IsFrame, IsIndex}
-use Rattle.nm_base.specs.ShadowWord.{shadow_word, shadow_frame, NamesShadow}
+use Rattle.nm_base.specs.Ranges.{IsFrame}
+use Rattle.nm_base.specs.ShadowWord.{shadow_word}
 use Rattle.nm_base.proofs.ShadowWords.{shadow_frame-NamesShadow}
 use Rattle.nm_base.proofs.Tiers.{tier_of-IsInTier, IsInTier-tier_of}
 use Rattle.nm_action.specs.declared.action.AckTo.{AckTo}
 use Rattle.nm_action.specs.declared.action.AckTo.TheVariants.{Seen, Off, End}
-use Rattle.nm_action.specs.declared.action.Reply.TheVariants.{Done, Word, Lost}
+use Rattle.nm_action.specs.declared.action.Reply.TheVariants.{Done, Lost}
 use Rattle.nm_action.specs.declared.action.Action.TheVariants.{Store, Add, Walk, Ack, CopyStore, SetHome, SetShadow}
 use Rattle.nm_view.specs.declared.view.CacheEntry.{CacheEntry}
 use Rattle.nm_view.specs.declared.view.Fill.{Fill}
@@ -24,30 +24,28 @@ use Rattle.nm_view.specs.Operations.{page_of, cached_page, op_on, fill_of, IsInL
 use Rattle.nm_view.proofs.Items.{some_same, not_none, all_find}
 use Rattle.nm_view.proofs.Finds.{find_number, absent_filter}
 use Rattle.nm_permit.specs.Permitted.{MaySetHome, HasNewHome, IsFreeOfShadow, MayShade, IsZeroedTo, IsCopiedTo}
-use Rattle.nm_words.specs.declared.names.Where.{Where}
 use Rattle.nm_words.specs.declared.names.Where.TheVariants as words
 use Rattle.nm_step.specs.Table.{cached_frame, entry_frame}
 use Rattle.nm_event.specs.After.{after_of, walked, is_confirmed, kept_entries}
 use Rattle.nm_world.specs.Worlds.{World, moved, written, viewing, pte_at, home_at, shadow_at, mem_at, op_at}
-use Rattle.nm_world.specs.Parts.{desk_at}
 use Rattle.nm_world.specs.Sights.{Sight, Writes, Sets, sight_of, sight_at}
-use Rattle.nm_world.specs.Notions.{IsClean, value_of}
+use Rattle.nm_world.specs.Notions.{value_of}
 use Rattle.nm_world.specs.LockLaw.{LockLaw}
 use Rattle.nm_world.specs.CacheLaw.{CacheLaw, IsEntrySound}
 use Rattle.nm_world.specs.CopyLaw.{CopyLaw}
 use Rattle.nm_world.specs.ShadowLaw.{IsMaster, ShadowLaw}
-use Rattle.nm_world.specs.FrameLaw.{Claim, Bit, AtHome, AtShadow, By, Claims, names_of, NamesAsShadow, FrameLaw}
+use Rattle.nm_world.specs.FrameLaw.{AtHome, AtShadow, By, names_of, NamesAsShadow, FrameLaw}
 use Rattle.nm_world.specs.Bounds.{HasBounds}
 use Rattle.nm_world.specs.Laws.{IsReady}
 use Rattle.nm_world.proofs.Choose.{choose}
 use Rattle.nm_world.proofs.Moves.{edited}
 use Rattle.nm_world.proofs.Roles.{one_claim}
 use Rattle.nm_world.proofs.Writing.{word_writes, mem_sets, entry_put}
-use Rattle.nm_frames.proofs.Still.{cases_on}
+use Rattle.nm_frames.proofs.Still.{cases_on, not_both}
 use Rattle.nm_frames.proofs.Table.{if_at, known_item, true_op, no_shadow, present_some}
 use Rattle.nm_frames.proofs.Owners.{some_same_fill}
-use Rattle.nm_frames.proofs.Shadings.{few_frames}
-use Rattle.nm_frames.proofs.Shadows.{master_kept, clean_kept, KeepsCache, same_cache, entries_kept, read_keeps, shadows_quiet, shadows_unread}
+use Rattle.nm_frames.proofs.Shadings.{few_frames, same_page}
+use Rattle.nm_frames.proofs.Shadows.{master_kept, clean_kept, KeepsCache, same_cache, entries_kept, shadows_quiet, shadows_unread}
 
 -- Frames apart.
 
@@ -72,9 +70,6 @@ shadows_stored g m a f i x new apart cache law =
           (clean_kept g (sight_of g m).entry after.entry h.page (entries_kept a new m.view cache) h.clean));
     }
 
-both_ways : (t : Bool) → t ≡ true → t ≡ false → ⊥
-both_ways t on off = cc
-
 home_no_shadow : (b k : ℕ) → AtHome b ≡ AtShadow k → ⊥
 home_no_shadow b k e = cc
 
@@ -84,32 +79,29 @@ home_not_owned b a e = cc
 shadow_not_owned : (k a : ℕ) → AtShadow k ≡ By a → ⊥
 shadow_not_owned k a e = cc
 
-one_page : (b c : ℕ) → AtHome b ≡ AtHome c → b ≡ c
-one_page b c e = cc
-
 -- the home of a page with a dirty entry is neither
 dirty_apart : (g : Geometry) (m : World) (a v b f : ℕ) (e : CacheEntry) → IsGeometry g → IsFrame g f → find cached_page v (m.view a).cache ≡ Some e → IsTrue e.dirty → backing_page g v ≡ Some b → home_at m b ≡ home_word f → FrameLaw g (sight_of g m) → ShadowLaw g (sight_of g m) → IsApart g m f
 dirty_apart g m a v b f e isg frame cached dirty of home frames law = record {
   master = λ k some same. (
-    let h = law.masters k some in
-    let named : home_at m h.page ≡ home_word f = h.home ∙ ap home_word same in
-    let page : h.page ≡ b = one_page h.page b (one_claim g (names_of (sight_of g m)) f (AtHome h.page) (AtHome b) frames.roles frame named home) in
-    let clean : e.dirty ≡ false = h.clean a v e (of ∙ ap Some (sym page)) cached in
-    absurd (both_ways e.dirty dirty clean));
+      let h = law.masters k some in
+      let named : home_at m h.page ≡ home_word f = h.home ∙ ap home_word same in
+      let page : h.page ≡ b = same_page h.page b (one_claim g (names_of (sight_of g m)) f (AtHome h.page) (AtHome b) frames.roles frame named home) in
+      let clean : e.dirty ≡ false = h.clean a v e (of ∙ ap Some (sym page)) cached in
+      absurd (not_both e.dirty dirty clean));
   shadow = λ k h some same. (
-    let named : NamesAsShadow (shadow_at m k) f = subst (λ (n : ℕ). NamesAsShadow (shadow_at m k) n) same (names_shadow g m k h isg some) in
-    home_no_shadow b k (one_claim g (names_of (sight_of g m)) f (AtHome b) (AtShadow k) frames.roles frame home named));
+      let named : NamesAsShadow (shadow_at m k) f = subst (λ (n : ℕ). NamesAsShadow (shadow_at m k) n) same (names_shadow g m k h isg some) in
+      home_no_shadow b k (one_claim g (names_of (sight_of g m)) f (AtHome b) (AtShadow k) frames.roles frame home named));
 }
 
 -- an owned frame is neither
 owned_apart : (g : Geometry) (m : World) (a f : ℕ) → IsGeometry g → IsFrame g f → IsSome (fill_of (m.view a) f) → FrameLaw g (sight_of g m) → ShadowLaw g (sight_of g m) → IsApart g m f
 owned_apart g m a f isg frame owned frames law = record {
   master = λ k some same. (
-    let h = law.masters k some in
-    home_not_owned h.page a (one_claim g (names_of (sight_of g m)) f (AtHome h.page) (By a) frames.roles frame (h.home ∙ ap home_word same) owned));
+      let h = law.masters k some in
+      home_not_owned h.page a (one_claim g (names_of (sight_of g m)) f (AtHome h.page) (By a) frames.roles frame (h.home ∙ ap home_word same) owned));
   shadow = λ k h some same. (
-    let named : NamesAsShadow (shadow_at m k) f = subst (λ (n : ℕ). NamesAsShadow (shadow_at m k) n) same (names_shadow g m k h isg some) in
-    shadow_not_owned k a (one_claim g (names_of (sight_of g m)) f (AtShadow k) (By a) frames.roles frame named owned));
+      let named : NamesAsShadow (shadow_at m k) f = subst (λ (n : ℕ). NamesAsShadow (shadow_at m k) n) same (names_shadow g m k h isg some) in
+      shadow_not_owned k a (one_claim g (names_of (sight_of g m)) f (AtShadow k) (By a) frames.roles frame named owned));
 }
 
 -- the frame to which a dirty entry leads
@@ -179,18 +171,18 @@ shadows_walk g m a v e write frames r law =
     let Left : Bool → Type 0 = λ t. ShadowLaw g (sight_of g (record { word = written (words.Pte v) (if t then walked_word e write else n) m.word; view = viewing a (after_of g view (Walk v e write) (if t then Done else Lost n)) m.view })) in
     cases_on Left (n == e)
     (λ found.
-        let present : e ≢ 0 = present_some e (eqb-true (bit_at e 0) 1 r.allowed.permitted.present) in
-        let new : View = after_of g view (Walk v e write) Done in
-        let after : Sight = sight_at g (written (words.Pte v) (walked_word e write) m.word) (viewing a new m.view) in
-        let w : CacheEntry = walked view v e write in
-        record {
-          masters = λ k some. (let h = law.masters k some in
-              let P : ℕ → ℕ → CacheEntry → Type 0 = λ c u x. backing_page g u ≡ Some h.page → x.dirty ≡ false in
-              let each = edited P (sight_of g m).entry after.entry a v w (entry_put a w new m.view refl)
-              (λ of. walked_clean g m v e k h.page write view (eqb-true n e found) present frames h.home some of)
-              (λ c u x apart is of. h.clean c u x of is) in
-              master_kept g (sight_of g m) after k h refl refl h.equal (λ c u x of is. each c u x is of));
-        })
+    let present : e ≢ 0 = present_some e (eqb-true (bit_at e 0) 1 r.allowed.permitted.present) in
+    let new : View = after_of g view (Walk v e write) Done in
+    let after : Sight = sight_at g (written (words.Pte v) (walked_word e write) m.word) (viewing a new m.view) in
+    let w : CacheEntry = walked view v e write in
+    record {
+      masters = λ k some. (let h = law.masters k some in
+          let P : ℕ → ℕ → CacheEntry → Type 0 = λ c u x. backing_page g u ≡ Some h.page → x.dirty ≡ false in
+          let each = edited P (sight_of g m).entry after.entry a v w (entry_put a w new m.view refl)
+          (λ of. walked_clean g m v e k h.page write view (eqb-true n e found) present frames h.home some of)
+          (λ c u x apart is of. h.clean c u x of is) in
+          master_kept g (sight_of g m) after k h refl refl h.equal (λ c u x of is. each c u x is of));
+    })
     (λ lost. shadows_quiet g m (written (words.Pte v) n m.word) a view (record { home = λ b. refl; shadow = λ k. refl; mem = λ f i. refl }) (same_cache view) law)
 
 -- Homes and shadow words.

@@ -1,5 +1,4 @@
 -- What the frame law and the shadow law take from the other groups, of the world before a step.
-use Rattle.std.specs.Prelude.{ℕ}
 use Rattle.nm_base.specs.Geometry.{Geometry, IsGeometry}
 use Rattle.nm_world.specs.Worlds.{World}
 use Rattle.nm_world.specs.Sights.{sight_of}
