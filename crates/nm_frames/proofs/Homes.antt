@@ -24,25 +24,26 @@ use Rattle.nm_event.specs.After.{after_of, homed_at, let_go}
 use Rattle.nm_event.specs.Fitting.{Agrees}
 use Rattle.nm_world.specs.Worlds.{World, moved, viewing, written, pte_at, home_at, shadow_at, op_at}
 use Rattle.nm_world.specs.Parts.{lore_of}
-use Rattle.nm_world.specs.Sights.{Sight, Writes, Sets, sight_of, sight_at}
+use Rattle.nm_world.specs.Sights.{Sight, WritesOne, Sets, sight_of, sight_at}
 use Rattle.nm_world.specs.Notions.{IsOut, HasOne}
 use Rattle.nm_world.specs.LockLaw.{LockLaw, IsTrueOp}
 use Rattle.nm_world.specs.CopyLaw.{CopyLaw}
 use Rattle.nm_world.specs.FrameLaw.{Claim, Bit, AtHome, AtShadow, By, Claims, Names, names_of, NamesAsShadow, AreRoles, IsWordOf, FrameLaw}
 use Rattle.nm_world.specs.Bounds.{HasBounds}
 use Rattle.nm_world.specs.Laws.{IsReady}
+use Rattle.nm_world.proofs.Options.{some_and}
 use Rattle.nm_world.proofs.Choose.{choose, choose_both}
 use Rattle.nm_world.proofs.Moves.{each_op, sole_op}
 use Rattle.nm_world.proofs.Roles.{one_moves, one_claim}
 use Rattle.nm_world.proofs.Writing.{own_view, other_view, word_writes, edit_sets, fill_gone}
 use Rattle.nm_frames.proofs.Still.{not_both, cases_on, word_of_still, taken_words_still}
-use Rattle.nm_frames.proofs.Table.{if_at, known_item, true_op}
+use Rattle.nm_frames.proofs.Table.{if_at, true_op}
 use Rattle.nm_frames.proofs.Owners.{by_forth, by_back, some_same_fill, none_some}
 
 -- The home is known.
 
 based_home : (found : Option ℕ) (P : ℕ → Type 0) → IsSomeAnd found P → (h : ℕ) × (found ≡ Some h)
-based_home found P h = let home = known_item P found h in (home.0, home.1.0)
+based_home found P h = let home = some_and found P h in (home.0, home.1.0)
 
 -- an operation that may set a home knows the old one
 free_home : (g : Geometry) (o : Op) → IsOpShaped g o → IsFreeOfShadow g o → (h : ℕ) × (o.home ≡ Some h)
@@ -135,7 +136,7 @@ out_or_homeless g m a b f o fill locks copies here page owned (inr (inr moves)) 
 
 -- the home word of a page is written, and a frame comes to an actor or goes from it
 record Homes (n after : Names) (a f b word : ℕ) (fill : Option Fill) : Type 0 where
-  home : Writes n.home after.home b word
+  home : WritesOne n.home after.home b word
   fills : Sets n.fill after.fill a f fill
   free : (h : ℕ) → after.free h ≡ n.free h
   shadow : (k : ℕ) → after.shadow k ≡ n.shadow k
@@ -237,10 +238,10 @@ by_no_home : (a b : ℕ) → By a ≡ AtHome b → ⊥
 by_no_home a b e = cc
 
 -- the roles where the page had a home
-swapped : (g : Geometry) (n after : Names) (a f b old : ℕ) → Writes n.home after.home b (home_word f) → Sets (let_in n a b old).fill after.fill a f None → ((h : ℕ) → after.free h ≡ n.free h) → ((k : ℕ) → after.shadow k ≡ n.shadow k) → n.home b ≡ home_word old → IsFrame g old → IsSome (n.fill a f) → IsFrame g f → AreRoles g n → AreRoles g after
+swapped : (g : Geometry) (n after : Names) (a f b old : ℕ) → WritesOne n.home after.home b (home_word f) → Sets (let_in n a b old).fill after.fill a f None → ((h : ℕ) → after.free h ≡ n.free h) → ((k : ℕ) → after.shadow k ≡ n.shadow k) → n.home b ≡ home_word old → IsFrame g old → IsSome (n.fill a f) → IsFrame g f → AreRoles g n → AreRoles g after
 swapped g n after a f b old home fills free shadow was there owned frame roles =
     let mid : Names = let_in n a b old in
-    let cleared : Writes n.home mid.home b 0 = word_writes n.home b 0 in
+    let cleared : WritesOne n.home mid.home b 0 = word_writes n.home b 0 in
     let apart : f ≢ old = λ same. by_no_home a b (one_claim g n f (By a) (AtHome b) roles frame owned (was ∙ ap home_word (sym same))) in
     let first_step : AreRoles g mid = leaves g n mid a old b (Equal b) (record { home = cleared; fills = set_fill n.fill a old (Some (Equal b)); free = λ h. refl; shadow = λ k. refl }) was there roles in
     enters g mid after a f b (record {
@@ -261,9 +262,9 @@ frames_set_home g m a b f locks copies bounds r law =
     let view : View = m.view a in
     let new : View = after_of g view (SetHome b f) Done in
     let after : Sight = sight_at g (written (words.Home b) (home_word f) m.word) (viewing a new m.view) in
-    let on = known_item (MaySetHome g (fill_of view f)) (op_on view b) r.allowed.permitted in
+    let on = some_and (op_on view b) (MaySetHome g (fill_of view f)) r.allowed.permitted in
     let o : Op = on.0 in
-    let own = known_item (λ known. HasNewHome g known o) (fill_of view f) on.1.1 in
+    let own = some_and (fill_of view f) (λ known. HasNewHome g known o) on.1.1 in
     let page : o.page ≡ b = find_number page_of b view.ops o on.1.0 in
     let shape = r.shaped.shape a r.actor in
     let shaped : IsOpShaped g o = all_find page_of b (IsOpShaped g) view.ops o shape.ops on.1.0 in
@@ -273,7 +274,7 @@ frames_set_home g m a b f locks copies bounds r law =
     let owned : new.owned ≡ let_go b (Some h) (erase owned_frame f view.owned) = ap (λ found. let_go b (known_home found) (erase owned_frame f view.owned)) on.1.0 ∙ ap (λ x. let_go b x (erase owned_frame f view.owned)) old.1 in
     let some : IsSome (fill_of view f) = some_same_fill (Some own.0) (fill_of view f) (sym own.1.0) cc in
     let n : Names = names_of (sight_of g m) in
-    let writes : Writes (home_at m) after.home b (home_word f) = word_writes (home_at m) b (home_word f) in
+    let writes : WritesOne (home_at m) after.home b (home_word f) = word_writes (home_at m) b (home_word f) in
     let out = out_or_homeless g m a b f o own.0 locks copies on.1.0 page own.1.0 own.1.1 in
     let P : ℕ → ℕ → Op → Type 0 = λ c d p. p.moved ≡ false → All (λ q. IsWordOf g after.home (shadow_at m) d q.0 q.1) p.taken in
     record {

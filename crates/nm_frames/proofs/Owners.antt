@@ -21,16 +21,16 @@ use Rattle.nm_words.specs.declared.names.Where.TheVariants as words
 use Rattle.nm_step.specs.Table.{free_word_of}
 use Rattle.nm_event.specs.After.{after_of, spoiled_frame}
 use Rattle.nm_world.specs.Worlds.{World, moved, viewing, written, home_at, shadow_at, op_at}
-use Rattle.nm_world.specs.Sights.{Sight, Writes, Sets, sight_of, sight_at}
+use Rattle.nm_world.specs.Sights.{Sight, WritesOne, Sets, sight_of, sight_at}
 use Rattle.nm_world.specs.LockLaw.{LockLaw}
 use Rattle.nm_world.specs.FrameLaw.{Claim, Bit, AtHome, AtShadow, By, Claims, Names, names_of, NamesAsShadow, AreRoles, IsWordOf, FrameLaw}
 use Rattle.nm_world.specs.Laws.{IsReady}
+use Rattle.nm_world.proofs.Options.{some_and}
 use Rattle.nm_world.proofs.FreeBits.{give_bit, put_bit}
 use Rattle.nm_world.proofs.Moves.{edited, gone}
 use Rattle.nm_world.proofs.Roles.{one_moves}
 use Rattle.nm_world.proofs.Writing.{open_sets, close_sets, fill_put, fill_gone}
 use Rattle.nm_frames.proofs.Still.{cases_on, not_both, same_view, same_fills, map_fills, roles_kept, words_still, taken_still, takings_of, unread_keeps, view_part, frames_quiet}
-use Rattle.nm_frames.proofs.Table.{known_item}
 
 -- Operations.
 
@@ -69,7 +69,7 @@ frames_unlock g m a b r law =
 
 -- the roles after frame f was given to an actor, or put back by it
 record Hands (n after : Names) (a f : ℕ) (free : Bool) (fill : Option Fill) : Type 0 where
-  bits : Writes n.free after.free f free
+  bits : WritesOne n.free after.free f free
   fills : Sets n.fill after.fill a f fill
   home : (b : ℕ) → after.home b ≡ n.home b
   shadow : (k : ℕ) → after.shadow k ≡ n.shadow k
@@ -167,7 +167,7 @@ frames_give g m a f locks r law =
     let new : View = after_of g view (GiveFrame f) (Word (m.word (free_word_of g f))) in
     let word : Where → ℕ = written (free_word_of g f) x m.word in
     let after : Sight = sight_at g word (viewing a new m.view) in
-    let turn = known_item (λ t. view.scan.words ≡ free_words g t) view.turn r.allowed.permitted.whole in
+    let turn = some_and view.turn (λ t. view.scan.words ≡ free_words g t) r.allowed.permitted.whole in
     let own : Owned = record { frame = f; fill = Raw } in
     record {
       roles = gives g (names_of (sight_of g m)) (names_of after) a f Raw

@@ -20,24 +20,25 @@ use Rattle.nm_permit.specs.Permitted.{MayShade, MayUnshade}
 use Rattle.nm_words.specs.declared.names.Where.TheVariants as words
 use Rattle.nm_event.specs.After.{after_of, shaded, shading, unshading, unshaded_fill, is_quiet}
 use Rattle.nm_world.specs.Worlds.{World, moved, viewing, written, pte_at, home_at, shadow_at, op_at}
-use Rattle.nm_world.specs.Sights.{Sight, Writes, Sets, sight_of, sight_at}
+use Rattle.nm_world.specs.Sights.{Sight, WritesOne, Sets, sight_of, sight_at}
 use Rattle.nm_world.specs.LockLaw.{LockLaw}
 use Rattle.nm_world.specs.CopyLaw.{CopyLaw}
 use Rattle.nm_world.specs.FrameLaw.{Claim, Bit, AtHome, AtShadow, By, Claims, Names, names_of, NamesAsShadow, AreRoles, IsWordOf, FrameLaw}
 use Rattle.nm_world.specs.Bounds.{HasBounds}
 use Rattle.nm_world.specs.Laws.{IsReady}
+use Rattle.nm_world.proofs.Options.{some_and}
 use Rattle.nm_world.proofs.Moves.{each_op, edited, sole_op}
 use Rattle.nm_world.proofs.Roles.{one_moves, one_claim}
 use Rattle.nm_world.proofs.Writing.{word_writes, edit_sets, fill_put, fill_gone}
 use Rattle.nm_frames.proofs.Still.{not_both}
-use Rattle.nm_frames.proofs.Table.{if_at, known_item, true_op, no_shadow}
+use Rattle.nm_frames.proofs.Table.{if_at, true_op, no_shadow}
 use Rattle.nm_frames.proofs.Owners.{by_forth, by_back, some_same_fill, none_some}
 
 -- Roles.
 
 -- the shadow word of a frame is written, and a frame comes to an actor or goes from it
 record Shades (n after : Names) (a f k word : ℕ) (fill : Option Fill) : Type 0 where
-  shadow : Writes n.shadow after.shadow k word
+  shadow : WritesOne n.shadow after.shadow k word
   fills : Sets n.fill after.fill a f fill
   free : (h : ℕ) → after.free h ≡ n.free h
   home : (b : ℕ) → after.home b ≡ n.home b
@@ -103,7 +104,7 @@ word_shaded : (g : Geometry) (homes shades after : ℕ → ℕ) (b v word : ℕ)
 word_shaded g homes shades after b v word unshaded h = record { layout = h.layout; home = h.home; writable = h.writable; saved = h.saved; unshaded = unshaded }
 
 -- where one shadow word is cleared, no frame gets a shadow
-less_shaded : (g : Geometry) (homes shades after : ℕ → ℕ) (b v word k : ℕ) → Writes shades after k 0 → IsWordOf g homes shades b v word → IsWordOf g homes after b v word
+less_shaded : (g : Geometry) (homes shades after : ℕ → ℕ) (b v word k : ℕ) → WritesOne shades after k 0 → IsWordOf g homes shades b v word → IsWordOf g homes after b v word
 less_shaded g homes shades after b v word k writes h =
     word_shaded g homes shades after b v word
     (λ some. elim (cases_eq (frame_of word) k) [
@@ -112,7 +113,7 @@ less_shaded g homes shades after b v word k writes h =
     ]) h
 
 -- where another frame gets a shadow, a word goes on mapping
-more_shaded : (g : Geometry) (homes shades after : ℕ → ℕ) (b v word k x : ℕ) → Writes shades after k x → (homes b ≡ home_word k → is_writable word ≡ false) → IsWordOf g homes shades b v word → IsWordOf g homes after b v word
+more_shaded : (g : Geometry) (homes shades after : ℕ → ℕ) (b v word k x : ℕ) → WritesOne shades after k x → (homes b ≡ home_word k → is_writable word ≡ false) → IsWordOf g homes shades b v word → IsWordOf g homes after b v word
 more_shaded g homes shades after b v word k x writes own h =
     word_shaded g homes shades after b v word
     (λ some. elim (cases_eq (frame_of word) k) [
@@ -130,11 +131,11 @@ frames_unshade g m a b k isg locks bounds r law =
     let view : View = m.view a in
     let new : View = after_of g view (SetShadow b k None) Done in
     let after : Sight = sight_at g (written (words.Shadow k) 0 m.word) (viewing a new m.view) in
-    let on = known_item (MayUnshade k) (op_on view b) r.allowed.permitted in
+    let on = some_and (op_on view b) (MayUnshade k) r.allowed.permitted in
     let o : Op = on.0 in
     let known = true_op m g a b o locks on.1.0 in
     let home : home_at m b ≡ home_word k = sym (if_at (λ h. h ≡ home_at m b) o.home (home_word k) known.home on.1.1.home) in
-    let shade = known_item (λ w. w ≢ 0) o.shadow on.1.1.some in
+    let shade = some_and o.shadow (λ w. w ≢ 0) on.1.1.some in
     let stands : shade.0 ≡ shadow_at m k = if_at (λ w. (f : ℕ) → home_at m b ≡ home_word f → w ≡ shadow_at m f) o.shadow shade.0 known.shadow shade.1.0 k home in
     let f : ℕ = shadow_frame shade.0 in
     let own : Owned = record { frame = f; fill = unshaded_fill (is_quiet g o) b } in
@@ -142,7 +143,7 @@ frames_unshade g m a b k isg locks bounds r law =
     let frame : IsFrame g f = subst (λ (w : ℕ). IsFrame g (shadow_frame w)) (sym stands) (IsFrame-IsShadowWord g (shadow_at m k) (few_frames g isg) (bounds.shadows k) some) in
     let owned = ap (λ found. shading g b found None view.owned) on.1.0 ∙ ap (λ w. unshading (unshaded_fill (is_quiet g o) b) w view.owned) shade.1.0 in
     let P : ℕ → ℕ → Op → Type 0 = λ c d p. p.moved ≡ false → All (λ q. IsWordOf g (home_at m) after.shadow d q.0 q.1) p.taken in
-    let writes : Writes (shadow_at m) after.shadow k 0 = word_writes (shadow_at m) k 0 in
+    let writes : WritesOne (shadow_at m) after.shadow k 0 = word_writes (shadow_at m) k 0 in
     let less : (c d : ℕ) (p : Op) → op_at m c d ≡ Some p → P c d p = λ c d p is unmoved. all_same (λ q. IsWordOf g (home_at m) (shadow_at m) d q.0 q.1) (λ q. IsWordOf g (home_at m) after.shadow d q.0 q.1) p.taken
     (λ q h. less_shaded g (home_at m) (shadow_at m) after.shadow d q.0 q.1 k writes h) (law.taken c d p is unmoved) in
     record {
@@ -163,7 +164,7 @@ frames_shade g m a b k s isg locks copies r law =
     let new : View = after_of g view (SetShadow b k (Some s)) Done in
     let x : ℕ = shadow_word b (Some s) in
     let after : Sight = sight_at g (written (words.Shadow k) x m.word) (viewing a new m.view) in
-    let on = known_item (MayShade g view k s) (op_on view b) r.allowed.permitted in
+    let on = some_and (op_on view b) (MayShade g view k s) r.allowed.permitted in
     let o : Op = on.0 in
     let may = on.1.1 in
     let known = true_op m g a b o locks on.1.0 in
@@ -172,7 +173,7 @@ frames_shade g m a b k s isg locks copies r law =
     let fill : fill_of view s ≡ Some (Equal b) = subst (λ (c : ℕ). fill_of view s ≡ Some (Equal c)) page may.fill in
     let twin = (copies.ops a b o on.1.0).equal s fill in
     let names : NamesAsShadow x s = record { some = λ none. omega (arith, none); is = shadow_frame-shadow_word b s (omega (arith, few_frames g isg, r.allowed.range.shadow)) } in
-    let writes : Writes (shadow_at m) after.shadow k x = word_writes (shadow_at m) k x in
+    let writes : WritesOne (shadow_at m) after.shadow k x = word_writes (shadow_at m) k x in
     let lone : (c : ℕ) → home_at m c ≡ home_word k → c ≡ b = λ c at. same_page c b (one_claim g (names_of (sight_of g m)) k (AtHome c) (AtHome b) law.roles r.allowed.range.master at home) in
     let P : ℕ → ℕ → Op → Type 0 = λ c d p. p.moved ≡ false → All (λ q. IsWordOf g (home_at m) after.shadow d q.0 q.1) p.taken in
     record {

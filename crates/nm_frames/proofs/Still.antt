@@ -13,8 +13,8 @@ use Rattle.nm_view.proofs.Finds.{find_edit, find_edit_other, find_map}
 use Rattle.nm_words.specs.declared.names.Where.{Where}
 use Rattle.nm_words.specs.declared.names.Where.TheVariants.{Req, Pte, Stamp, Home, Shadow, Lock, Mark, Ack, Turn, Mem}
 use Rattle.nm_world.specs.Worlds.{World, written, viewing}
-use Rattle.nm_world.specs.Sights.{Sight, Writes, free_in, sight_of, sight_at}
-use Rattle.nm_world.specs.FrameLaw.{Claim, Bit, AtHome, AtShadow, By, Claims, Names, names_of, NamesAsShadow, AreRoles, IsWordOf, IsMapping, FrameLaw}
+use Rattle.nm_world.specs.Sights.{Sight, WritesOne, free_in, sight_of, sight_at}
+use Rattle.nm_world.specs.FrameLaw.{Claim, Bit, AtHome, AtShadow, By, Claims, Names, names_of, NamesAsShadow, AreRoles, IsWordOf, MapsToHome, FrameLaw}
 use Rattle.nm_world.proofs.Choose.{choose, choose_name}
 
 -- by cases on a test
@@ -98,7 +98,7 @@ word_of_still g homes shades homes2 shades2 b v word home shade h = record {
   unshaded = λ some. h.unshaded (λ none. some (shade ∙ none));
 }
 
-pub mapping_still : (g : Geometry) (homes shades homes2 shades2 : ℕ → ℕ) (v word : ℕ) → ((b : ℕ) → homes2 b ≡ homes b) → ((k : ℕ) → shades2 k ≡ shades k) → IsMapping g homes shades v word → IsMapping g homes2 shades2 v word
+pub mapping_still : (g : Geometry) (homes shades homes2 shades2 : ℕ → ℕ) (v word : ℕ) → ((b : ℕ) → homes2 b ≡ homes b) → ((k : ℕ) → shades2 k ≡ shades k) → MapsToHome g homes shades v word → MapsToHome g homes2 shades2 v word
 mapping_still g homes shades homes2 shades2 v word home shade h = record {
   page = h.page;
   of = h.of;
@@ -106,22 +106,22 @@ mapping_still g homes shades homes2 shades2 v word home shade h = record {
 }
 
 -- each table word maps as before
-pub words_still : (g : Geometry) (m after : Sight) → ((v : ℕ) → after.pte v ≡ m.pte v) → ((b : ℕ) → after.home b ≡ m.home b) → ((k : ℕ) → after.shadow k ≡ m.shadow k) → FrameLaw g m → (v : ℕ) → after.pte v ≢ 0 → IsMapping g after.home after.shadow v (after.pte v)
+pub words_still : (g : Geometry) (m after : Sight) → ((v : ℕ) → after.pte v ≡ m.pte v) → ((b : ℕ) → after.home b ≡ m.home b) → ((k : ℕ) → after.shadow k ≡ m.shadow k) → FrameLaw g m → (v : ℕ) → after.pte v ≢ 0 → MapsToHome g after.home after.shadow v (after.pte v)
 words_still g m after pte home shadow law v some =
-    subst (λ (w : ℕ). IsMapping g after.home after.shadow v w) (sym (pte v))
+    subst (λ (w : ℕ). MapsToHome g after.home after.shadow v w) (sym (pte v))
     (mapping_still g m.home m.shadow after.home after.shadow v (m.pte v) home shadow (law.words v (λ none. some (pte v ∙ none))))
 
 -- one table word is written: it maps, if it is not 0, and each other as before
-pub words_written : (g : Geometry) (m after : Sight) (v x : ℕ) → Writes m.pte after.pte v x → ((b : ℕ) → after.home b ≡ m.home b) → ((k : ℕ) → after.shadow k ≡ m.shadow k) → (x ≢ 0 → IsMapping g m.home m.shadow v x) → FrameLaw g m → (u : ℕ) → after.pte u ≢ 0 → IsMapping g after.home after.shadow u (after.pte u)
+pub words_written : (g : Geometry) (m after : Sight) (v x : ℕ) → WritesOne m.pte after.pte v x → ((b : ℕ) → after.home b ≡ m.home b) → ((k : ℕ) → after.shadow k ≡ m.shadow k) → (x ≢ 0 → MapsToHome g m.home m.shadow v x) → FrameLaw g m → (u : ℕ) → after.pte u ≢ 0 → MapsToHome g after.home after.shadow u (after.pte u)
 words_written g m after v x writes home shadow new law u some =
     elim (cases_eq u v) [
       | inl same ↦
           let is : after.pte u ≡ x = ap after.pte same ∙ writes.here in
-          let maps : IsMapping g m.home m.shadow u x = subst (λ (n : ℕ). IsMapping g m.home m.shadow n x) (sym same) (new (λ none. some (is ∙ none))) in
-          subst (λ (w : ℕ). IsMapping g after.home after.shadow u w) (sym is) (mapping_still g m.home m.shadow after.home after.shadow u x home shadow maps)
+          let maps : MapsToHome g m.home m.shadow u x = subst (λ (n : ℕ). MapsToHome g m.home m.shadow n x) (sym same) (new (λ none. some (is ∙ none))) in
+          subst (λ (w : ℕ). MapsToHome g after.home after.shadow u w) (sym is) (mapping_still g m.home m.shadow after.home after.shadow u x home shadow maps)
       | inr other ↦
           let is : after.pte u ≡ m.pte u = writes.rest u other in
-          subst (λ (w : ℕ). IsMapping g after.home after.shadow u w) (sym is)
+          subst (λ (w : ℕ). MapsToHome g after.home after.shadow u w) (sym is)
           (mapping_still g m.home m.shadow after.home after.shadow u (m.pte u) home shadow (law.words u (λ none. some (is ∙ none))))
     ]
 

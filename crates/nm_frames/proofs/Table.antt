@@ -1,5 +1,5 @@
 -- The kinds that write a table word.
-use Rattle.std.proofs.Common.{◌≡◌, ◌≢◌, ◌↔◌, ℕ, ◌^◌, ◌<◌, ◌==◌, if◌then◌else◌, bit_and, bit_or, Bool, true, false, List, Option, Some, None, IsSome, IsSomeAnd, IfSome, All, refl, sym, ap, subst, ◌∙◌, inl, inr, arith}
+use Rattle.std.proofs.Common.{◌≡◌, ◌≢◌, ◌↔◌, ℕ, ◌^◌, ◌<◌, ◌==◌, if◌then◌else◌, bit_and, bit_or, Bool, true, false, List, Option, Some, None, IsSome, IfSome, All, refl, sym, ap, subst, ◌∙◌, inl, inr, arith}
 use Rattle.std.specs.Prelude.{option_map}
 use Rattle.std.specs.Int.{bit_at}
 use Rattle.std.proofs.lemmas.Bool.{eqb-true}
@@ -28,8 +28,9 @@ use Rattle.nm_world.specs.Worlds.{World, moved, viewing, written, pte_at, home_a
 use Rattle.nm_world.specs.Parts.{lore_of}
 use Rattle.nm_world.specs.Sights.{sight_of, sight_at}
 use Rattle.nm_world.specs.LockLaw.{LockLaw, IsTrueOp}
-use Rattle.nm_world.specs.FrameLaw.{FrameLaw, IsWordOf, IsMapping}
+use Rattle.nm_world.specs.FrameLaw.{FrameLaw, IsWordOf, MapsToHome}
 use Rattle.nm_world.specs.Laws.{IsReady}
+use Rattle.nm_world.proofs.Options.{some_and}
 use Rattle.nm_world.proofs.Bits.{frame_and, frame_or, frame_xor, bit_and_kept, bit_or_kept, bit_or_set, bit_xor_kept}
 use Rattle.nm_world.proofs.Moves.{edited, on_page}
 use Rattle.nm_world.proofs.Parts.{part_of}
@@ -41,10 +42,6 @@ use Rattle.nm_frames.proofs.Still.{cases_on, takings_of, KeepsView, same_view, s
 pub if_at : {A : Type 0} (P : A → Type 0) (o : Option A) (x : A) → IfSome o P → o ≡ Some x → P x
 if_at P None x h is = absurd cc
 if_at P (Some y) x h is = subst P (some_same y x is) h
-
-pub known_item : {A : Type 0} (P : A → Type 0) (found : Option A) → IsSomeAnd found P → (x : A) × ((found ≡ Some x) × P x)
-known_item P None h = absurd h
-known_item P (Some x) h = (x, (refl, h))
 
 -- what an operation knows is so
 pub true_op : (m : World) (g : Geometry) (a b : ℕ) (o : Op) → LockLaw g m → op_at m a b ≡ Some o → IsTrueOp m b (lore_of o)
@@ -83,7 +80,7 @@ touches_walk : (word : ℕ) (write : Bool) → Touches word (walked_word word wr
 touches_walk word true = touches_or word (walk_mask true) (omega arith) refl refl
 touches_walk word false = touches_or word (walk_mask false) (omega arith) refl refl
 
-touched : (g : Geometry) (homes shades : ℕ → ℕ) (v word new : ℕ) → Touches word new → IsMapping g homes shades v word → IsMapping g homes shades v new
+touched : (g : Geometry) (homes shades : ℕ → ℕ) (v word new : ℕ) → Touches word new → MapsToHome g homes shades v word → MapsToHome g homes shades v new
 touched g homes shades v word new t h = record {
   page = h.page;
   of = h.of;
@@ -99,7 +96,7 @@ touched g homes shades v word new t h = record {
 -- Table words.
 
 -- one table word is written: it maps, if it is not 0; taken words map; and the view owns the frames that it owned
-frames_written : (g : Geometry) (m : World) (a v x : ℕ) (new : View) → (x ≢ 0 → IsMapping g (home_at m) (shadow_at m) v x) → ((f : ℕ) → IsSome (fill_of (m.view a) f) ↔ IsSome (fill_of new f)) → ((c b : ℕ) (o : Op) → op_on (viewing a new m.view c) b ≡ Some o → o.moved ≡ false → All (λ p. IsWordOf g (home_at m) (shadow_at m) b p.0 p.1) o.taken) → FrameLaw g (sight_of g m) → FrameLaw g (sight_at g (written (words.Pte v) x m.word) (viewing a new m.view))
+frames_written : (g : Geometry) (m : World) (a v x : ℕ) (new : View) → (x ≢ 0 → MapsToHome g (home_at m) (shadow_at m) v x) → ((f : ℕ) → IsSome (fill_of (m.view a) f) ↔ IsSome (fill_of new f)) → ((c b : ℕ) (o : Op) → op_on (viewing a new m.view c) b ≡ Some o → o.moved ≡ false → All (λ p. IsWordOf g (home_at m) (shadow_at m) b p.0 p.1) o.taken) → FrameLaw g (sight_of g m) → FrameLaw g (sight_at g (written (words.Pte v) x m.word) (viewing a new m.view))
 frames_written g m a v x new maps fills taken law = record {
   roles = roles_kept g m (written (words.Pte v) x m.word) a new (λ f. refl) (λ b. refl) (λ k. refl) fills law;
   words = words_written g (sight_of g m) (sight_at g (written (words.Pte v) x m.word) (viewing a new m.view)) v x (word_writes (pte_at m) v x) (λ b. refl) (λ k. refl) maps law;
@@ -107,7 +104,7 @@ frames_written g m a v x new maps fills taken law = record {
 }
 
 -- the same, where the view is as before in what the law reads
-frames_table : (g : Geometry) (m : World) (a v x : ℕ) (new : View) → (x ≢ 0 → IsMapping g (home_at m) (shadow_at m) v x) → KeepsView (m.view a) new → FrameLaw g (sight_of g m) → FrameLaw g (sight_at g (written (words.Pte v) x m.word) (viewing a new m.view))
+frames_table : (g : Geometry) (m : World) (a v x : ℕ) (new : View) → (x ≢ 0 → MapsToHome g (home_at m) (shadow_at m) v x) → KeepsView (m.view a) new → FrameLaw g (sight_of g m) → FrameLaw g (sight_at g (written (words.Pte v) x m.word) (viewing a new m.view))
 frames_table g m a v x new maps view law =
     frames_written g m a v x new maps view.fills
     (taken_still g (sight_of g m) (sight_at g (written (words.Pte v) x m.word) (viewing a new m.view)) (λ b. refl) (λ k. refl) (takings_kept a new m.view view) law) law
@@ -179,7 +176,7 @@ spoiled_fills (Some b) owned f = map_fills (spoiled_frame b) f owned (λ w. refl
 -- a word that was taken maps again
 word_back : (g : Geometry) (m : World) (a v word b : ℕ) (o : Op) → op_at m a b ≡ Some o → IsWordBack v word o → FrameLaw g (sight_of g m) → IsWordOf g (home_at m) (shadow_at m) b v word
 word_back g m a v word b o here back law =
-    let found = known_item (λ p. p.1 ≡ word) (find first v o.taken) back.taken in
+    let found = some_and (find first v o.taken) (λ p. p.1 ≡ word) back.taken in
     let maps = all_find first v (λ p. IsWordOf g (home_at m) (shadow_at m) b p.0 p.1) o.taken found.0 (law.taken a b o here back.unmoved) found.1.0 in
     let number : found.0.0 ≡ v = find_number first v o.taken found.0 found.1.0 in
     subst (λ (w : ℕ). IsWordOf g (home_at m) (shadow_at m) b v w) found.1.1
@@ -218,7 +215,7 @@ frames_map g m a v word locks r law =
     (λ c b p apart there. law.taken c b p there)) law
 
 -- the right to write comes to a word whose page may be written and whose frame has no shadow
-granted : (g : Geometry) (homes shades : ℕ → ℕ) (v word : ℕ) → IsWritable g v → shades (frame_of word) ≡ 0 → IsMapping g homes shades v word → IsMapping g homes shades v (granted_word word)
+granted : (g : Geometry) (homes shades : ℕ → ℕ) (v word : ℕ) → IsWritable g v → shades (frame_of word) ≡ 0 → MapsToHome g homes shades v word → MapsToHome g homes shades v (granted_word word)
 granted g homes shades v word may bare h =
     let frame : frame_of (granted_word word) ≡ frame_of word = frame_xor word grant_mask (omega arith) in
     record {
@@ -243,7 +240,7 @@ frames_grant g m a v locks r law =
     let maps = law.words v r.fits.told.said.mapped in
     let same : maps.page ≡ on.page = some_same maps.page on.page (sym maps.of ∙ on.of) in
     let home : home_at m on.page ≡ home_word (frame_of n) = ap (home_at m) (sym same) ∙ maps.is.home in
-    let looked = known_item (λ p. IsSavedWord p.1) (find first v on.op.looked) on.may.saved in
+    let looked = some_and (find first v on.op.looked) (λ p. IsSavedWord p.1) on.may.saved in
     let agrees : Agrees looked.0.1 n = if_at (λ p. Agrees p.1 n) (find first v on.op.looked) looked.0 (known.looked v on.may.there) looked.1.0 in
     let may : IsWritable g v = maps.is.saved (agrees.saved ∙ looked.1.1.saved) in
     frames_table g m a v (granted_word n) new

@@ -28,8 +28,8 @@ use Rattle.nm_words.specs.declared.names.Where.TheVariants as words
 use Rattle.nm_step.specs.Table.{cached_frame, entry_frame}
 use Rattle.nm_event.specs.After.{after_of, walked, is_confirmed, kept_entries}
 use Rattle.nm_world.specs.Worlds.{World, moved, written, viewing, pte_at, home_at, shadow_at, mem_at, op_at}
-use Rattle.nm_world.specs.Sights.{Sight, Writes, Sets, sight_of, sight_at}
-use Rattle.nm_world.specs.Notions.{value_of}
+use Rattle.nm_world.specs.Sights.{Sight, WritesOne, Sets, sight_of, sight_at}
+use Rattle.nm_world.specs.Notions.{page_value}
 use Rattle.nm_world.specs.LockLaw.{LockLaw}
 use Rattle.nm_world.specs.CacheLaw.{CacheLaw, IsEntrySound}
 use Rattle.nm_world.specs.CopyLaw.{CopyLaw}
@@ -37,12 +37,13 @@ use Rattle.nm_world.specs.ShadowLaw.{IsMaster, ShadowLaw}
 use Rattle.nm_world.specs.FrameLaw.{AtHome, AtShadow, By, names_of, NamesAsShadow, FrameLaw}
 use Rattle.nm_world.specs.Bounds.{HasBounds}
 use Rattle.nm_world.specs.Laws.{IsReady}
+use Rattle.nm_world.proofs.Options.{some_and}
 use Rattle.nm_world.proofs.Choose.{choose}
 use Rattle.nm_world.proofs.Moves.{edited}
 use Rattle.nm_world.proofs.Roles.{one_claim}
 use Rattle.nm_world.proofs.Writing.{word_writes, mem_sets, entry_put}
 use Rattle.nm_frames.proofs.Still.{cases_on, not_both}
-use Rattle.nm_frames.proofs.Table.{if_at, known_item, true_op, no_shadow, present_some}
+use Rattle.nm_frames.proofs.Table.{if_at, true_op, no_shadow, present_some}
 use Rattle.nm_frames.proofs.Owners.{some_same_fill}
 use Rattle.nm_frames.proofs.Shadings.{few_frames, same_page}
 use Rattle.nm_frames.proofs.Shadows.{master_kept, clean_kept, KeepsCache, same_cache, entries_kept, shadows_quiet, shadows_unread}
@@ -107,11 +108,11 @@ owned_apart g m a f isg frame owned frames law = record {
 -- the frame to which a dirty entry leads
 cached_apart : (g : Geometry) (m : World) (a v : ℕ) → IsGeometry g → IsSomeAnd (find cached_page v (m.view a).cache) (λ e. IsTrue e.dirty) → CacheLaw g m → HasBounds g m → FrameLaw g (sight_of g m) → ShadowLaw g (sight_of g m) → IsApart g m (cached_frame (m.view a) v)
 cached_apart g m a v isg may caches bounds frames law =
-    let cached = known_item (λ e. IsTrue e.dirty) (find cached_page v (m.view a).cache) may in
+    let cached = some_and (find cached_page v (m.view a).cache) (λ e. IsTrue e.dirty) may in
     let e : CacheEntry = cached.0 in
     let number : e.vpage ≡ v = find_number cached_page v (m.view a).cache e cached.1.0 in
     let sound : IsEntrySound g m a e = all_find cached_page v (IsEntrySound g m a) (m.view a).cache e (caches.desks a).entries cached.1.0 in
-    let page = known_item (λ b. home_at m b ≡ home_word e.frame) (backing_page g e.vpage) sound.home in
+    let page = some_and (backing_page g e.vpage) (λ b. home_at m b ≡ home_word e.frame) sound.home in
     let of : backing_page g v ≡ Some page.0 = ap (backing_page g) (sym number) ∙ page.1.0 in
     let frame : IsFrame g e.frame = omega (arith, page.1.1, bounds.homes page.0) in
     subst (IsApart g m) (ap entry_frame (sym cached.1.0)) (dirty_apart g m a v page.0 e.frame e isg frame cached.1.0 cached.1.1 of page.1.1 frames law)
@@ -126,7 +127,7 @@ shadows_add g m a v i x isg caches bounds frames r law =
     shadows_stored g m a f i ((mem_at m f i + x) % 2 ^ 64) (m.view a) (cached_apart g m a v isg r.allowed.permitted.cached caches bounds frames law) (same_cache (m.view a)) law
 
 known_fill : (found : Option Fill) (P : Fill → Type 0) → IsSomeAnd found P → IsSome found
-known_fill found P h = let fill = known_item P found h in some_same_fill (Some fill.0) found (sym fill.1.0) cc
+known_fill found P h = let fill = some_and found P h in some_same_fill (Some fill.0) found (sym fill.1.0) cc
 
 stored_owned : (g : Geometry) (m : World) (a : ℕ) (b : Option ℕ) (f i x : ℕ) → IsReady g m a (CopyStore b f i x) → IsSome (fill_of (m.view a) f)
 stored_owned g m a None f i x r = known_fill (fill_of (m.view a) f) (IsZeroedTo i) r.allowed.permitted.fill
@@ -204,7 +205,7 @@ no_old_shadow g m a b k o fill isg locks here new home h some =
     let free : IsFreeOfShadow g o → ⊥ = λ f. elim f [
       | inl none ↦ some (no_shadow m b k o known none home)
       | inr last ↦
-          let known_home = known_item (IsInLastTier g) o.home last in
+          let known_home = some_and o.home (IsInLastTier g) last in
           let at : known_home.0 ≡ home_at m b = if_at (λ x. x ≡ home_at m b) o.home known_home.0 known.home known_home.1.0 in
           let minus : known_home.0 - 1 ≡ k = omega (arith, at, home) in
           let lies : tier_of g k ≡ length g.tiers - 1 = ap (tier_of g) (sym minus) ∙ last_tier g known_home.0 isg known_home.1.1 (omega (arith, at, home)) in
@@ -224,9 +225,9 @@ shadows_set_home g m a b f isg locks r law =
     let view : View = m.view a in
     let new : View = after_of g view (SetHome b f) Done in
     let after : Sight = sight_at g (written (words.Home b) (home_word f) m.word) (viewing a new m.view) in
-    let on = known_item (MaySetHome g (fill_of view f)) (op_on view b) r.allowed.permitted in
-    let own = known_item (λ known. HasNewHome g known on.0) (fill_of view f) on.1.1 in
-    let writes : Writes (home_at m) after.home b (home_word f) = word_writes (home_at m) b (home_word f) in
+    let on = some_and (op_on view b) (MaySetHome g (fill_of view f)) r.allowed.permitted in
+    let own = some_and (fill_of view f) (λ known. HasNewHome g known on.0) on.1.1 in
+    let writes : WritesOne (home_at m) after.home b (home_word f) = word_writes (home_at m) b (home_word f) in
     record {
       masters = λ k some. (let h = law.masters k some in
           master_kept g (sight_of g m) after k h refl
@@ -239,7 +240,7 @@ shadows_unshade g m a b k law =
     let view : View = m.view a in
     let new : View = after_of g view (SetShadow b k None) Done in
     let after : Sight = sight_at g (written (words.Shadow k) 0 m.word) (viewing a new m.view) in
-    let writes : Writes (shadow_at m) after.shadow k 0 = word_writes (shadow_at m) k 0 in
+    let writes : WritesOne (shadow_at m) after.shadow k 0 = word_writes (shadow_at m) k 0 in
     record {
       masters = λ j some. elim (cases_eq j k) [
         | inl same ↦ absurd (some (ap after.shadow same ∙ writes.here))
@@ -250,7 +251,7 @@ shadows_unshade g m a b k law =
       ];
     }
 
-at_home : (home : ℕ → ℕ) (mem : ℕ → ℕ → ℕ) (b k i : ℕ) → home b ≡ home_word k → value_of home mem b i ≡ mem k i
+at_home : (home : ℕ → ℕ) (mem : ℕ → ℕ → ℕ) (b k i : ℕ) → home b ≡ home_word k → page_value home mem b i ≡ mem k i
 at_home home mem b k i is =
     choose (λ n. n ≡ mem k i) (home b) 0 0 (mem (home b - 1) i)
     (λ none. absurd (omega (arith, none, is)))
@@ -262,8 +263,8 @@ shadows_shade g m a b k s locks copies r law =
     let new : View = after_of g view (SetShadow b k (Some s)) Done in
     let x : ℕ = shadow_word b (Some s) in
     let after : Sight = sight_at g (written (words.Shadow k) x m.word) (viewing a new m.view) in
-    let writes : Writes (shadow_at m) after.shadow k x = word_writes (shadow_at m) k x in
-    let on = known_item (MayShade g view k s) (op_on view b) r.allowed.permitted in
+    let writes : WritesOne (shadow_at m) after.shadow k x = word_writes (shadow_at m) k x in
+    let on = some_and (op_on view b) (MayShade g view k s) r.allowed.permitted in
     let o : Op = on.0 in
     let may = on.1.1 in
     let home : home_at m b ≡ home_word k = sym (if_at (λ h. h ≡ home_at m b) o.home (home_word k) (true_op m g a b o locks on.1.0).home may.home) in

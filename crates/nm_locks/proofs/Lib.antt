@@ -1,2 +1,11 @@
 pub mod Still
 pub mod Quiet
+pub mod Edits
+pub mod Turns
+pub mod Flags
+pub mod Holders
+pub mod Homes
+pub mod Items
+pub mod Table
+pub mod Scans
+pub mod EachKind

@@ -1,5 +1,5 @@
 -- The kinds that touch nothing that the lock law reads.
-use Rattle.std.proofs.Common.{◌≡◌, ℕ, ◌+◌, ◌==◌, if◌then◌else◌, Bool, true, false, Option, refl}
+use Rattle.std.proofs.Common.{ℕ, ◌+◌, Option, refl}
 use Rattle.nm_base.specs.Geometry.{Geometry}
 use Rattle.nm_action.specs.declared.action.AckTo.{AckTo}
 use Rattle.nm_action.specs.declared.action.Reply.{Reply}
@@ -7,13 +7,12 @@ use Rattle.nm_action.specs.declared.action.Reply.TheVariants.{Done, Word, Busy, 
 use Rattle.nm_action.specs.declared.action.Action.{Action}
 use Rattle.nm_action.specs.declared.action.Action.TheVariants.{Load, Store, Add, Peek, Poll, Ack, Bump, SeeAck, Raise, CopyLoad, CopyStore, Mark}
 use Rattle.nm_words.specs.declared.names.Where.TheVariants as words
-use Rattle.nm_step.specs.Table.{where_of, cached_frame, home_frame}
-use Rattle.nm_view.specs.Views.{Op, View}
+use Rattle.nm_step.specs.Table.{where_of, home_frame}
+use Rattle.nm_view.specs.Views.{View}
 use Rattle.nm_event.specs.After.{after_of, bumped_to, seen_at, raised_to, loaded, copied_one}
-use Rattle.nm_world.specs.Worlds.{World, moved, found_in, left_in, reply_in}
+use Rattle.nm_world.specs.Worlds.{World, moved, left_in, reply_in}
 use Rattle.nm_world.specs.Parts.{lore_of}
 use Rattle.nm_world.specs.LockLaw.{LockLaw}
-use Rattle.nm_world.proofs.Choose.{decide}
 use Rattle.nm_world.proofs.Parts.{part_edit, part_under, part_of, part_map}
 use Rattle.nm_locks.proofs.Still.{IsUnread, KeepsView, same_view, unread_keeps, lock_quiet}
 

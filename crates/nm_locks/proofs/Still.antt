@@ -1,24 +1,19 @@
 -- The lock law in pieces: each is kept where what it reads is as before.
-use Rattle.std.proofs.Common.{◌≡◌, ◌≢◌, ◌↔◌, ℕ, ◌+◌, Bool, true, false, Option, Some, None, IsSome, IfSome, refl, sym, ap, subst, ◌∙◌, arith}
+use Rattle.std.proofs.Common.{◌≡◌, ◌↔◌, ℕ, ◌+◌, Option, Some, None, IsSome, IfSome, refl, sym, ap, subst, ◌∙◌}
 use Rattle.std.specs.Prelude.{option_map}
 use Rattle.nm_base.specs.Geometry.{Geometry}
-use Rattle.nm_base.specs.HomeWord.{home_word}
 use Rattle.nm_view.specs.Lists.{find, first}
 use Rattle.nm_view.specs.Views.{Op, View}
 use Rattle.nm_view.specs.Operations.{op_on}
 use Rattle.nm_event.specs.Fitting.{Agrees}
 use Rattle.nm_words.specs.declared.names.Where.{Where}
-use Rattle.nm_words.specs.declared.names.Where.TheVariants.{Req, Pte, Stamp, Home, Shadow, Lock, Mark, Ack, Turn, Free, Mem}
+use Rattle.nm_words.specs.declared.names.Where.TheVariants.{Req, Pte, Stamp, Home, Shadow, Lock, Mark, Ack, Turn, Mem}
 use Rattle.nm_world.specs.Worlds.{World, written, viewing, pte_at, home_at, shadow_at, lock_at, turn_at, op_at}
 use Rattle.nm_world.specs.Parts.{Lore, lore_of, lore_at}
 use Rattle.nm_world.specs.Sights.{free_in}
 use Rattle.nm_world.specs.LockLaw.{IsTrueOp, IsFreeIn, LockLaw}
 use Rattle.nm_world.proofs.Choose.{choose, choose_name}
-
--- what follows of a known value
-pub if_more : {A : Type 0} (o : Option A) (P Q : A → Type 0) → ((x : A) → o ≡ Some x → P x → Q x) → IfSome o P → IfSome o Q
-if_more None P Q step h = h
-if_more (Some x) P Q step h = step x refl h
+use Rattle.nm_world.proofs.Options.{if_more}
 
 -- an item is found where a part of it is found as before
 pub some_from : {A B : Type 0} (part : A → B) (was is : Option A) → option_map part is ≡ option_map part was → IsSome was → IsSome is
@@ -79,9 +74,10 @@ true_still m m' b o pte home shadow h = record {
 
 -- locks go on agreeing with operations
 pub locks_still : {A : Type 0} (part : Op → A) (g : Geometry) (m m' : World) → ((b : ℕ) → lock_at m' b ≡ lock_at m b) → ((c b : ℕ) → option_map part (op_at m' c b) ≡ option_map part (op_at m c b)) → LockLaw g m → (a b : ℕ) → (lock_at m' b ≡ a + 1) ↔ IsSome (op_at m' a b)
-locks_still part g m m' lock same h a b =
-    (λ is. some_from part (op_at m a b) (op_at m' a b) (same a b) ((h.locks a b).0 (sym (lock b) ∙ is)),
-     λ some. lock b ∙ (h.locks a b).1 (some_from part (op_at m' a b) (op_at m a b) (sym (same a b)) some))
+locks_still part g m m' lock same h a b = (
+  λ is. some_from part (op_at m a b) (op_at m' a b) (same a b) ((h.locks a b).0 (sym (lock b) ∙ is)),
+  λ some. lock b ∙ (h.locks a b).1 (some_from part (op_at m' a b) (op_at m a b) (sym (same a b)) some),
+)
 
 -- what the turns rest on is as before
 pub record KeepsTurns (g : Geometry) (m m' : World) : Type 0 where
@@ -91,9 +87,10 @@ pub record KeepsTurns (g : Geometry) (m m' : World) : Type 0 where
   pub free : (f : ℕ) → free_in g m'.word f ≡ free_in g m.word f
 
 pub turns_still : (g : Geometry) (m m' : World) → KeepsTurns g m m' → LockLaw g m → (a t : ℕ) → (turn_at m' t ≡ a + 1) ↔ ((m'.view a).turn ≡ Some t)
-turns_still g m m' keeps h a t =
-    (λ is. keeps.turn a ∙ (h.turns a t).0 (sym (keeps.word t) ∙ is),
-     λ is. keeps.word t ∙ (h.turns a t).1 (sym (keeps.turn a) ∙ is))
+turns_still g m m' keeps h a t = (
+  λ is. keeps.turn a ∙ (h.turns a t).0 (sym (keeps.word t) ∙ is),
+  λ is. keeps.word t ∙ (h.turns a t).1 (sym (keeps.turn a) ∙ is),
+)
 
 pub least_still : (g : Geometry) (m m' : World) → KeepsTurns g m m' → LockLaw g m → (a t f : ℕ) → (m'.view a).turn ≡ Some t → (m'.view a).scan.least ≡ Some f → IsFreeIn g m' t f
 least_still g m m' keeps h a t f is found =

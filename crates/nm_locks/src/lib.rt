@@ -1,2 +1,4 @@
 //! That permitted steps keep the lock law.
 #![tactic(auto)]
+
+pub mod law;

@@ -1,11 +1,12 @@
 -- Table words after flags were cleared, set or turned: what they agree with, and what stands on them.
-use Rattle.std.proofs.Common.{◌≡◌, ◌≢◌, ℕ, ◌-◌, ◌/◌, ◌%◌, ◌^◌, ◌<◌, ◌==◌, min, max, Bool, true, false, IsTrue, bit_and, bit_or, bit_xor, refl, sym, ap, subst, ◌∙◌, inl, inr, arith}
+use Rattle.std.proofs.Common.{◌≡◌, ◌≢◌, ℕ, ◌-◌, ◌/◌, ◌%◌, ◌^◌, ◌<◌, ◌==◌, true, false, IsTrue, bit_and, bit_or, bit_xor, refl, sym, ap, ◌∙◌, inl, inr, arith}
 use Rattle.std.specs.Int.{bit_at}
 use Rattle.std.specs.Int.Bits.{or_zero_r, xor_zero_r}
 use Rattle.std.proofs.lemmas.Bool.{eqb-true, eq-eqb}
 use Rattle.std.proofs.lemmas.Nat.{and_mask, and_le_l, and_shr, or_shr, xor_shr}
 use Rattle.std.proofs.lemmas.Nat.Bits.{bit_at-lt, bit_at-zero, bit_at_and, bit_at_or, bit_at_xor}
-use Rattle.nm_base.specs.PageWord.{IsPresentWord, IsPageWord, all_but, frame_of, grant_mask, granted_word, is_present, is_writable, is_dirty, is_saved}
+use Rattle.nm_base.specs.PageWord.{IsPresentWord, IsPageWord, all_but, frame_of, grant_mask, granted_word, is_writable}
+use Rattle.nm_permit.specs.Permitted.{IsSavedWord}
 use Rattle.nm_event.specs.Fitting.{Agrees}
 use Rattle.nm_view.specs.declared.view.CacheEntry.{CacheEntry}
 use Rattle.nm_world.specs.Notions.{IsStanding}
@@ -111,3 +112,9 @@ standing_granted word e none h = record {
   writable = λ dirty. absurd (let on : is_writable word ≡ true = h.writable dirty in cc);
   dirty = λ dirty. set_flag _ (bit_xor_kept word grant_mask 3 refl ∙ is_set _ (h.dirty dirty));
 }
+
+-- a word with the saved right to write is not 0
+pub saved_some : (word : ℕ) → IsSavedWord word → word ≢ 0
+saved_some word saved none =
+    let bit : bit_at word 5 ≡ 1 = eqb-true (bit_at word 5) 1 saved.saved in
+    omega (arith, bit, ap (λ n. bit_at n 5) none ∙ bit_at-zero 5)

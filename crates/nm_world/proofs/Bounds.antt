@@ -1,12 +1,12 @@
 -- That the world of a state has the bounds that the state keeps.
-use Rattle.std.proofs.Common.{◌≡◌, ℕ, suc, ◌+◌, ◌<◌, ◌≤◌, List, [], ◌∷◌, Option, Some, None, All, length, get_or, refl, sym, ap, subst, ◌∙◌, inl, inr, arith}
+use Rattle.std.proofs.Common.{◌≡◌, ℕ, suc, ◌+◌, ◌<◌, ◌≤◌, List, [], ◌∷◌, Some, None, length, get_or, refl, sym, ap, ◌∙◌, inl, inr, arith}
 use Rattle.std.specs.Prelude.{sum_by}
 use Rattle.std.specs.List.{range_with_len}
 use Rattle.std.proofs.lemmas.Bool.{cases_lt}
 use Rattle.std.proofs.lemmas.List.{get_or_default, get_or_past}
 use Rattle.std.proofs.lemmas.List.Sums.{sum_by-cons}
 use Rattle.std.proofs.lemmas.Nat.Bits.{bit_at-zero}
-use Rattle.nm_base.specs.Geometry.{Geometry, IsGeometry, frame_count}
+use Rattle.nm_base.specs.Geometry.{Geometry, frame_count}
 use Rattle.nm_base.specs.FreeWords.{HasOwnBits}
 use Rattle.nm_base.specs.HomeWord.{IsHomeWord}
 use Rattle.nm_base.specs.Ranges.{IsWord}
@@ -19,10 +19,9 @@ use Rattle.nm_view.specs.Operations.{page_of, op_on}
 use Rattle.nm_view.proofs.Items.{all_find, not_none}
 use Rattle.nm_words.specs.declared.names.Where.TheVariants.{Req, Pte, Stamp, Home, Shadow, Free}
 use Rattle.nm_core.specs.Named.{AreTakenInRange}
-use Rattle.nm_core.specs.Kept.{IsKept, bumps_of, raises_of}
+use Rattle.nm_core.specs.Kept.{IsKept, raises_of}
 use Rattle.nm_core.specs.State.{State, view_of, actor_count}
-use Rattle.nm_world.specs.Worlds.{op_at}
-use Rattle.nm_world.specs.Bounds.{HasBounds, bumps_in, raises_in}
+use Rattle.nm_world.specs.Bounds.{HasBounds, raises_in}
 use Rattle.nm_world.specs.Seen.{world_of}
 use Rattle.nm_world.proofs.Bridge.{seen_of}
 

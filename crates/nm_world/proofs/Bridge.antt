@@ -1,5 +1,5 @@
 -- That a step of a state is the step of its world.
-use Rattle.std.proofs.Common.{◌≡◌, ◌≢◌, ℕ, ◌<◌, ◌==◌, nat_lt, ◌&&◌, if◌then◌else◌, Bool, true, false, length, get_or, set, List, refl, sym, ap, subst, ◌∙◌, arith}
+use Rattle.std.proofs.Common.{◌≡◌, ℕ, ◌<◌, nat_lt, ◌&&◌, if◌then◌else◌, Bool, true, false, length, get_or, set, List, refl, sym, ap, subst, ◌∙◌, arith}
 use Rattle.std.proofs.Math.Path.{fun_ext}
 use Rattle.std.proofs.lemmas.Bool.{ltb-true, lt-ltb, and_parts}
 use Rattle.std.proofs.lemmas.List.{get_or-set_same, get_or-set_other}
@@ -12,7 +12,7 @@ use Rattle.nm_permit.specs.Permitted.{Allowed}
 use Rattle.nm_words.specs.declared.names.Where.{Where}
 use Rattle.nm_words.specs.declared.names.Where.TheVariants.{Req, Pte, Stamp, Home, Shadow, Lock, Mark, Ack, Turn, Free, Mem}
 use Rattle.nm_words.specs.Names.{IsPlace}
-use Rattle.nm_words.specs.Words.{Words, HasSizes, word_at, with_word, exchanged}
+use Rattle.nm_words.specs.Words.{Words, HasSizes, word_at, with_word}
 use Rattle.nm_words.specs.Exchanges.{changed}
 use Rattle.nm_words.proofs.Groups.{ap2, word_at-same, word_at-other, exchanged-with_word}
 use Rattle.nm_event.specs.After.{after_of}
@@ -20,7 +20,7 @@ use Rattle.nm_step.specs.Table.{reply_of}
 use Rattle.nm_core.specs.Kept.{IsKept}
 use Rattle.nm_core.specs.State.{State, view_of, place_found, word_found, change_made, reply_to, step}
 use Rattle.nm_core.proofs.Steps.{place_there}
-use Rattle.nm_world.specs.Worlds.{World, is_same, written, viewing, moved, left_in}
+use Rattle.nm_world.specs.Worlds.{World, written, viewing, moved}
 use Rattle.nm_world.specs.Seen.{has_word, seen_word, world_of}
 use Rattle.nm_world.proofs.Choose.{decide, choose, choose_name}
 

@@ -1,7 +1,7 @@
 -- Which frames are free after a bit was cleared, or set.
-use Rattle.std.proofs.Common.{◌≡◌, ◌≢◌, ℕ, ◌+◌, ◌-◌, ◌*◌, ◌/◌, ◌%◌, ◌^◌, ◌<◌, ◌≤◌, ◌==◌, ◌&&◌, nat_lt, max, min, Bool, true, false, bit_and, bit_or, refl, sym, ap, subst, ◌∙◌, inl, inr, arith}
+use Rattle.std.proofs.Common.{◌≡◌, ◌≢◌, ℕ, ◌*◌, ◌%◌, ◌^◌, ◌<◌, ◌==◌, ◌&&◌, nat_lt, Bool, true, false, bit_and, bit_or, refl, ap, ◌∙◌, arith}
 use Rattle.std.specs.Int.{bit_at, w64, bit_not}
-use Rattle.std.proofs.lemmas.Bool.{ltb-true, lt-ltb, eq-eqb, ne_eqb, cases_eq, and_parts}
+use Rattle.std.proofs.lemmas.Bool.{ltb-true, lt-ltb, eq-eqb, ne_eqb}
 use Rattle.std.proofs.lemmas.Nat.{pow_below}
 use Rattle.std.proofs.lemmas.Nat.Bits.{bit_at-lt, bit_at_or, bit_at-pow_same, bit_at-pow_other, bit_at_clear_same, bit_at_clear_other}
 use Rattle.nm_base.specs.Geometry.{Geometry, first_frame, tier_of, frame_count}
@@ -12,9 +12,9 @@ use Rattle.nm_base.proofs.Tiers.{IsInTier-tier_of}
 use Rattle.nm_words.specs.declared.names.Where.{Where}
 use Rattle.nm_words.specs.declared.names.Where.TheVariants.{Free}
 use Rattle.nm_step.specs.Table.{free_word_of}
-use Rattle.nm_world.specs.Worlds.{is_same, written}
-use Rattle.nm_world.specs.Sights.{Writes, free_in}
-use Rattle.nm_world.proofs.Choose.{decide, choose_name}
+use Rattle.nm_world.specs.Worlds.{written}
+use Rattle.nm_world.specs.Sights.{WritesOne, free_in}
+use Rattle.nm_world.proofs.Choose.{choose_name}
 
 -- the mask of all bits but bit k
 mask_is : (k : ℕ) → k < 64 → all_but (2 ^ k) ≡ bit_not w64 (1 * 2 ^ k % 2 ^ 64)
@@ -70,7 +70,7 @@ other_free g word f x j frame other kept =
     both (nat_lt j (frame_count g)) _ _ (λ there. ap (λ n. n == 1) (other_bit g word f x j frame (ltb-true j (frame_count g) there) other kept))
 
 -- a frame is given out: it is free no more
-pub give_bit : (g : Geometry) (word : Where → ℕ) (f : ℕ) → IsFrame g f → Writes (free_in g word) (free_in g (written (free_word_of g f) (bit_and (word (free_word_of g f)) (all_but (2 ^ free_bit g f))) word)) f false
+pub give_bit : (g : Geometry) (word : Where → ℕ) (f : ℕ) → IsFrame g f → WritesOne (free_in g word) (free_in g (written (free_word_of g f) (bit_and (word (free_word_of g f)) (all_but (2 ^ free_bit g f))) word)) f false
 give_bit g word f frame =
     let x : ℕ = bit_and (word (free_word_of g f)) (all_but (2 ^ free_bit g f)) in
     let bit : bit_at (written (free_word_of g f) x word (free_word_of g f)) (free_bit g f) ≡ 0 =
@@ -81,7 +81,7 @@ give_bit g word f frame =
     }
 
 -- a frame is put back: it is free
-pub put_bit : (g : Geometry) (word : Where → ℕ) (f : ℕ) → IsFrame g f → Writes (free_in g word) (free_in g (written (free_word_of g f) (bit_or (word (free_word_of g f)) (2 ^ free_bit g f)) word)) f true
+pub put_bit : (g : Geometry) (word : Where → ℕ) (f : ℕ) → IsFrame g f → WritesOne (free_in g word) (free_in g (written (free_word_of g f) (bit_or (word (free_word_of g f)) (2 ^ free_bit g f)) word)) f true
 put_bit g word f frame =
     let x : ℕ = bit_or (word (free_word_of g f)) (2 ^ free_bit g f) in
     let bit : bit_at (written (free_word_of g f) x word (free_word_of g f)) (free_bit g f) ≡ 1 =

@@ -1,3 +1,4 @@
+pub mod Options
 pub mod Choose
 pub mod Writing
 pub mod Parts
@@ -8,3 +9,4 @@ pub mod FreeBits
 pub mod Bridge
 pub mod Bounds
 pub mod Opening
+pub mod Shapes

@@ -9,6 +9,7 @@ use Rattle.nm_view.proofs.Items.{some_same, not_none}
 use Rattle.nm_world.specs.Worlds.{World, op_at, lock_at}
 use Rattle.nm_world.specs.Sights.{Sets}
 use Rattle.nm_world.specs.LockLaw.{LockLaw}
+use Rattle.nm_world.proofs.Options.{some_and}
 
 -- nobody but one actor has something on page b
 abbrev pub IsSole : {A : Type 0} → (ℕ → ℕ → Option A) → ℕ → ℕ → Type 0
@@ -72,18 +73,14 @@ pub record OnPage (g : Geometry) (view : View) (v : ℕ) (P : Op → Type 0) : T
   pub here : op_on view page ≡ Some op
   pub may : P op
 
-known_op : (P : Op → Type 0) (found : Option Op) → IsSomeAnd found P → (o : Op) × ((found ≡ Some o) × P o)
-known_op P None h = absurd h
-known_op P (Some o) h = (o, (refl, h))
-
 on_known : (g : Geometry) (view : View) (v : ℕ) (P : Op → Type 0) (page : Option ℕ) → backing_page g v ≡ page → IsSomeAnd (op_under view page) P → OnPage g view v P
 on_known g view v P None is h = absurd h
-on_known g view v P (Some page) is h = let o = known_op P (op_on view page) h in record { page = page; op = o.0; of = is; here = o.1.0; may = o.1.1 }
+on_known g view v P (Some page) is h = let o = some_and (op_on view page) P h in record { page = page; op = o.0; of = is; here = o.1.0; may = o.1.1 }
 
 pub on_page : (g : Geometry) (view : View) (v : ℕ) (P : Op → Type 0) → IsSomeAnd (op_of g view v) P → OnPage g view v P
 on_page g view v P h = on_known g view v P (backing_page g v) refl h
 
-some_op : (found : Option Op) (o : Op) → found ≡ Some o → IsSome found
+pub some_op : (found : Option Op) (o : Op) → found ≡ Some o → IsSome found
 some_op found o is = rw is cc
 
 -- only one actor has an operation on a page: the one that holds its lock

@@ -1,5 +1,5 @@
 -- That all the groups hold where nothing was done.
-use Rattle.std.proofs.Common.{◌≡◌, ◌≢◌, ℕ, ◌+◌, ◌-◌, ◌*◌, ◌/◌, ◌%◌, ◌^◌, ◌<◌, ◌≤◌, ◌==◌, ◌&&◌, nat_lt, min, Bool, true, false, List, [], Option, Some, None, IsSome, All, length, get_or, refl, sym, ap, subst, ◌∙◌, inl, inr, arith}
+use Rattle.std.proofs.Common.{◌≡◌, ℕ, ◌+◌, ◌-◌, ◌*◌, ◌<◌, min, true, Option, Some, None, IsSome, length, get_or, refl, sym, ap, subst, ◌∙◌, inl, inr, arith}
 use Rattle.std.specs.Int.{bit_at}
 use Rattle.std.proofs.Math.Path.{fun_ext}
 use Rattle.std.proofs.lemmas.Bool.{cases_lt, lt-ltb, eq-eqb}
@@ -11,21 +11,20 @@ use Rattle.nm_base.specs.FreeWords.{free_index, free_bit}
 use Rattle.nm_base.specs.Ranges.{IsFrame}
 use Rattle.nm_base.proofs.Tiers.{IsInTier-tier_of}
 use Rattle.nm_view.specs.Views.{View, off_word}
-use Rattle.nm_view.specs.Opening.{opening, IsActor}
+use Rattle.nm_view.specs.Opening.{opening}
 use Rattle.nm_view.specs.Operations.{op_on, fill_of}
 use Rattle.nm_view.proofs.Items.{none_left, not_none}
 use Rattle.nm_words.specs.declared.names.Where.{Where}
-use Rattle.nm_words.specs.declared.names.Where.TheVariants.{Pte, Home, Shadow, Lock, Ack, Turn, Free}
-use Rattle.nm_words.specs.Words.{opening_words, word_at, full_word}
+use Rattle.nm_words.specs.declared.names.Where.TheVariants.{Pte, Home, Shadow, Lock, Ack, Turn}
+use Rattle.nm_words.specs.Words.{opening_words, full_word}
 use Rattle.nm_words.proofs.Places.{get_or-full}
 use Rattle.nm_step.specs.Table.{free_word_of}
 use Rattle.nm_shape.proofs.Shaped.{shape_opening}
-use Rattle.nm_core.specs.State.{State, view_of, start, actor_count}
+use Rattle.nm_core.specs.State.{view_of, start, actor_count}
 use Rattle.nm_core.proofs.InPlace.{IsPlace-free_word_of}
 use Rattle.nm_core.proofs.Starts.{IsKept-start, view_of-start}
 use Rattle.nm_world.specs.Worlds.{World}
 use Rattle.nm_world.specs.Sights.{free_in, sight_of}
-use Rattle.nm_world.specs.Notions.{IsNumber}
 use Rattle.nm_world.specs.ShapeLaw.{ShapeLaw}
 use Rattle.nm_world.specs.LockLaw.{LockLaw}
 use Rattle.nm_world.specs.CacheLaw.{CacheLaw, IsEntrySound, IsPeekSound}

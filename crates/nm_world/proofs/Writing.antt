@@ -1,8 +1,6 @@
 -- How a step changes the functions of a sight: one word, or one item of the view of its actor.
-use Rattle.std.proofs.Common.{◌≡◌, ◌≢◌, ℕ, ◌-◌, ◌^◌, ◌==◌, ◌&&◌, if◌then◌else◌, Bool, List, [], ◌∷◌, ◌++◌, Option, Some, None, refl, sym, ap, subst, ◌∙◌, arith}
+use Rattle.std.proofs.Common.{◌≡◌, ◌≢◌, ℕ, ◌==◌, ◌&&◌, if◌then◌else◌, [], ◌∷◌, ◌++◌, Option, Some, None, refl, sym, ap, subst, ◌∙◌}
 use Rattle.std.specs.Prelude.{option_map}
-use Rattle.nm_base.specs.Geometry.{Geometry}
-use Rattle.nm_view.specs.declared.view.Fill.{Fill}
 use Rattle.nm_view.specs.declared.view.Owned.{Owned}
 use Rattle.nm_view.specs.declared.view.CacheEntry.{CacheEntry}
 use Rattle.nm_view.specs.Lists.{find, edit, erase, put, Once}
@@ -10,7 +8,7 @@ use Rattle.nm_view.specs.Views.{Op, View}
 use Rattle.nm_view.specs.Operations.{page_of, owned_frame, cached_page, op_on, fill_of}
 use Rattle.nm_view.proofs.Finds.{find_edit, find_edit_other, find_put, find_put_other, find_erase, find_erase_other, find_join, find_join_other}
 use Rattle.nm_world.specs.Worlds.{viewing}
-use Rattle.nm_world.specs.Sights.{Writes, Sets}
+use Rattle.nm_world.specs.Sights.{WritesOne, Sets}
 use Rattle.nm_world.proofs.Choose.{choose, choose_both}
 
 -- Views.
@@ -23,7 +21,7 @@ own_view a new views = choose (λ v. v ≡ new) a a new (views a) (λ s. refl) (
 pub other_view : (a : ℕ) (new : View) (views : ℕ → View) (c : ℕ) → c ≢ a → viewing a new views c ≡ views c
 other_view a new views c n = choose (λ v. v ≡ views c) c a new (views c) (λ s. absurd (n s)) (λ _. refl)
 
-pub view_writes : (a : ℕ) (new : View) (views : ℕ → View) → Writes views (viewing a new views) a new
+pub view_writes : (a : ℕ) (new : View) (views : ℕ → View) → WritesOne views (viewing a new views) a new
 view_writes a new views = record { here = own_view a new views; rest = other_view a new views }
 
 -- what holds of the new view, and of each other view as it was, holds of each view
@@ -33,7 +31,7 @@ each_view P a new views own others c = choose (P c) c a new (views c) (λ s. let
 -- Words.
 
 -- a write of a word of one number, as a table word
-pub word_writes : (f : ℕ → ℕ) (k x : ℕ) → Writes f (λ j. if j == k then x else f j) k x
+pub word_writes : (f : ℕ → ℕ) (k x : ℕ) → WritesOne f (λ j. if j == k then x else f j) k x
 word_writes f k x = record {
   here = choose (λ n. n ≡ x) k k x (f k) (λ s. refl) (λ n. absurd (n refl));
   rest = λ j other. choose (λ n. n ≡ f j) j k x (f j) (λ s. absurd (other s)) (λ n. refl);

@@ -1,5 +1,5 @@
 -- Sums and ranges: what the machine keeps of its words, whatever its actors know.
-use Rattle.std.specs.Prelude.{◌≡◌, ℕ, ◌≤◌, ◌+◌, Some, sum_by}
+use Rattle.std.specs.Prelude.{◌≡◌, ℕ, ◌≤◌, Some, sum_by}
 use Rattle.std.specs.List.{range_with_len}
 use Rattle.nm_base.specs.Geometry.{Geometry}
 use Rattle.nm_base.specs.FreeWords.{HasOwnBits}

@@ -9,7 +9,7 @@ use Rattle.nm_view.specs.declared.view.Fill.TheVariants.{Zeroed, Copied, Equal}
 use Rattle.nm_view.specs.Views.{Op}
 use Rattle.nm_world.specs.Parts.{Copier, copier_of}
 use Rattle.nm_world.specs.Sights.{Sight}
-use Rattle.nm_world.specs.Notions.{IsOut, IsReadOnly, IsUndirtied, IsClean, value_of, fill_page}
+use Rattle.nm_world.specs.Notions.{IsOut, IsReadOnly, IsUndirtied, IsClean, page_value, fill_page}
 
 -- what the copies of an operation rest on
 pub record CopySight : Type 0 where
@@ -40,7 +40,7 @@ pub record IsUnspoilt (g : Geometry) (pte : ℕ → ℕ) (b : ℕ) (naming : Boo
 -- frame f is a twin of page b: it equals the page in all words, no table word of b is writable, no cache has a dirty entry
 -- of b
 pub record IsTwin (g : Geometry) (k : CopySight) (b f : ℕ) : Type 0 where
-  pub equal : (i : ℕ) → IsIndex g i → k.mem f i ≡ value_of k.home k.mem b i
+  pub equal : (i : ℕ) → IsIndex g i → k.mem f i ≡ page_value k.home k.mem b i
   pub unwritable : IsReadOnly g k.pte b
   pub clean : IsClean g k.entry b
 
@@ -50,8 +50,8 @@ pub record IsTwin (g : Geometry) (k : CopySight) (b f : ℕ) : Type 0 where
 -- is 0 and no cache has a dirty entry of b; a frame that is Equal of b is a twin
 pub record OpCopies (g : Geometry) (k : CopySight) (a b : ℕ) (o : Copier) : Type 0 where
   pub early : o.early ≡ true → ¬ HasCopies k.fill a b o.last
-  pub last : (x : ℕ) → o.last ≡ Some x → IsIndex g o.copied → IsUnspoilt g k.pte b o.naming o.taken → x ≡ value_of k.home k.mem b o.copied
-  pub copied : (f n : ℕ) → k.fill a f ≡ Some (Copied b n) → IsUnspoilt g k.pte b o.naming o.taken → (i : ℕ) → IsIndex g i → i < n → k.mem f i ≡ value_of k.home k.mem b i
+  pub last : (x : ℕ) → o.last ≡ Some x → IsIndex g o.copied → IsUnspoilt g k.pte b o.naming o.taken → x ≡ page_value k.home k.mem b o.copied
+  pub copied : (f n : ℕ) → k.fill a f ≡ Some (Copied b n) → IsUnspoilt g k.pte b o.naming o.taken → (i : ℕ) → IsIndex g i → i < n → k.mem f i ≡ page_value k.home k.mem b i
   pub dirty : o.naming ≡ true → o.early ≡ false → IsUnspoilt g k.pte b o.naming o.taken → IsClean g k.entry b
   pub out : o.naming ≡ false → HasCopies k.fill a b o.last → IsOut g k.pte b
   pub out_clean : o.naming ≡ false → HasCopies k.fill a b o.last → IsClean g k.entry b

@@ -1,5 +1,5 @@
 -- Each frame has one role, and each word of the table, or taken out of it, names the home of its page.
-use Rattle.std.specs.Prelude.{◌≡◌, ◌≢◌, ℕ, ◌+◌, Bool, Option, Some, None, IsSome, IsTrue, true, false, All}
+use Rattle.std.specs.Prelude.{◌≡◌, ◌≢◌, ℕ, Bool, Option, Some, IsSome, IsTrue, true, false, All}
 use Rattle.nm_base.specs.Geometry.{Geometry, IsWritable, backing_page}
 use Rattle.nm_base.specs.HomeWord.{home_word}
 use Rattle.nm_base.specs.PageWord.{IsPresentWord, is_writable, is_saved, frame_of}
@@ -57,7 +57,7 @@ pub record IsWordOf (g : Geometry) (homes shades : ℕ → ℕ) (b v word : ℕ)
   pub unshaded : shades (frame_of word) ≢ 0 → is_writable word ≡ false
 
 -- a word maps v to the home of its page
-pub record IsMapping (g : Geometry) (homes shades : ℕ → ℕ) (v word : ℕ) : Type 0 where
+pub record MapsToHome (g : Geometry) (homes shades : ℕ → ℕ) (v word : ℕ) : Type 0 where
   pub page : ℕ
   pub of : backing_page g v ≡ Some page
   pub is : IsWordOf g homes shades page v word
@@ -66,5 +66,5 @@ pub record IsMapping (g : Geometry) (homes shades : ℕ → ℕ) (v word : ℕ) 
 -- word, and does until a SetHome
 pub record FrameLaw (g : Geometry) (m : Sight) : Type 0 where
   pub roles : AreRoles g (names_of m)
-  pub words : (v : ℕ) → m.pte v ≢ 0 → IsMapping g m.home m.shadow v (m.pte v)
+  pub words : (v : ℕ) → m.pte v ≢ 0 → MapsToHome g m.home m.shadow v (m.pte v)
   pub taken : (a b : ℕ) (o : Op) → m.op a b ≡ Some o → o.moved ≡ false → All (λ p. IsWordOf g m.home m.shadow b p.0 p.1) o.taken

@@ -1,5 +1,5 @@
 -- Locks and turns agree with the views, and what an operation knows is so.
-use Rattle.std.specs.Prelude.{◌≡◌, ◌≢◌, ◌↔◌, ℕ, ◌+◌, List, [], Option, Some, None, IsSome, IfSome, true, false}
+use Rattle.std.specs.Prelude.{◌≡◌, ◌↔◌, ℕ, ◌+◌, [], Some, None, IsSome, IfSome, true, false}
 use Rattle.nm_base.specs.Geometry.{Geometry, IsInTier}
 use Rattle.nm_base.specs.HomeWord.{home_word}
 use Rattle.nm_view.specs.declared.view.Phase.TheVariants.{Held, Cleared}

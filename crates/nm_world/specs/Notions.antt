@@ -1,20 +1,20 @@
 -- What the laws share.
-use Rattle.std.specs.Prelude.{◌≡◌, ◌≢◌, ℕ, ◌<◌, ◌≤◌, ◌⊎◌, ◌==◌, ◌-◌, if◌then◌else◌, List, [], ◌++◌, Option, Some, None, IsSome, IsSomeAnd, IsTrue, false, true, All}
+use Rattle.std.specs.Prelude.{◌≡◌, ◌≢◌, ℕ, ◌<◌, ◌⊎◌, ◌==◌, ◌-◌, if◌then◌else◌, List, Option, Some, None, IsSome, IsSomeAnd, IsTrue, false, All}
 use Rattle.std.specs.Int.{bit_at}
-use Rattle.nm_base.specs.Geometry.{Geometry, IsInTier, backing_page}
+use Rattle.nm_base.specs.Geometry.{Geometry, backing_page}
 use Rattle.nm_base.specs.PageWord.{is_present, is_writable, is_dirty, frame_of}
 use Rattle.nm_view.specs.declared.view.CacheEntry.{CacheEntry}
 use Rattle.nm_view.specs.declared.view.Fill.{Fill}
 use Rattle.nm_view.specs.declared.view.Fill.TheVariants.{Raw, Zeroed, Copied, Equal}
 use Rattle.nm_view.specs.Lists.{find, first, itself}
-use Rattle.nm_view.specs.Views.{View, off_word, end_word}
+use Rattle.nm_view.specs.Views.{off_word, end_word}
 use Rattle.nm_world.specs.Worlds.{World, ack_at}
 use Rattle.nm_world.specs.Parts.{Flight, flight_at}
 
 -- Numbers of bumps.
 
 -- an acknowledgement, or what was polled, is a number of bumps: neither Off nor End
-pub record IsNumber (n : ℕ) : Type 0 where
+pub record IsBumpCount (n : ℕ) : Type 0 where
   pub on : n ≢ off_word
   pub running : n ≢ end_word
 
@@ -23,7 +23,7 @@ pub record IsNumber (n : ℕ) : Type 0 where
 -- a processor that was not seen has acknowledged fewer bumps than a flush asks for
 pub record IsUnseenBelow (ack p flush seen : ℕ) : Type 0 where
   pub unseen : bit_at seen p ≡ 0
-  pub number : IsNumber ack
+  pub number : IsBumpCount ack
   pub below : ack < flush
 
 abbrev pub IsBehind : ℕ → ℕ → Option ℕ → ℕ → Type 0
@@ -85,8 +85,8 @@ IsClean g entry b = (a v : ℕ) (e : CacheEntry) → backing_page g v ≡ Some b
 -- Values.
 
 -- word i of a page: that of its home, and 0 where it has none
-abbrev pub value_of : (ℕ → ℕ) → (ℕ → ℕ → ℕ) → ℕ → ℕ → ℕ
-value_of home mem b i = if home b == 0 then 0 else mem (home b - 1) i
+abbrev pub page_value : (ℕ → ℕ) → (ℕ → ℕ → ℕ) → ℕ → ℕ → ℕ
+page_value home mem b i = if home b == 0 then 0 else mem (home b - 1) i
 
 -- the page of which a fill tells, if it tells of one
 abbrev pub fill_page : Fill → Option ℕ

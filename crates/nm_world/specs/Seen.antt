@@ -1,5 +1,5 @@
 -- The world of a state.
-use Rattle.std.specs.Prelude.{ℕ, ◌<◌, nat_lt, ◌&&◌, if◌then◌else◌, Bool, true, length}
+use Rattle.std.specs.Prelude.{ℕ, nat_lt, ◌&&◌, if◌then◌else◌, Bool, true, length}
 use Rattle.nm_base.specs.Geometry.{Geometry, page_count, frame_count}
 use Rattle.nm_base.specs.FreeWords.{free_words}
 use Rattle.nm_words.specs.declared.names.Where.{Where}

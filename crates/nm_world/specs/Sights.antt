@@ -46,7 +46,7 @@ abbrev pub sight_of : Geometry → World → Sight
 sight_of g m = sight_at g m.word m.view
 
 -- a function after one number was given a value: all else is as before
-pub record Writes {A : Type 0} (f h : ℕ → A) (k : ℕ) (x : A) : Type 0 where
+pub record WritesOne {A : Type 0} (f h : ℕ → A) (k : ℕ) (x : A) : Type 0 where
   pub here : h k ≡ x
   pub rest : (j : ℕ) → j ≢ k → h j ≡ f j
 

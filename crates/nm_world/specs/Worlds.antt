@@ -40,12 +40,12 @@ abbrev pub viewing : ℕ → View → (ℕ → View) → ℕ → View
 viewing a new view d = if d == a then new else view d
 
 -- the word on which an action of an actor is an exchange
-abbrev pub place_in : Geometry → World → ℕ → Action → Where
-place_in g m a action = where_of g (m.view a) action
+abbrev pub exchange_place : Geometry → World → ℕ → Action → Where
+exchange_place g m a action = where_of g (m.view a) action
 
 -- what this word is before the exchange, and after it
 abbrev pub found_in : Geometry → World → ℕ → Action → ℕ
-found_in g m a action = m.word (place_in g m a action)
+found_in g m a action = m.word (exchange_place g m a action)
 
 abbrev pub left_in : Geometry → World → ℕ → Action → ℕ
 left_in g m a action = changed (change_of g (m.view a) action) (found_in g m a action)
@@ -57,7 +57,7 @@ reply_in g m a action = reply_of (change_of g (m.view a) action) (found_in g m a
 -- the world after an action of an actor
 abbrev pub moved : Geometry → World → ℕ → Action → World
 moved g m a action = record {
-  word = written (place_in g m a action) (left_in g m a action) m.word;
+  word = written (exchange_place g m a action) (left_in g m a action) m.word;
   view = viewing a (after_of g (m.view a) action (reply_in g m a action)) m.view;
 }
 
