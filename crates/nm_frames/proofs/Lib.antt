@@ -1,0 +1,9 @@
+pub mod Still
+pub mod Quiet
+pub mod Table
+pub mod Owners
+pub mod Shadings
+pub mod Homes
+pub mod Shadows
+pub mod Twins
+pub mod Steps
