@@ -21,7 +21,7 @@ use Rattle.nm_permit.specs.Permitted.{Allowed, IsPolledFor}
 use Rattle.nm_event.specs.After.{after_of, is_fresh_at, is_confirmed, kept_entries}
 use Rattle.nm_world.specs.Worlds.{World, written, viewing, moved, ack_at}
 use Rattle.nm_world.specs.Parts.{Flight}
-use Rattle.nm_world.specs.Notions.{IsNumber, IsUnseenBelow, IsBehind, Owes, IsMeant}
+use Rattle.nm_world.specs.Notions.{IsBumpCount, IsUnseenBelow, IsBehind, Owes, IsMeant}
 use Rattle.nm_world.specs.ShapeLaw.{ShapeLaw}
 use Rattle.nm_world.specs.CacheLaw.{IsEntrySound, IsPeekSound, CacheLaw}
 use Rattle.nm_world.proofs.Choose.{choose}
@@ -42,7 +42,7 @@ all_passed P Q p (x ∷ xs) step h = kept_go Q x (filter p xs) (p x) (step x (al
 -- What an acknowledgement says.
 
 -- what was polled is a number once it is not Off
-polled_number : (n : ℕ) → n ≢ off_word → (n ≡ off_word) ⊎ (n ≤ most_bumps) → IsNumber n
+polled_number : (n : ℕ) → n ≢ off_word → (n ≡ off_word) ⊎ (n ≤ most_bumps) → IsBumpCount n
 polled_number n on (inl off) = absurd (on off)
 polled_number n on (inr few) = record { on = on; running = λ ended. omega (arith, few, ended) }
 
@@ -68,7 +68,7 @@ behind_is ack p None seen h = absurd h
 behind_is ack p (Some f) seen h = (f, (refl, h))
 
 -- no peek that is no older than a flush confirms an entry for which the flush is meant
-stale_entry : (req_seen flush : ℕ) (o : Flight) (e : CacheEntry) (k : Peeked) → k.vpage ≡ e.vpage → k.fresh ≡ true → k.stamp ≡ e.stamp → IsNumber req_seen → o.flush ≡ Some flush → flush ≤ req_seen → IsPeekSound req_seen o k → IsSomeAnd (find first e.vpage o.raised) (λ p. e.stamp < p.1) → ⊥
+stale_entry : (req_seen flush : ℕ) (o : Flight) (e : CacheEntry) (k : Peeked) → k.vpage ≡ e.vpage → k.fresh ≡ true → k.stamp ≡ e.stamp → IsBumpCount req_seen → o.flush ≡ Some flush → flush ≤ req_seen → IsPeekSound req_seen o k → IsSomeAnd (find first e.vpage o.raised) (λ p. e.stamp < p.1) → ⊥
 stale_entry req_seen flush o e k page fresh stamp number has reached sound raised =
     let p = some_parts (find first e.vpage o.raised) (λ q. e.stamp < q.1) raised in
     let found : find first k.vpage o.raised ≡ Some p.0 = ap (λ (v : ℕ). find first v o.raised) page ∙ p.1.0 in
@@ -76,7 +76,7 @@ stale_entry req_seen flush o e k page fresh stamp number has reached sound raise
     omega (arith, seen, stamp, p.1.1)
 
 -- an entry that is confirmed is owed after the acknowledgement of what was polled, if it was owed before
-owes_still : (ack p req_seen : ℕ) (o : Flight) (e : CacheEntry) (k : Peeked) → k.vpage ≡ e.vpage → k.fresh ≡ true → k.stamp ≡ e.stamp → IsNumber req_seen → IsTrue o.due ⊎ (o.wet ≡ []) → IsPeekSound req_seen o k → IsMeant e.vpage e.stamp o → Owes ack p o → Owes req_seen p o
+owes_still : (ack p req_seen : ℕ) (o : Flight) (e : CacheEntry) (k : Peeked) → k.vpage ≡ e.vpage → k.fresh ≡ true → k.stamp ≡ e.stamp → IsBumpCount req_seen → IsTrue o.due ⊎ (o.wet ≡ []) → IsPeekSound req_seen o k → IsMeant e.vpage e.stamp o → Owes ack p o → Owes req_seen p o
 owes_still ack p req_seen o e k page fresh stamp number wet sound meant (inl due) = inl due
 owes_still ack p req_seen o e k page fresh stamp number wet sound (inl is_wet) (inr behind) = inl (wet_due o e.vpage wet is_wet)
 owes_still ack p req_seen o e k page fresh stamp number wet sound (inr raised) (inr behind) =
@@ -102,7 +102,7 @@ ack_leaves : (g : Geometry) (m : World) (a : ℕ) (to : AckTo) → LeavesFlights
 ack_leaves g m a to = leaves_table m (written (words.Ack a) (acked_word (m.view a) to) m.word) a (after_of g (m.view a) (Ack to) Done) (λ v. refl) (λ b. refl) refl refl
 
 -- an entry that is kept is sound
-kept_sound : (g : Geometry) (m : World) (a : ℕ) (e : CacheEntry) → IsNumber (m.view a).req_seen → is_confirmed (m.view a).peeked e ≡ true → CacheLaw g m → IsEntrySound g m a e → IsEntrySound g (acked_world g m a Seen) a e
+kept_sound : (g : Geometry) (m : World) (a : ℕ) (e : CacheEntry) → IsBumpCount (m.view a).req_seen → is_confirmed (m.view a).peeked e ≡ true → CacheLaw g m → IsEntrySound g m a e → IsEntrySound g (acked_world g m a Seen) a e
 kept_sound g m a e number is h sound =
     let m' : World = acked_world g m a Seen in
     let leaves = ack_leaves g m a Seen in
@@ -126,19 +126,19 @@ kept_sound g m a e number is h sound =
     ]) sound
 
 -- all that is kept of a cache is sound
-kept_all : (g : Geometry) (m : World) (a : ℕ) (to : AckTo) → (to ≡ Seen → IsNumber (m.view a).req_seen) → CacheLaw g m → All (IsEntrySound g (acked_world g m a to) a) (kept_entries (m.view a) to)
+kept_all : (g : Geometry) (m : World) (a : ℕ) (to : AckTo) → (to ≡ Seen → IsBumpCount (m.view a).req_seen) → CacheLaw g m → All (IsEntrySound g (acked_world g m a to) a) (kept_entries (m.view a) to)
 kept_all g m a Seen number h = all_passed (IsEntrySound g m a) (IsEntrySound g (acked_world g m a Seen) a) (is_confirmed (m.view a).peeked) (m.view a).cache (λ e sound is. kept_sound g m a e (number refl) is h sound) (h.desks a).entries
 kept_all g m a Off number h = none_left (IsEntrySound g (acked_world g m a Off) a)
 kept_all g m a End number h = none_left (IsEntrySound g (acked_world g m a End) a)
 
 -- an acknowledgement that is a number is of what was polled
-acked_most : (view : View) (to : AckTo) (most : ℕ) → (IsNumber view.req_seen → view.req_seen ≤ most) → IsNumber (acked_word view to) → acked_word view to ≤ most
+acked_most : (view : View) (to : AckTo) (most : ℕ) → (IsBumpCount view.req_seen → view.req_seen ≤ most) → IsBumpCount (acked_word view to) → acked_word view to ≤ most
 acked_most view Seen most polled number = polled number
 acked_most view Off most polled number = absurd (number.on refl)
 acked_most view End most polled number = absurd (number.running refl)
 
 -- without a number nothing is kept
-kept_none : (view : View) (to : AckTo) → (to ≡ Seen → IsNumber view.req_seen) → ¬ IsNumber (acked_word view to) → kept_entries view to ≡ []
+kept_none : (view : View) (to : AckTo) → (to ≡ Seen → IsBumpCount view.req_seen) → ¬ IsBumpCount (acked_word view to) → kept_entries view to ≡ []
 kept_none view Seen number none = absurd (none (number refl))
 kept_none view Off number none = refl
 kept_none view End number none = refl
@@ -155,12 +155,12 @@ ack_done g m a to processor polled shape h =
     let leaves = ack_leaves g m a to in
     let was = h.desks a in
     let own : word (words.Ack a) ≡ acked_word (m.view a) to = own_ack g m a to in
-    let number : to ≡ Seen → IsNumber (m.view a).req_seen = λ is. polled_number (m.view a).req_seen (polled_for (m.view a) to polled is) (shape.shape a (omega (arith, processor))).polled in
+    let number : to ≡ Seen → IsBumpCount (m.view a).req_seen = λ is. polled_number (m.view a).req_seen (polled_for (m.view a) to polled is) (shape.shape a (omega (arith, processor))).polled in
     desk_step g m word a new leaves (other_ack g m a to)
-    (λ _ is. let below : acked_word (m.view a) to ≤ m.word words.Req = acked_most (m.view a) to (m.word words.Req) was.polled (subst IsNumber own is) in omega (arith, own, below))
+    (λ _ is. let below : acked_word (m.view a) to ≤ m.word words.Req = acked_most (m.view a) to (m.word words.Req) was.polled (subst IsBumpCount own is) in omega (arith, own, below))
     (λ e is. is) (record {
       acked = λ _. sym own;
-      off = λ _ none. kept_none (m.view a) to number (λ is. none (subst IsNumber (sym own) is));
+      off = λ _ none. kept_none (m.view a) to number (λ is. none (subst IsBumpCount (sym own) is));
       polled = was.polled;
       entries = kept_all g m a to number h;
       peeks = was.peeks;

@@ -22,7 +22,7 @@ use Rattle.nm_permit.specs.Permitted.{Allowed}
 use Rattle.nm_event.specs.After.{after_of, stale, stamp_of, walked}
 use Rattle.nm_world.specs.Worlds.{World, written, viewing, moved, pte_at, stamp_at, home_at}
 use Rattle.nm_world.specs.Parts.{Flight, flight_of, flight_at}
-use Rattle.nm_world.specs.Notions.{IsNumber, IsStanding}
+use Rattle.nm_world.specs.Notions.{IsBumpCount, IsStanding}
 use Rattle.nm_world.specs.ShapeLaw.{ShapeLaw}
 use Rattle.nm_world.specs.CacheLaw.{IsEntrySound, IsPeekSound, CacheLaw}
 use Rattle.nm_world.proofs.Choose.{choose}
@@ -154,7 +154,7 @@ walk_done g m a v e write found allowed mappings shape h =
     let left : word (words.Pte v) ≡ walked_word e write = choose (λ n. n ≡ walked_word e write) v v (walked_word e write) (pte_at m v) (λ _. refl) (λ other. absurd (other refl)) in
     desk_step g m word a new leaves (λ p _. refl) (h.acks a) stands (record {
       acked = was.acked;
-      off = λ there none. absurd (none (let Number : ℕ → Type 0 = λ n. IsNumber n in subst Number (was.acked there) (record { on = may.on; running = may.running })));
+      off = λ there none. absurd (none (let Number : ℕ → Type 0 = λ n. IsBumpCount n in subst Number (was.acked there) (record { on = may.on; running = may.running })));
       polled = was.polled;
       entries = all_put cached_page (IsEntrySound g m' a) (walked (m.view a) v e write) (m.view a).cache
           (walked_sound g m word (viewing a new m.view) a v e write left refl (λ b. refl) found may.present mappings h)

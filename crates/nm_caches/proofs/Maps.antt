@@ -19,7 +19,7 @@ use Rattle.nm_permit.specs.Permitted.{AreDueDry}
 use Rattle.nm_event.specs.After.{after_of, bumped_to, seen_with, seen_at}
 use Rattle.nm_world.specs.Worlds.{World, written, viewing, moved, home_at, ack_at, op_at}
 use Rattle.nm_world.specs.Parts.{Flight, flight_of, desk_of, flight_at, desk_at}
-use Rattle.nm_world.specs.Notions.{IsNumber, IsUnseenBelow, IsBehind, Owes, IsMeant, IsOwed}
+use Rattle.nm_world.specs.Notions.{IsBumpCount, IsUnseenBelow, IsBehind, Owes, IsMeant, IsOwed}
 use Rattle.nm_world.specs.ShapeLaw.{ShapeLaw}
 use Rattle.nm_world.specs.Laws.{IsReady}
 use Rattle.nm_world.specs.CacheLaw.{IsEntrySound, IsPeekSound, IsFlightSound, CacheLaw}
@@ -135,7 +135,7 @@ bumped_owes ack p number false flush seen new (inl due) = absurd cc
 bumped_owes ack p number false flush seen new (inr behind) = inr behind
 
 -- no peek was made since the bump, and to earlier flushes it stands as before
-bumped_peek : (req_seen number : ℕ) (o : Flight) (k : Peeked) (due : Bool) → (IsNumber req_seen → req_seen < number) → IsPeekSound req_seen o k → (flush v n : ℕ) → (if due then Some number else o.flush) ≡ Some flush → find first k.vpage o.raised ≡ Some (v, n) → IsNumber req_seen → flush ≤ req_seen → IsTrue k.fresh → n ≤ k.stamp
+bumped_peek : (req_seen number : ℕ) (o : Flight) (k : Peeked) (due : Bool) → (IsBumpCount req_seen → req_seen < number) → IsPeekSound req_seen o k → (flush v n : ℕ) → (if due then Some number else o.flush) ≡ Some flush → find first k.vpage o.raised ≡ Some (v, n) → IsBumpCount req_seen → flush ≤ req_seen → IsTrue k.fresh → n ≤ k.stamp
 bumped_peek req_seen number o k true polled sound flush v n has found is reached fresh = let same : number ≡ flush = some_same number flush has in absurd (omega (arith, same, reached, polled is))
 bumped_peek req_seen number o k false polled sound flush v n has found is reached fresh = sound flush v n has found is reached fresh
 

@@ -14,7 +14,7 @@ use Rattle.nm_words.specs.declared.names.Where.{Where}
 use Rattle.nm_words.specs.declared.names.Where.TheVariants.{Req, Pte, Stamp, Home, Ack}
 use Rattle.nm_world.specs.Worlds.{World, written, viewing, pte_at, stamp_at, home_at, ack_at}
 use Rattle.nm_world.specs.Parts.{Flight, flight_of, desk_of, flight_at, desk_at}
-use Rattle.nm_world.specs.Notions.{IsNumber, IsStanding, Owes, IsOwed}
+use Rattle.nm_world.specs.Notions.{IsBumpCount, IsStanding, Owes, IsOwed}
 use Rattle.nm_world.specs.ShapeLaw.{ShapeLaw}
 use Rattle.nm_world.specs.CacheLaw.{IsEntrySound, IsPeekSound, IsDeskSound, IsFlightSound, CacheLaw}
 use Rattle.nm_world.proofs.Choose.{choose, choose_name}
@@ -51,10 +51,10 @@ not_true h = cc
 -- p is a processor whose acknowledgement is a number
 pub record IsRunning (g : Geometry) (m : World) (p : ℕ) : Type 0 where
   pub processor : p < g.cpus
-  pub number : IsNumber (ack_at m p)
+  pub number : IsBumpCount (ack_at m p)
 
 -- an acknowledgement is a number, or it is none
-pub number_or : (n : ℕ) → IsNumber n ⊎ ¬ IsNumber n
+pub number_or : (n : ℕ) → IsBumpCount n ⊎ ¬ IsBumpCount n
 number_or n =
     elim (cases_eq n off_word) [
       | inl off ↦ inr (λ h. h.on off)
@@ -134,7 +134,7 @@ desk_kept g m m' p goes ack entries fresh shape h =
     let was = h.desks p in
     record {
       acked = λ there. was.acked there ∙ sym ack;
-      off = λ there none. was.off there (λ number. none (subst IsNumber (sym ack) number));
+      off = λ there none. was.off there (λ number. none (subst IsBumpCount (sym ack) number));
       polled = λ number. let before : (desk_at m p).req_seen ≤ m.word Req = was.polled number in omega (arith, before, goes.req);
       entries = each_entry g m p (IsEntrySound g m' p) shape h entries;
       peeks = all_same (λ (k : Peeked). k.stamp ≤ stamp_at m k.vpage) (λ k. k.stamp ≤ stamp_at m' k.vpage) (desk_at m p).peeked (λ k le. omega (arith, le, goes.stamps k.vpage)) was.peeks;
@@ -142,9 +142,9 @@ desk_kept g m m' p goes ack entries fresh shape h =
     }
 
 -- an acknowledgement that is as before is no more than the bumps
-pub ack_kept : (g : Geometry) (m m' : World) (p : ℕ) → GoesOn m m' → ack_at m' p ≡ ack_at m p → CacheLaw g m → p < g.cpus → IsNumber (ack_at m' p) → ack_at m' p ≤ m'.word Req
+pub ack_kept : (g : Geometry) (m m' : World) (p : ℕ) → GoesOn m m' → ack_at m' p ≡ ack_at m p → CacheLaw g m → p < g.cpus → IsBumpCount (ack_at m' p) → ack_at m' p ≤ m'.word Req
 ack_kept g m m' p goes ack h there number =
-    let before : ack_at m p ≤ m.word Req = h.acks p there (subst IsNumber ack number) in
+    let before : ack_at m p ≤ m.word Req = h.acks p there (subst IsBumpCount ack number) in
     omega (arith, before, ack, goes.req)
 
 -- the flushes of an operation stay sound where raises do not become fewer
@@ -204,12 +204,12 @@ cache_table g m m' leaves acks desks stands shape h = record {
 }
 
 -- a step of an actor: what it caches and has seen afterwards is sound
-pub desk_step : (g : Geometry) (m : World) (word : Where → ℕ) (a : ℕ) (new : View) → LeavesFlights m (record { word = word; view = viewing a new m.view }) → ((p : ℕ) → p ≢ a → word (Ack p) ≡ ack_at m p) → (a < g.cpus → IsNumber (word (Ack a)) → word (Ack a) ≤ word Req) → ((e : CacheEntry) → IsStanding (pte_at m e.vpage) e → IsStanding (word (Pte e.vpage)) e) → IsDeskSound g (record { word = word; view = viewing a new m.view }) a (desk_of new) → ShapeLaw g m → CacheLaw g m → CacheLaw g (record { word = word; view = viewing a new m.view })
+pub desk_step : (g : Geometry) (m : World) (word : Where → ℕ) (a : ℕ) (new : View) → LeavesFlights m (record { word = word; view = viewing a new m.view }) → ((p : ℕ) → p ≢ a → word (Ack p) ≡ ack_at m p) → (a < g.cpus → IsBumpCount (word (Ack a)) → word (Ack a) ≤ word Req) → ((e : CacheEntry) → IsStanding (pte_at m e.vpage) e → IsStanding (word (Pte e.vpage)) e) → IsDeskSound g (record { word = word; view = viewing a new m.view }) a (desk_of new) → ShapeLaw g m → CacheLaw g m → CacheLaw g (record { word = word; view = viewing a new m.view })
 desk_step g m word a new leaves acks own_ack stands own shape h =
     let m' : World = record { word = word; view = viewing a new m.view } in
     record {
       acks = λ p. elim (cases_eq p a) [
-        | inl same ↦ let Bounded : ℕ → Type 0 = λ n. n < g.cpus → IsNumber (word (Ack n)) → word (Ack n) ≤ word Req in subst Bounded (sym same) own_ack
+        | inl same ↦ let Bounded : ℕ → Type 0 = λ n. n < g.cpus → IsBumpCount (word (Ack n)) → word (Ack n) ≤ word Req in subst Bounded (sym same) own_ack
         | inr other ↦ ack_kept g m m' p (leaves_on m m' leaves) (acks p other) h
       ];
       desks = each_view (λ p v. IsDeskSound g m' p (desk_of v)) a new m.view own (λ p other. desk_still g m m' p leaves (acks p other) stands shape h);

@@ -6,13 +6,13 @@ use Rattle.nm_view.specs.Views.{Op}
 use Rattle.nm_world.specs.Worlds.{World, pte_at, home_at, shadow_at, op_at}
 use Rattle.nm_world.specs.Sights.{sight_of}
 use Rattle.nm_world.specs.Notions.{IsOut}
-use Rattle.nm_world.specs.FrameLaw.{IsMapping}
+use Rattle.nm_world.specs.FrameLaw.{MapsToHome}
 use Rattle.nm_world.specs.CopyLaw.{OwnsCopy}
 use Rattle.nm_world.specs.LockLaw.{LockLaw}
 
 -- each table word that is not 0 maps its virtual page to the home of its page
 abbrev pub AreMappings : Geometry → World → Type 0
-AreMappings g m = (v : ℕ) → pte_at m v ≢ 0 → IsMapping g (home_at m) (shadow_at m) v (pte_at m v)
+AreMappings g m = (v : ℕ) → pte_at m v ≢ 0 → MapsToHome g (home_at m) (shadow_at m) v (pte_at m v)
 
 -- where an operation on b names no virtual page and its actor has a frame that is copied of b, every table word of b is 0
 abbrev pub AreCopiesOut : Geometry → World → Type 0
