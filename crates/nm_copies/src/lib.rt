@@ -1,0 +1,2 @@
+//! That permitted steps keep what is said of the words of owned frames.
+#![tactic(auto)]
