@@ -41,7 +41,7 @@ pub record TamesWord (word new : ℕ) : Type 0 where
 pub same_word : (word : ℕ) → TamesWord word word
 same_word word = record { zero = λ z. z; unwritable = λ w. w; undirtied = λ d. d }
 
-same_flag : (a b : ℕ) → a ≡ b → (a == 1) ≡ (b == 1)
+pub same_flag : (a b : ℕ) → a ≡ b → (a == 1) ≡ (b == 1)
 same_flag a b e = ap (λ n. n == 1) e
 
 tames_and : (word flags : ℕ) → bit_at (all_but flags) 2 ≡ 1 → bit_at (all_but flags) 3 ≡ 1 → TamesWord word (bit_and word (all_but flags))
@@ -145,7 +145,7 @@ clean_put : (g : Geometry) (entry after : ℕ → ℕ → Option CacheEntry) (a 
 clean_put g entry after a v b e sets own h c u x of is =
     edited (λ c u x. backing_page g u ≡ Some b → x.dirty ≡ false) entry after a v e sets own (λ c u x apart there mine. h c u x mine there) c u x is of
 
-cases_on : (P : Bool → Type 0) (t : Bool) → (t ≡ true → P true) → (t ≡ false → P false) → P t
+pub cases_on : (P : Bool → Type 0) (t : Bool) → (t ≡ true → P true) → (t ≡ false → P false) → P t
 cases_on P true p q = p refl
 cases_on P false p q = q refl
 

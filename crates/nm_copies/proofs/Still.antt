@@ -86,7 +86,7 @@ mapped_some : (g : Geometry) (found : Option Op) (c : Copier) → option_map (co
 mapped_some g None c is = absurd (not_none c is)
 mapped_some g (Some o) c is = (o, (refl, some_same (copier_of g o) c is))
 
-some_from : (g : Geometry) (was is : Option Op) → option_map (copier_of g) is ≡ option_map (copier_of g) was → IsSome was → IsSome is
+pub some_from : (g : Geometry) (was is : Option Op) → option_map (copier_of g) is ≡ option_map (copier_of g) was → IsSome was → IsSome is
 some_from g None is same h = absurd (let none : ⊥ = cc in none)
 some_from g (Some x) None same h = absurd cc
 some_from g (Some x) (Some y) same h = cc
