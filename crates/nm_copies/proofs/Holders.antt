@@ -49,7 +49,7 @@ still_there op after a b o sets c j some =
       | inr other ↦ rw (sets.others c j other) some
     ]
 
-no_last : (found : Option ℕ) → found ≡ None → IsSome found → ⊥
+pub no_last : (found : Option ℕ) → found ≡ None → IsSome found → ⊥
 no_last None is some = absurd (let none : ⊥ = cc in none)
 no_last (Some x) is some = absurd (not_none x (sym is))
 

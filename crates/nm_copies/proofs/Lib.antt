@@ -6,3 +6,5 @@ pub mod Frames
 pub mod Holders
 pub mod Edits
 pub mod Table
+pub mod Mapping
+pub mod Seeing

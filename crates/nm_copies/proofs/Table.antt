@@ -35,7 +35,7 @@ use Rattle.nm_copies.proofs.Edits.{KeepsFrames, law_table, other_page, all_front
 use Rattle.nm_copies.proofs.Flags.{same_flag}
 
 -- a step on the table word of v, by an actor whose view keeps its cache
-keeps_frames : (g : Geometry) (m : World) (a v x : ℕ) (new : View) → new.cache ≡ (m.view a).cache → KeepsFrames (copy_sight (sight_of g m)) (copy_sight (sight_at g (written (words.Pte v) x m.word) (viewing a new m.view)))
+pub keeps_frames : (g : Geometry) (m : World) (a v x : ℕ) (new : View) → new.cache ≡ (m.view a).cache → KeepsFrames (copy_sight (sight_of g m)) (copy_sight (sight_at g (written (words.Pte v) x m.word) (viewing a new m.view)))
 keeps_frames g m a v x new cache = record { home = λ b. refl; mem = λ f i. refl; entry = entries_before a new m.view (λ u e is. rw (sym cache) is) }
 
 fill_same : (view new : View) (f : ℕ) (x : Fill) → new.owned ≡ view.owned → fill_of new f ≡ Some x → fill_of view f ≡ Some x
@@ -90,7 +90,7 @@ clear_own g k after a b v o s fill only held h =
     (λ naming late. let both : true ≡ false = late in absurd cc)
     (λ f is. twin_kept g k after b f s only (h.equal f (fill f (Equal b) is)))
 
-edit_is : (g : Geometry) (v page : ℕ) (f : Op → Op) (ops : List Op) → backing_page g v ≡ Some page → edit_under (backing_page g v) f ops ≡ edit_under (Some page) f ops
+pub edit_is : (g : Geometry) (v page : ℕ) (f : Op → Op) (ops : List Op) → backing_page g v ≡ Some page → edit_under (backing_page g v) f ops ≡ edit_under (Some page) f ops
 edit_is g v page f ops of = ap (λ (p : Option ℕ). edit_under p f ops) of
 
 -- the fills of the actor are as before, where its new view keeps its frames
