@@ -51,7 +51,7 @@ tames_and word flags two three = record {
   undirtied = λ not. sym (same_flag _ _ (bit_and_kept word (all_but flags) 3 three)) ∙ not;
 }
 
-by_flag : (b : Bool) → (b ≡ true → ⊥) → b ≡ false
+pub by_flag : (b : Bool) → (b ≡ true → ⊥) → b ≡ false
 by_flag true h = absurd (h refl)
 by_flag false h = refl
 

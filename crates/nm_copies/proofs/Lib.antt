@@ -8,3 +8,6 @@ pub mod Edits
 pub mod Table
 pub mod Mapping
 pub mod Seeing
+pub mod Emptied
+pub mod Copying
+pub mod Memory
