@@ -11,3 +11,4 @@ pub mod Seeing
 pub mod Emptied
 pub mod Copying
 pub mod Memory
+pub mod Storing
