@@ -16,14 +16,14 @@ use Rattle.nm_world.specs.Sights.{Sight}
 use Rattle.nm_world.specs.Notions.{IsOut, IsClean, IsStanding}
 use Rattle.nm_copies.specs.Facts.{IsInformed, HasStanding}
 
-some_item : (found : Option (ℕ × ℕ)) → IsSome found → (p : ℕ × ℕ) × (found ≡ Some p)
+pub some_item : (found : Option (ℕ × ℕ)) → IsSome found → (p : ℕ × ℕ) × (found ≡ Some p)
 some_item None h = absurd (let none : ⊥ = cc in none)
 some_item (Some p) h = (p, refl)
 
 is_taken : (found : Option (ℕ × ℕ)) (p : ℕ × ℕ) → found ≡ Some p → IsSome found
 is_taken found p is = rw is cc
 
-if_at : (found : Option (ℕ × ℕ)) (p : ℕ × ℕ) (P : ℕ × ℕ → Type 0) → found ≡ Some p → IfSome found P → P p
+pub if_at : (found : Option (ℕ × ℕ)) (p : ℕ × ℕ) (P : ℕ × ℕ → Type 0) → found ≡ Some p → IfSome found P → P p
 if_at found p P is h = subst (λ (o : Option (ℕ × ℕ)). IfSome o P) is h
 
 -- a virtual page that was looked at and not taken was looked at as 0, and its word is 0
@@ -49,7 +49,7 @@ pub emptied : (g : Geometry) (m : Sight) (b : ℕ) (o : Op) → IsUnmapped g o �
 emptied g m b o unmapped informed v of = emptied_at g m b v o (find first v o.taken) refl unmapped informed of
 
 -- an entry that stands on a table word has one that is not 0
-standing_some : (word : ℕ) (e : CacheEntry) → IsStanding word e → word ≡ 0 → ⊥
+pub standing_some : (word : ℕ) (e : CacheEntry) → IsStanding word e → word ≡ 0 → ⊥
 standing_some word e stands none =
     let one : bit_at word 0 ≡ 1 = eqb-true (bit_at word 0) 1 stands.present in
     let zero : bit_at word 0 ≡ 0 = ap (λ n. bit_at n 0) none ∙ bit_at-zero 0 in

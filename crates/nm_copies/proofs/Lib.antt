@@ -12,3 +12,4 @@ pub mod Emptied
 pub mod Copying
 pub mod Memory
 pub mod Storing
+pub mod Homes

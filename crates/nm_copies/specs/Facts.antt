@@ -1,5 +1,5 @@
 -- What the copy law takes from the other groups, and from the geometry.
-use Rattle.std.specs.Prelude.{◌≡◌, ◌≢◌, ℕ, ◌<◌, Bool, List, Option, Some, None, IfSome, IsTrue, true, false}
+use Rattle.std.specs.Prelude.{◌≡◌, ◌≢◌, ℕ, ◌<◌, Bool, List, [], Option, Some, None, IfSome, IsTrue, true, false}
 use Rattle.nm_base.specs.Geometry.{Geometry, backing_page}
 use Rattle.nm_base.specs.HomeWord.{home_word}
 use Rattle.nm_base.specs.ShadowWord.{NamesShadow}
@@ -9,10 +9,10 @@ use Rattle.nm_view.specs.declared.view.Fill.{Fill}
 use Rattle.nm_view.specs.declared.view.Phase.TheVariants.{Held, Cleared}
 use Rattle.nm_view.specs.Lists.{find, first}
 use Rattle.nm_view.specs.Views.{Op}
-use Rattle.nm_view.specs.Operations.{IsTaken, IsFlushEnded}
+use Rattle.nm_view.specs.Operations.{IsTaken, IsFlushEnded, IsLookedOver, names_one}
 use Rattle.nm_event.specs.Fitting.{Agrees}
 use Rattle.nm_world.specs.Sights.{Sight}
-use Rattle.nm_world.specs.Notions.{IsStanding, IsClean}
+use Rattle.nm_world.specs.Notions.{IsStanding, HasOne}
 
 -- of locks: only one actor has an operation on a page
 pub record HasHolders (op : ℕ → ℕ → Option Op) : Type 0 where
@@ -33,6 +33,16 @@ pub record HasInformed (g : Geometry) (m : Sight) : Type 0 where
 pub record HasStages (op : ℕ → ℕ → Option Op) : Type 0 where
   pub held : (a b : ℕ) (o : Op) → op a b ≡ Some o → o.phase ≡ Held → o.cleared ≡ false
   pub cleared : (a b : ℕ) (o : Op) → op a b ≡ Some o → o.phase ≡ Cleared → o.cleared ≡ true
+
+-- of locks: an operation that names a virtual page has looked at all of its page, and one alone is looked at as not 0 or taken
+pub record HasNamed (g : Geometry) (op : ℕ → ℕ → Option Op) : Type 0 where
+  pub over : (a b : ℕ) (o : Op) → op a b ≡ Some o → names_one o.phase o.cleared o.moved ≡ true → IsLookedOver g o.page o.looked
+  pub alone : (a b : ℕ) (o : Op) → op a b ≡ Some o → names_one o.phase o.cleared o.moved ≡ true → HasOne o.looked o.taken
+
+-- of frames: a page with a table word that is not 0, or, before a SetHome, with a taken word, has a home
+pub record HasMapped (g : Geometry) (m : Sight) : Type 0 where
+  pub words : (v b : ℕ) → backing_page g v ≡ Some b → m.pte v ≢ 0 → m.home b ≢ 0
+  pub taken : (a b : ℕ) (o : Op) → m.op a b ≡ Some o → o.moved ≡ false → o.taken ≢ [] → m.home b ≢ 0
 
 -- of caches: an entry of a page leads to the home of the page
 pub record HasHomes (g : Geometry) (m : Sight) : Type 0 where
