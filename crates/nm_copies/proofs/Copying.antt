@@ -74,7 +74,7 @@ load_own g k a b n o h late out clean value = record {
   equal = h.equal;
 }
 
-known_word : (o : Option ℕ) (P : ℕ → Type 0) → IsSomeAnd o P → (h : ℕ) × ((o ≡ Some h) × P h)
+pub known_word : (o : Option ℕ) (P : ℕ → Type 0) → IsSomeAnd o P → (h : ℕ) × ((o ≡ Some h) × P h)
 known_word None P h = absurd h
 known_word (Some h) P is = (h, (refl, is))
 

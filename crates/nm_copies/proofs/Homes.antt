@@ -64,13 +64,13 @@ put_from b word f x owned some is =
       | inr other ↦ inl (sym (ap (option_map (λ (w : Owned). w.fill)) (find_put_other owned_frame item f owned (λ s. other (sym s)))) ∙ is)
     ]
 
-let_go_from : (b f : ℕ) (x : Fill) (home : Option ℕ) (owned : List Owned) → fill_in (let_go b home owned) f ≡ Some x → (fill_in owned f ≡ Some x) ⊎ IsLetGo b home f x
+pub let_go_from : (b f : ℕ) (x : Fill) (home : Option ℕ) (owned : List Owned) → fill_in (let_go b home owned) f ≡ Some x → (fill_in owned f ≡ Some x) ⊎ IsLetGo b home f x
 let_go_from b f x None owned is = inl is
 let_go_from b f x (Some word) owned is =
     choose (λ (ws : List Owned). fill_in ws f ≡ Some x → (fill_in owned f ≡ Some x) ⊎ IsLetGo b (Some word) f x) word 0 owned (owning (word - 1) (Equal b) owned)
     (λ zero is. inl is) (λ some is. put_from b word f x owned some is) is
 
-erased_from : (f h : ℕ) (x : Fill) (owned : List Owned) → Once owned_frame owned → fill_in (erase owned_frame h owned) f ≡ Some x → fill_in owned f ≡ Some x
+pub erased_from : (f h : ℕ) (x : Fill) (owned : List Owned) → Once owned_frame owned → fill_in (erase owned_frame h owned) f ≡ Some x → fill_in owned f ≡ Some x
 erased_from f h x owned once is =
     elim (cases_eq f h) [
       | inl same ↦
@@ -108,7 +108,7 @@ unnamed_phase Taken true true held naming after = absurd (let both : false ≡ t
 unnamed_phase Taken true false held naming after = (refl, (refl, refl))
 unnamed_phase Taken false moved held naming after = absurd (let both : false ≡ true = naming in cc)
 
-ready_demanded : (g : Geometry) (m : Sight) (a b f : ℕ) (o : Op) (x : Fill) → m.op a b ≡ Some o → m.fill a f ≡ Some x → IsHomeDemanded g o x → IsInformed g m b o → HasMapped g m → HasHomes g m → (o.phase ≡ Held → o.cleared ≡ false) → (o.cleared ≡ true → o.phase ≡ Taken → o.taken ≢ []) → CopyLaw g m → IsReadyHome g m b f o
+pub ready_demanded : (g : Geometry) (m : Sight) (a b f : ℕ) (o : Op) (x : Fill) → m.op a b ≡ Some o → m.fill a f ≡ Some x → IsHomeDemanded g o x → IsInformed g m b o → HasMapped g m → HasHomes g m → (o.phase ≡ Held → o.cleared ≡ false) → (o.cleared ≡ true → o.phase ≡ Taken → o.taken ≢ []) → CopyLaw g m → IsReadyHome g m b f o
 ready_demanded g m a b f o x here owned may informed mapped homes held some h =
     let none : m.home b ≡ 0 = sym (informed.home 0 may.home) in
     let zero : (i : ℕ) → value_of m.home m.mem b i ≡ 0 = λ i. rw none refl in
@@ -127,7 +127,7 @@ unspoilt_unnamed g pte b naming taken off = record { table = λ on. absurd (let 
 taken_unnamed : (phase : Phase) (cleared moved : Bool) → phase ≡ Taken → cleared ≡ false → names_one phase cleared moved ≡ false
 taken_unnamed phase cleared moved is off = rw (is, off) refl
 
-ready_moved : (g : Geometry) (m : Sight) (a b f : ℕ) (o : Op) (x : Fill) → m.op a b ≡ Some o → m.fill a f ≡ Some x → IsHomeMoved g o x → IsInformed g m b o → HasStanding g m → CopyLaw g m → IsReadyHome g m b f o
+pub ready_moved : (g : Geometry) (m : Sight) (a b f : ℕ) (o : Op) (x : Fill) → m.op a b ≡ Some o → m.fill a f ≡ Some x → IsHomeMoved g o x → IsInformed g m b o → HasStanding g m → CopyLaw g m → IsReadyHome g m b f o
 ready_moved g m a b f o x here owned may informed standing h =
     let own = h.ops a b o here in
     let unnamed : names_one o.phase o.cleared o.moved ≡ false = taken_unnamed o.phase o.cleared o.moved may.unmapped.phase.taken may.unmapped.phase.uncleared in
@@ -169,7 +169,7 @@ named_out g m a b o here naming some informed named u of =
     let p = some_item (find first u o.looked) (named.over a b o here naming u (of ∙ ap Some (sym informed.page))) in
     named_word g m b u one.0 o p.0 (find first u o.taken) refl informed of p.1 taken (all_find first u (λ q. q.1 ≢ 0 → q.0 ≡ one.0) o.looked p.0 one.1.looks p.1)
 
-ready_committed : (g : Geometry) (m : Sight) (a b f : ℕ) (o : Op) (x : Fill) → m.op a b ≡ Some o → m.fill a f ≡ Some x → IsHomeCommitted g o x → IsInformed g m b o → HasNamed g m.op → HasStanding g m → CopyLaw g m → IsReadyHome g m b f o
+pub ready_committed : (g : Geometry) (m : Sight) (a b f : ℕ) (o : Op) (x : Fill) → m.op a b ≡ Some o → m.fill a f ≡ Some x → IsHomeCommitted g o x → IsInformed g m b o → HasNamed g m.op → HasStanding g m → CopyLaw g m → IsReadyHome g m b f o
 ready_committed g m a b f o x here owned may informed named standing h =
     let own = h.ops a b o here in
     let filled : m.fill a f ≡ Some (Copied b g.words) = owned ∙ ap Some may.filled ∙ ap (λ p. Some (Copied p g.words)) informed.page in
@@ -249,7 +249,7 @@ home_leaves g m after a b f c j other writes pte mem entry fills = record {
   twin_clean = λ u. clean_stays g (copy_sight m) (copy_sight after) j entry;
 }
 
-law_homed : (g : Geometry) (m after : Sight) (a b f : ℕ) (o : Op) → HasHolders m.op → Sets m.op after.op a b (Some (homed_at f o)) → m.op a b ≡ Some o → Writes m.home after.home b (home_word f) → ((v : ℕ) → after.pte v ≡ m.pte v) → ((h i : ℕ) → after.mem h i ≡ m.mem h i) → ((c v : ℕ) (e : CacheEntry) → after.entry c v ≡ Some e → m.entry c v ≡ Some e) → FillsOrOld m after a b → IsReadyHome g m b f o → CopyLaw g m → CopyLaw g after
+pub law_homed : (g : Geometry) (m after : Sight) (a b f : ℕ) (o : Op) → HasHolders m.op → Sets m.op after.op a b (Some (homed_at f o)) → m.op a b ≡ Some o → Writes m.home after.home b (home_word f) → ((v : ℕ) → after.pte v ≡ m.pte v) → ((h i : ℕ) → after.mem h i ≡ m.mem h i) → ((c v : ℕ) (e : CacheEntry) → after.entry c v ≡ Some e → m.entry c v ≡ Some e) → FillsOrOld m after a b → IsReadyHome g m b f o → CopyLaw g m → CopyLaw g after
 law_homed g m after a b f o holders sets here writes pte mem entry fills ready h =
     law_edited g m after a b o (homed_at f o) holders sets here
     (λ c k n is i lt. mem k i ∙ elim (fills c k (Zeroed n) is) [ inl was ↦ h.zeroed c k n was i lt | inr old ↦ absurd (zeroed_equal b n old.1.is) ])

@@ -13,3 +13,5 @@ pub mod Copying
 pub mod Memory
 pub mod Storing
 pub mod Homes
+pub mod Homing
+pub mod Unshading

@@ -2,7 +2,7 @@
 use Rattle.std.specs.Prelude.{◌≡◌, ◌≢◌, ℕ, ◌<◌, Bool, List, [], Option, Some, None, IfSome, IsTrue, true, false}
 use Rattle.nm_base.specs.Geometry.{Geometry, backing_page}
 use Rattle.nm_base.specs.HomeWord.{home_word}
-use Rattle.nm_base.specs.ShadowWord.{NamesShadow}
+use Rattle.nm_base.specs.ShadowWord.{shadow_frame}
 use Rattle.nm_base.specs.Ranges.{IsIndex, IsFrame}
 use Rattle.nm_view.specs.declared.view.CacheEntry.{CacheEntry}
 use Rattle.nm_view.specs.declared.view.Fill.{Fill}
@@ -12,16 +12,17 @@ use Rattle.nm_view.specs.Views.{Op}
 use Rattle.nm_view.specs.Operations.{IsTaken, IsFlushEnded, IsLookedOver, names_one}
 use Rattle.nm_event.specs.Fitting.{Agrees}
 use Rattle.nm_world.specs.Sights.{Sight}
-use Rattle.nm_world.specs.Notions.{IsStanding, HasOne}
+use Rattle.nm_world.specs.Notions.{IsStanding, HasOne, IsReadOnly, IsClean}
 
 -- of locks: only one actor has an operation on a page
 pub record HasHolders (op : ℕ → ℕ → Option Op) : Type 0 where
   pub sole : (a c b : ℕ) (o p : Op) → op a b ≡ Some o → op c b ≡ Some p → c ≡ a
 
--- what an operation on b knows is so: the home; a word of b that was taken is 0; one that was looked at and not taken agrees
+-- what an operation on b knows is so: the home, and the shadow word of this home; a word of b that was taken is 0; one that was looked at and not taken agrees
 pub record IsInformed (g : Geometry) (m : Sight) (b : ℕ) (o : Op) : Type 0 where
   pub page : o.page ≡ b
   pub home : (h : ℕ) → o.home ≡ Some h → h ≡ m.home b
+  pub shadow : (word k : ℕ) → o.shadow ≡ Some word → m.home b ≡ home_word k → word ≡ m.shadow k
   pub taken : (v : ℕ) → backing_page g v ≡ Some b → IsTaken o.taken v → m.pte v ≡ 0
   pub looked : (v : ℕ) → backing_page g v ≡ Some b → find first v o.taken ≡ None → IfSome (find first v o.looked) (λ p. Agrees p.1 (m.pte v))
 
@@ -58,3 +59,13 @@ pub record HasRoles (m : Sight) : Type 0 where
   pub one_page : (b c f : ℕ) → m.home b ≡ home_word f → m.home c ≡ home_word f → b ≡ c
   pub owned : (a b f : ℕ) (x : Fill) → m.fill a f ≡ Some x → m.home b ≢ home_word f
   pub owner : (a c f : ℕ) (x y : Fill) → m.fill a f ≡ Some x → m.fill c f ≡ Some y → c ≡ a
+
+-- of shadows and frames: page b, whose home is k, equals frame f, is not writable, and no cache has a dirty entry of it
+pub record IsShadowed (g : Geometry) (m : Sight) (b k f : ℕ) : Type 0 where
+  pub equal : (i : ℕ) → IsIndex g i → m.mem k i ≡ m.mem f i
+  pub unwritable : IsReadOnly g m.pte b
+  pub clean : IsClean g m.entry b
+
+-- of shadows and frames: a page whose home has a shadow is shadowed by the frame that the shadow word names
+pub record HasShadowed (g : Geometry) (m : Sight) : Type 0 where
+  pub shadowed : (b k : ℕ) → m.home b ≡ home_word k → m.shadow k ≢ 0 → IsShadowed g m b k (shadow_frame (m.shadow k))
