@@ -19,27 +19,17 @@ use Rattle.nm_world.specs.CopyLaw.{CopyLaw}
 use Rattle.nm_world.specs.Laws.{IsReady}
 use Rattle.nm_world.proofs.Choose.{choose}
 use Rattle.nm_world.proofs.Writing.{edit_sets, word_writes}
-use Rattle.nm_copies.specs.Facts.{HasHolders, HasInformed, HasStages, HasNamed, HasMapped, HasHomes, HasStanding}
+use Rattle.nm_copies.specs.Facts.{CopyFacts}
 use Rattle.nm_copies.proofs.Quiet.{entries_before}
 use Rattle.nm_copies.proofs.Copying.{known_op}
 use Rattle.nm_copies.proofs.Homes.{IsLetGo, FillsOrOld, IsReadyHome, let_go_from, erased_from, ready_demanded, ready_committed, ready_moved, law_homed}
-
--- what a SetHome takes from the other groups
-pub record HomeFacts (g : Geometry) (m : Sight) : Type 0 where
-  pub holders : HasHolders m.op
-  pub informed : HasInformed g m
-  pub stages : HasStages m.op
-  pub named : HasNamed g m.op
-  pub mapped : HasMapped g m
-  pub homes : HasHomes g m
-  pub standing : HasStanding g m
 
 known_fill : (P : Fill → Type 0) (found : Option Fill) → IsSomeAnd found P → (x : Fill) × ((found ≡ Some x) × P x)
 known_fill P None h = absurd h
 known_fill P (Some x) h = (x, (refl, h))
 
 -- each of the new homes is ready
-ready_home : (g : Geometry) (m : World) (a b f : ℕ) (o : Op) (x : Fill) → HomeFacts g (sight_of g m) → IsReady g m a (SetHome b f) → op_on (m.view a) b ≡ Some o → fill_of (m.view a) f ≡ Some x → HasNewHome g x o → CopyLaw g (sight_of g m) → IsReadyHome g (sight_of g m) b f o
+ready_home : (g : Geometry) (m : World) (a b f : ℕ) (o : Op) (x : Fill) → CopyFacts g (sight_of g m) → IsReady g m a (SetHome b f) → op_on (m.view a) b ≡ Some o → fill_of (m.view a) f ≡ Some x → HasNewHome g x o → CopyLaw g (sight_of g m) → IsReadyHome g (sight_of g m) b f o
 ready_home g m a b f o x facts r here owned may h =
     let s : Sight = sight_of g m in
     let informed = facts.informed.informed a b o here in
@@ -53,7 +43,7 @@ ready_home g m a b f o x facts r here owned may h =
     ]
 
 -- the fills of the new view: those that were there, and the old home's
-home_fills : (g : Geometry) (m : World) (a b f : ℕ) (o : Op) (new : View) → HomeFacts g (sight_of g m) → IsReady g m a (SetHome b f) → op_on (m.view a) b ≡ Some o → new.owned ≡ let_go b (known_home (op_on (m.view a) b)) (erase owned_frame f (m.view a).owned) → (k : ℕ) (x : Fill) → fill_of new k ≡ Some x → (fill_of (m.view a) k ≡ Some x) ⊎ IsLetGo b (Some ((sight_of g m).home b)) k x
+home_fills : (g : Geometry) (m : World) (a b f : ℕ) (o : Op) (new : View) → CopyFacts g (sight_of g m) → IsReady g m a (SetHome b f) → op_on (m.view a) b ≡ Some o → new.owned ≡ let_go b (known_home (op_on (m.view a) b)) (erase owned_frame f (m.view a).owned) → (k : ℕ) (x : Fill) → fill_of new k ≡ Some x → (fill_of (m.view a) k ≡ Some x) ⊎ IsLetGo b (Some ((sight_of g m).home b)) k x
 home_fills g m a b f o new facts r here owned k x is =
     let erased = erase owned_frame f (m.view a).owned in
     let known : new.owned ≡ let_go b o.home erased = owned ∙ ap (λ found. let_go b (known_home found) erased) here in
@@ -72,7 +62,7 @@ all_fills g m a b new own c k x =
     ])
     (λ other is. inl is)
 
-pub copies-set_home : (g : Geometry) (m : World) (a b f : ℕ) → HomeFacts g (sight_of g m) → IsReady g m a (SetHome b f) → CopyLaw g (sight_of g m) → CopyLaw g (sight_of g (moved g m a (SetHome b f)))
+pub copies-set_home : (g : Geometry) (m : World) (a b f : ℕ) → CopyFacts g (sight_of g m) → IsReady g m a (SetHome b f) → CopyLaw g (sight_of g m) → CopyLaw g (sight_of g (moved g m a (SetHome b f)))
 copies-set_home g m a b f facts r h =
     let view : View = m.view a in
     let new : View = after_of g view (SetHome b f) Done in

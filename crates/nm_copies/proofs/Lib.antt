@@ -15,3 +15,4 @@ pub mod Storing
 pub mod Homes
 pub mod Homing
 pub mod Unshading
+pub mod Kept

@@ -69,3 +69,16 @@ pub record IsShadowed (g : Geometry) (m : Sight) (b k f : ℕ) : Type 0 where
 -- of shadows and frames: a page whose home has a shadow is shadowed by the frame that the shadow word names
 pub record HasShadowed (g : Geometry) (m : Sight) : Type 0 where
   pub shadowed : (b k : ℕ) → m.home b ≡ home_word k → m.shadow k ≢ 0 → IsShadowed g m b k (shadow_frame (m.shadow k))
+
+-- what the copy law takes from the others, of the world before a step
+pub record CopyFacts (g : Geometry) (m : Sight) : Type 0 where
+  pub processors : 0 < g.cpus
+  pub holders : HasHolders m.op
+  pub informed : HasInformed g m
+  pub stages : HasStages m.op
+  pub named : HasNamed g m.op
+  pub mapped : HasMapped g m
+  pub homes : HasHomes g m
+  pub standing : HasStanding g m
+  pub roles : HasRoles m
+  pub shadowed : HasShadowed g m
