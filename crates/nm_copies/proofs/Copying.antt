@@ -1,36 +1,31 @@
 -- CopyLoad and CopyStore.
-use Rattle.std.proofs.Common.{◌≡◌, ◌≢◌, ℕ, ◌+◌, ◌-◌, ◌<◌, ◌≤◌, ◌==◌, ◌&&◌, ◌⊎◌, not, if◌then◌else◌, Bool, true, false, List, Option, Some, None, IsSome, IsSomeAnd, refl, sym, ap, subst, ◌∙◌, inl, inr, arith}
-use Rattle.std.specs.Prelude.{option_map}
+use Rattle.std.proofs.Common.{◌≡◌, ◌≢◌, ℕ, ◌-◌, ◌==◌, not, if◌then◌else◌, Bool, true, false, Option, Some, None, IsSomeAnd, refl, sym, ap, ◌∙◌, inr}
 use Rattle.std.proofs.lemmas.Bool.{eqb-true}
 use Rattle.nm_base.specs.Geometry.{Geometry}
-use Rattle.nm_base.specs.HomeWord.{home_word}
-use Rattle.nm_base.specs.Ranges.{IsIndex}
-use Rattle.nm_action.specs.declared.action.Reply.TheVariants.{Done, Word}
-use Rattle.nm_action.specs.declared.action.Action.TheVariants.{CopyLoad, CopyStore}
+use Rattle.nm_action.specs.declared.action.Reply.TheVariants.{Word}
+use Rattle.nm_action.specs.declared.action.Action.TheVariants.{CopyLoad}
 use Rattle.nm_words.specs.declared.names.Where.{Where}
 use Rattle.nm_words.specs.declared.names.Where.TheVariants as words
 use Rattle.nm_step.specs.Table.{home_frame, named_frame}
 use Rattle.nm_view.specs.declared.view.Phase.{Phase}
 use Rattle.nm_view.specs.declared.view.Phase.TheVariants.{Held, Cleared, Taken}
-use Rattle.nm_view.specs.declared.view.Fill.{Fill}
-use Rattle.nm_view.specs.declared.view.Fill.TheVariants.{Raw, Zeroed, Copied, Equal}
 use Rattle.nm_view.specs.Views.{Op, View}
 use Rattle.nm_view.specs.Operations.{fill_of, op_on, known_home, names_one, is_early, is_flush_ended, IsUnmapped}
 use Rattle.nm_view.proofs.Known.{is-IsFlushEnded}
-use Rattle.nm_permit.specs.Permitted.{MayCopyLoad, IsCopyingPhase, IsUnmappedUnmoved}
-use Rattle.nm_event.specs.After.{after_of, loaded, copied_one, edit_under}
-use Rattle.nm_world.specs.Worlds.{World, moved, viewing, written, found_in}
-use Rattle.nm_world.specs.Parts.{Copier, copier_of}
-use Rattle.nm_world.specs.Sights.{Sight, Sets, sight_of, sight_at}
+use Rattle.nm_permit.specs.Permitted.{MayCopyLoad, IsCopyingPhase}
+use Rattle.nm_event.specs.After.{after_of, loaded}
+use Rattle.nm_world.specs.Worlds.{World, moved, viewing, written}
+use Rattle.nm_world.specs.Parts.{copier_of}
+use Rattle.nm_world.specs.Sights.{Sight, sight_of, sight_at}
 use Rattle.nm_world.specs.Notions.{IsClean, IsOut, value_of}
-use Rattle.nm_world.specs.CopyLaw.{CopyLaw, CopySight, copy_sight, HasCopies, IsUnspoilt, OpCopies}
+use Rattle.nm_world.specs.CopyLaw.{CopyLaw, CopySight, copy_sight, OpCopies}
 use Rattle.nm_world.specs.Laws.{IsReady}
 use Rattle.nm_world.proofs.Writing.{edit_sets}
 use Rattle.nm_copies.specs.Facts.{HasHolders, HasInformed, HasStanding, IsInformed}
 use Rattle.nm_copies.proofs.Still.{Stays, stays_tame, tame_leaves, copies_left}
 use Rattle.nm_copies.proofs.Quiet.{read_keeps, view_part, entries_before}
 use Rattle.nm_copies.proofs.Flags.{by_flag}
-use Rattle.nm_copies.proofs.Edits.{KeepsFrames, law_table}
+use Rattle.nm_copies.proofs.Edits.{law_table}
 use Rattle.nm_copies.proofs.Emptied.{emptied, uncached}
 
 -- the operation of a permission
@@ -105,11 +100,11 @@ copies-copy_load g m a b i holders knows standing r h =
     let may : MayCopyLoad g i o = on.1.1 in
     let informed = knows.informed a b o on.1.0 in
     let own : OpCopies g k a b (copier_of g (loaded n o)) =
-        load_own g k a b n o (h.ops a b o on.1.0)
-        (copying_late g o o.phase refl may.phase (is-IsFlushEnded g o may.flushed))
-        (λ unnamed. emptied g before b o (copying_unmapped g o o.phase refl may.phase unnamed) informed)
-        (λ unnamed. uncached g before a b o on.1.0 (copying_unmapped g o o.phase refl may.phase unnamed) informed standing)
-        (load_value g before view b i o on.1.0 informed may) in
+    load_own g k a b n o (h.ops a b o on.1.0)
+    (copying_late g o o.phase refl may.phase (is-IsFlushEnded g o may.flushed))
+    (λ unnamed. emptied g before b o (copying_unmapped g o o.phase refl may.phase unnamed) informed)
+    (λ unnamed. uncached g before a b o on.1.0 (copying_unmapped g o o.phase refl may.phase unnamed) informed standing)
+    (load_value g before view b i o on.1.0 informed may) in
     law_table g before after a b o (loaded n o) holders
     (edit_sets a b (loaded n) o new m.view (λ o. refl) refl on.1.0) on.1.0
     (record { home = keeps.home; mem = keeps.mem; entry = s.entry })

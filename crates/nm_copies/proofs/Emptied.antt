@@ -1,14 +1,13 @@
 -- A page that its operation found out of the table: every table word of it is 0, and no cache has a dirty entry of it.
-use Rattle.std.proofs.Common.{◌≡◌, ◌≢◌, ℕ, ◌==◌, Bool, true, false, IsTrue, List, Option, Some, None, IsSome, IfSome, All, refl, sym, ap, subst, ◌∙◌, inl, inr, arith}
+use Rattle.std.proofs.Common.{◌≡◌, ◌≢◌, ℕ, Option, Some, None, IsSome, IfSome, refl, sym, ap, subst, ◌∙◌, inl, inr, arith}
 use Rattle.std.specs.Int.{bit_at}
 use Rattle.std.proofs.lemmas.Bool.{cases_eq, eqb-true}
 use Rattle.std.proofs.lemmas.Nat.Bits.{bit_at-zero}
 use Rattle.nm_base.specs.Geometry.{Geometry, backing_page}
-use Rattle.nm_base.specs.PageWord.{is_present, is_dirty}
 use Rattle.nm_view.specs.declared.view.CacheEntry.{CacheEntry}
 use Rattle.nm_view.specs.Lists.{find, first}
 use Rattle.nm_view.specs.Views.{Op}
-use Rattle.nm_view.specs.Operations.{IsUnmapped, IsAllTaken, IsTaken}
+use Rattle.nm_view.specs.Operations.{IsUnmapped, IsTaken}
 use Rattle.nm_view.proofs.Finds.{find_number}
 use Rattle.nm_view.proofs.Items.{all_find, not_none}
 use Rattle.nm_event.specs.Fitting.{Agrees}

@@ -1,23 +1,22 @@
 -- The copy law where fills change: each fill after the step that tells something was there before.
-use Rattle.std.proofs.Common.{◌≡◌, ◌≢◌, ℕ, ◌<◌, ◌⊎◌, ◌==◌, if◌then◌else◌, Bool, true, false, List, map, Option, Some, None, IsSome, refl, sym, ap, subst, ◌∙◌, inl, inr, arith}
+use Rattle.std.proofs.Common.{◌≡◌, ◌≢◌, ℕ, ◌⊎◌, ◌==◌, if◌then◌else◌, true, false, Option, Some, None, IsSome, refl, sym, ap, subst, ◌∙◌, inl, inr}
 use Rattle.std.specs.Prelude.{option_map}
-use Rattle.std.proofs.lemmas.Bool.{cases_eq}
-use Rattle.nm_base.specs.Geometry.{Geometry, backing_page}
+use Rattle.nm_base.specs.Geometry.{Geometry}
 use Rattle.nm_view.specs.declared.view.CacheEntry.{CacheEntry}
 use Rattle.nm_view.specs.declared.view.Fill.{Fill}
 use Rattle.nm_view.specs.declared.view.Fill.TheVariants.{Raw, Zeroed, Copied, Equal}
 use Rattle.nm_view.specs.declared.view.Owned.{Owned}
 use Rattle.nm_view.specs.Lists.{find}
-use Rattle.nm_view.specs.Views.{Op, View}
+use Rattle.nm_view.specs.Views.{View}
 use Rattle.nm_view.specs.Operations.{owned_frame, fill_of}
 use Rattle.nm_view.proofs.Finds.{find_map}
 use Rattle.nm_view.proofs.Items.{not_none, some_same}
 use Rattle.nm_event.specs.After.{spoiled, spoiled_fill, spoiled_frame}
 use Rattle.nm_world.specs.Worlds.{viewing}
-use Rattle.nm_world.specs.Parts.{Copier, copier_of}
+use Rattle.nm_world.specs.Parts.{Copier}
 use Rattle.nm_world.specs.Sights.{Sight}
 use Rattle.nm_world.specs.Notions.{IsClean, fill_page}
-use Rattle.nm_world.specs.CopyLaw.{CopySight, copy_sight, OwnsCopy, HasCopies, IsUnspoilt, OpCopies, CopyLaw}
+use Rattle.nm_world.specs.CopyLaw.{CopySight, copy_sight, HasCopies, IsUnspoilt, OpCopies, CopyLaw}
 use Rattle.nm_world.proofs.Choose.{choose}
 use Rattle.nm_copies.proofs.Still.{Leaves, SameCopiers, ops_left, some_from, value_same, clean_stays}
 

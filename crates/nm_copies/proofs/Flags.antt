@@ -1,5 +1,5 @@
 -- The kinds that change flags of a table word and no operation: Soften, Arm, Walk.
-use Rattle.std.proofs.Common.{◌≡◌, ◌≢◌, ℕ, ◌+◌, ◌^◌, ◌<◌, ◌≤◌, ◌==◌, ◌&&◌, ◌||◌, max, if◌then◌else◌, bit_and, bit_or, Bool, true, false, IsTrue, Option, Some, None, refl, sym, ap, subst, ◌∙◌, inl, inr, arith}
+use Rattle.std.proofs.Common.{◌≡◌, ◌≢◌, ℕ, ◌==◌, ◌&&◌, ◌||◌, if◌then◌else◌, bit_and, bit_or, Bool, true, false, Option, Some, refl, sym, ap, subst, ◌∙◌, arith}
 use Rattle.std.specs.Prelude.{option_map}
 use Rattle.std.specs.Int.{bit_at}
 use Rattle.std.proofs.lemmas.Bool.{eqb-true, eq-eqb}
@@ -9,19 +9,18 @@ use Rattle.nm_base.specs.Geometry.{Geometry, backing_page}
 use Rattle.nm_base.specs.PageWord.{all_but, hint_mask, walk_mask, walked_word, is_writable, is_dirty}
 use Rattle.nm_action.specs.declared.action.Bit.{Bit}
 use Rattle.nm_action.specs.declared.action.Bit.TheVariants.{Hint, Accessed}
-use Rattle.nm_action.specs.declared.action.Reply.TheVariants.{Done, Word, Lost}
+use Rattle.nm_action.specs.declared.action.Reply.TheVariants.{Done, Lost}
 use Rattle.nm_action.specs.declared.action.Action.TheVariants.{Soften, Arm, Walk}
 use Rattle.nm_words.specs.declared.names.Where.{Where}
 use Rattle.nm_words.specs.declared.names.Where.TheVariants as words
 use Rattle.nm_step.specs.Table.{bit_mask}
 use Rattle.nm_view.specs.declared.view.CacheEntry.{CacheEntry}
-use Rattle.nm_view.specs.Lists.{find}
 use Rattle.nm_view.specs.Views.{View}
-use Rattle.nm_view.specs.Operations.{cached_page, op_on, fill_of}
+use Rattle.nm_view.specs.Operations.{op_on, fill_of}
 use Rattle.nm_event.specs.After.{after_of, walked}
 use Rattle.nm_world.specs.Worlds.{World, moved, viewing, written, pte_at}
 use Rattle.nm_world.specs.Parts.{copier_of}
-use Rattle.nm_world.specs.Sights.{Sight, Sets, sight_of, sight_at}
+use Rattle.nm_world.specs.Sights.{Sets, sight_of, sight_at}
 use Rattle.nm_world.specs.Notions.{IsOut, IsReadOnly, IsUndirtied, IsClean}
 use Rattle.nm_world.specs.CopyLaw.{CopyLaw, CopySight, copy_sight}
 use Rattle.nm_world.specs.Laws.{IsReady}
@@ -29,8 +28,8 @@ use Rattle.nm_world.proofs.Choose.{choose}
 use Rattle.nm_world.proofs.Writing.{entry_put}
 use Rattle.nm_world.proofs.Moves.{edited}
 use Rattle.nm_world.proofs.Bits.{bit_and_kept, bit_or_kept, bit_or_set}
-use Rattle.nm_copies.proofs.Still.{Tames, law_tame, clean_stays}
-use Rattle.nm_copies.proofs.Quiet.{KeepsView, same_view, view_part, entries_before, law_quiet, read_keeps}
+use Rattle.nm_copies.proofs.Still.{law_tame, clean_stays}
+use Rattle.nm_copies.proofs.Quiet.{same_view, view_part, entries_before, law_quiet, read_keeps}
 
 -- a table word after its flags changed: 0 stays 0, it gets no right to write, and loses no dirty bit
 pub record TamesWord (word new : ℕ) : Type 0 where
@@ -85,15 +84,15 @@ law_flagged g m a v x new t fill copier clean h =
     let after = sight_at g (written (words.Pte v) x m.word) (viewing a new m.view) in
     let each = each_tames m.word v x t in
     law_tame g (sight_of g m) after (record {
-        home = λ b. refl;
-        mem = λ f i. refl;
-        fill = λ c f. view_part (λ w. fill_of w f) a new m.view (fill f) c;
-        undirtied = λ b dry u of. (each u).undirtied (dry u of);
-        cached = clean.cached;
-        out = λ b out u of. (each u).zero (out u of);
-        out_clean = clean.out_clean;
-        twin = λ b only u of. (each u).unwritable (only u of);
-        twin_clean = clean.twin_clean;
+      home = λ b. refl;
+      mem = λ f i. refl;
+      fill = λ c f. view_part (λ w. fill_of w f) a new m.view (fill f) c;
+      undirtied = λ b dry u of. (each u).undirtied (dry u of);
+      cached = clean.cached;
+      out = λ b out u of. (each u).zero (out u of);
+      out_clean = clean.out_clean;
+      twin = λ b only u of. (each u).unwritable (only u of);
+      twin_clean = clean.twin_clean;
     })
     (λ c b. view_part (λ w. option_map (copier_of g) (op_on w b)) a new m.view (copier b) c) h
 
@@ -104,9 +103,9 @@ flagged_still g m a v x t h =
     let after = sight_at g (written (words.Pte v) x m.word) (viewing a (m.view a) m.view) in
     let entries = entries_before a (m.view a) m.view (λ u e is. is) in
     law_flagged g m a v x (m.view a) t (λ f. refl) (λ b. refl) (record {
-        cached = λ b u. clean_stays g (copy_sight before) (copy_sight after) b entries;
-        out_clean = λ b u. clean_stays g (copy_sight before) (copy_sight after) b entries;
-        twin_clean = λ b u. clean_stays g (copy_sight before) (copy_sight after) b entries;
+      cached = λ b u. clean_stays g (copy_sight before) (copy_sight after) b entries;
+      out_clean = λ b u. clean_stays g (copy_sight before) (copy_sight after) b entries;
+      twin_clean = λ b u. clean_stays g (copy_sight before) (copy_sight after) b entries;
     }) h
 
 soft_word : (word : ℕ) (bit : Bit) → TamesWord word (bit_and word (all_but (bit_mask bit)))
@@ -159,9 +158,9 @@ walk_done g m a v e write found some h =
     let left : after.pte v ≡ walked_word e write = choose (λ n. n ≡ walked_word e write) v v (walked_word e write) (pte_at m v) (λ s. refl) (λ n. absurd (n refl)) in
     law_flagged g m a v (walked_word e write) new (subst (λ (n : ℕ). TamesWord n (walked_word e write)) (sym found) (walk_tames e write some)) (λ f. refl) (λ b. refl)
     (record {
-        cached = λ b dry. clean_put g before.entry after.entry a v b entry sets (λ of. undirty_walk e write (ap is_dirty (sym left) ∙ dry v of));
-        out_clean = λ b out. clean_put g before.entry after.entry a v b entry sets (λ of. absurd (some (sym found ∙ out v of)));
-        twin_clean = λ b only. clean_put g before.entry after.entry a v b entry sets (λ of. unwritable_walk (is_writable e) (write || is_dirty e) (ap is_writable (sym found) ∙ only v of));
+      cached = λ b dry. clean_put g before.entry after.entry a v b entry sets (λ of. undirty_walk e write (ap is_dirty (sym left) ∙ dry v of));
+      out_clean = λ b out. clean_put g before.entry after.entry a v b entry sets (λ of. absurd (some (sym found ∙ out v of)));
+      twin_clean = λ b only. clean_put g before.entry after.entry a v b entry sets (λ of. unwritable_walk (is_writable e) (write || is_dirty e) (ap is_writable (sym found) ∙ only v of));
     }) h
 
 pub copies-walk : (g : Geometry) (m : World) (a v e : ℕ) (write : Bool) → IsReady g m a (Walk v e write) → CopyLaw g (sight_of g m) → CopyLaw g (sight_of g (moved g m a (Walk v e write)))
@@ -171,6 +170,6 @@ copies-walk g m a v e write r h =
     let Left : Bool → Type 0 = λ b. CopyLaw g (sight_at g (written (words.Pte v) (if b then walked_word e write else n) m.word) (viewing a (after_of g view (Walk v e write) (if b then Done else Lost n)) m.view)) in
     cases_on Left (n == e)
     (λ found.
-        let some : e ≢ 0 = λ none. (let bit : bit_at e 0 ≡ 1 = eqb-true (bit_at e 0) 1 r.allowed.permitted.present in absurd (omega (arith, bit, ap (λ k. bit_at k 0) none ∙ bit_at-zero 0))) in
-        walk_done g m a v e write (eqb-true n e found) some h)
+    let some : e ≢ 0 = λ none. (let bit : bit_at e 0 ≡ 1 = eqb-true (bit_at e 0) 1 r.allowed.permitted.present in absurd (omega (arith, bit, ap (λ k. bit_at k 0) none ∙ bit_at-zero 0))) in
+    walk_done g m a v e write (eqb-true n e found) some h)
     (λ lost. law_quiet g m (written (words.Pte v) n m.word) a view (read_keeps (words.Pte v) m.word) (same_view g view) h)

@@ -1,5 +1,5 @@
 -- The kinds that only give, take away or give on frames: GiveFrame, PutFrame, SetShadow to a shadow.
-use Rattle.std.proofs.Common.{◌≡◌, ◌≢◌, ℕ, ◌^◌, ◌⊎◌, bit_and, bit_or, Option, Some, None, refl, sym, ap, subst, ◌∙◌, inl, inr}
+use Rattle.std.proofs.Common.{◌≡◌, ℕ, ◌⊎◌, Option, Some, None, refl, sym, inl, inr}
 use Rattle.std.specs.Prelude.{option_map}
 use Rattle.nm_base.specs.Geometry.{Geometry}
 use Rattle.nm_action.specs.declared.action.Reply.TheVariants.{Done, Word}
@@ -10,8 +10,7 @@ use Rattle.nm_step.specs.Table.{free_word_of}
 use Rattle.nm_view.specs.declared.view.Fill.{Fill}
 use Rattle.nm_view.specs.declared.view.Fill.TheVariants.{Raw}
 use Rattle.nm_view.specs.Views.{View}
-use Rattle.nm_view.specs.Operations.{fill_of, op_on}
-use Rattle.nm_view.proofs.Items.{some_same}
+use Rattle.nm_view.specs.Operations.{op_on}
 use Rattle.nm_event.specs.After.{after_of, shaded}
 use Rattle.nm_world.specs.Worlds.{World, moved, viewing, left_in}
 use Rattle.nm_world.specs.Parts.{copier_of}

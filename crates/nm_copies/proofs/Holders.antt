@@ -1,20 +1,19 @@
 -- Lock and Unlock.
-use Rattle.std.proofs.Common.{◌≡◌, ◌≢◌, ℕ, ◌+◌, ◌⊎◌, ◌==◌, ◌++◌, [], ◌∷◌, if◌then◌else◌, Bool, true, false, Option, Some, None, IsSome, refl, sym, ap, subst, ◌∙◌, inl, inr}
+use Rattle.std.proofs.Common.{◌≡◌, ◌≢◌, ℕ, ◌+◌, ◌==◌, if◌then◌else◌, Bool, true, false, Option, Some, None, IsSome, refl, sym, ap, subst, ◌∙◌, inl, inr}
 use Rattle.std.proofs.lemmas.Bool.{cases_eq}
 use Rattle.nm_base.specs.Geometry.{Geometry}
 use Rattle.nm_action.specs.declared.action.Reply.TheVariants.{Done, Busy}
 use Rattle.nm_action.specs.declared.action.Action.TheVariants.{Lock, Unlock}
 use Rattle.nm_words.specs.declared.names.Where.{Where}
 use Rattle.nm_words.specs.declared.names.Where.TheVariants as words
-use Rattle.nm_view.specs.declared.view.CacheEntry.{CacheEntry}
 use Rattle.nm_view.specs.declared.view.Fill.{Fill}
-use Rattle.nm_view.specs.declared.view.Fill.TheVariants.{Raw, Copied, Equal}
+use Rattle.nm_view.specs.declared.view.Fill.TheVariants.{Copied, Equal}
 use Rattle.nm_view.specs.Views.{Op, View}
 use Rattle.nm_view.specs.Opening.{opened}
 use Rattle.nm_view.specs.Operations.{fill_of, op_on}
 use Rattle.nm_view.proofs.Items.{not_none}
 use Rattle.nm_event.specs.After.{after_of}
-use Rattle.nm_world.specs.Worlds.{World, moved, viewing, written, lock_at, left_in}
+use Rattle.nm_world.specs.Worlds.{World, moved, viewing, written, lock_at}
 use Rattle.nm_world.specs.Parts.{copier_of}
 use Rattle.nm_world.specs.Sights.{Sight, Sets, sight_of, sight_at}
 use Rattle.nm_world.specs.Notions.{fill_page}
@@ -23,7 +22,7 @@ use Rattle.nm_world.specs.Laws.{IsReady}
 use Rattle.nm_world.proofs.Writing.{own_view, open_sets, close_sets}
 use Rattle.nm_world.proofs.Moves.{edited, gone}
 use Rattle.nm_copies.proofs.Still.{copies_left}
-use Rattle.nm_copies.proofs.Quiet.{KeepsWords, unread_keeps, read_keeps, law_quiet, same_view, view_part, entries_before}
+use Rattle.nm_copies.proofs.Quiet.{unread_keeps, read_keeps, law_quiet, same_view, entries_before}
 use Rattle.nm_copies.proofs.Fills.{FillsFrom, KeepsRest, leaves_fills, fills_from, told_before, zeroed_before, no_copies, spoilt_from}
 use Rattle.nm_copies.proofs.Flags.{cases_on}
 
@@ -67,8 +66,8 @@ law_opened g m after a b o s from sets none unloaded early h =
       has_op = λ c f j x is of. still_there m.op after.op a b o sets c j (h.has_op c f j x (told_before m.fill after.fill c f j x from is of) of);
       ops = edited (λ c j p. OpCopies g new c j (copier_of g p)) m.op after.op a b o sets
           (no_copies g new a b (copier_of g o) unheld
-              (λ f is. untold g m a b f (Equal b) none h (told_before m.fill after.fill a f b (Equal b) from is refl) refl)
-              (λ naming late u. absurd (let both : true ≡ false = sym early ∙ late in cc)))
+          (λ f is. untold g m a b f (Equal b) none h (told_before m.fill after.fill a f b (Equal b) from is refl) refl)
+          (λ naming late u. absurd (let both : true ≡ false = sym early ∙ late in cc)))
           (λ c j p apart is. copies_left g k new c j (copier_of g p) (leaves_fills g k new c j s from) (h.ops c j p is));
     }
 

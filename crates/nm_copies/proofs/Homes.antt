@@ -1,44 +1,37 @@
 -- SetHome: the page gets another home with the same words, and the old one is its twin.
-use Rattle.std.proofs.Common.{◌≡◌, ◌≢◌, ℕ, ◌+◌, ◌-◌, ◌<◌, ◌≤◌, ◌==◌, ◌&&◌, ◌⊎◌, not, if◌then◌else◌, Bool, true, false, IsTrue, List, [], ◌∷◌, All, Option, Some, None, IsSome, IsSomeAnd, refl, sym, ap, subst, ◌∙◌, inl, inr, arith}
+use Rattle.std.proofs.Common.{◌≡◌, ◌≢◌, ℕ, ◌-◌, ◌==◌, ◌⊎◌, if◌then◌else◌, Bool, true, false, List, [], ◌∷◌, All, Option, Some, None, IsSome, refl, sym, ap, subst, ◌∙◌, inl, inr, arith}
 use Rattle.std.specs.Prelude.{option_map}
 use Rattle.std.proofs.lemmas.Bool.{cases_eq}
 use Rattle.nm_base.specs.Geometry.{Geometry, backing_page}
 use Rattle.nm_base.specs.HomeWord.{home_word}
 use Rattle.nm_base.specs.PageWord.{is_dirty, is_writable}
 use Rattle.nm_base.specs.Ranges.{IsIndex}
-use Rattle.nm_action.specs.declared.action.Reply.TheVariants.{Done}
-use Rattle.nm_action.specs.declared.action.Action.TheVariants.{SetHome}
-use Rattle.nm_words.specs.declared.names.Where.{Where}
-use Rattle.nm_words.specs.declared.names.Where.TheVariants as words
 use Rattle.nm_view.specs.declared.view.CacheEntry.{CacheEntry}
 use Rattle.nm_view.specs.declared.view.Fill.{Fill}
-use Rattle.nm_view.specs.declared.view.Fill.TheVariants.{Raw, Zeroed, Copied, Equal}
+use Rattle.nm_view.specs.declared.view.Fill.TheVariants.{Zeroed, Copied, Equal}
 use Rattle.nm_view.specs.declared.view.Owned.{Owned}
 use Rattle.nm_view.specs.declared.view.Phase.{Phase}
 use Rattle.nm_view.specs.declared.view.Phase.TheVariants.{Held, Cleared, Taken}
-use Rattle.nm_view.specs.Lists.{find, first, erase, put, Once}
-use Rattle.nm_view.specs.Views.{Op, View}
-use Rattle.nm_view.specs.Operations.{owned_frame, fill_of, op_on, known_home, names_one, IsTaken, IsUnmapped, IsFlushEnded}
+use Rattle.nm_view.specs.Lists.{find, first, erase, Once}
+use Rattle.nm_view.specs.Views.{Op}
+use Rattle.nm_view.specs.Operations.{owned_frame, names_one, IsTaken}
 use Rattle.nm_view.proofs.Finds.{find_erase, find_erase_other, find_put, find_put_other, find_number}
 use Rattle.nm_view.proofs.Items.{not_none, some_same, all_find, all_head}
-use Rattle.nm_permit.specs.Permitted.{MaySetHome, HasNewHome, IsHomeDemanded, IsHomeCommitted, IsHomeMoved}
-use Rattle.nm_event.specs.After.{after_of, homed_at, let_go, owning}
+use Rattle.nm_permit.specs.Permitted.{IsHomeDemanded, IsHomeCommitted, IsHomeMoved}
+use Rattle.nm_event.specs.After.{homed_at, let_go, owning}
 use Rattle.nm_event.specs.Fitting.{Agrees}
-use Rattle.nm_world.specs.Worlds.{World, moved, viewing, written}
-use Rattle.nm_world.specs.Parts.{Copier, copier_of}
-use Rattle.nm_world.specs.Sights.{Sight, Sets, Writes, sight_of, sight_at}
-use Rattle.nm_world.specs.Notions.{IsClean, IsOut, IsAloneAt, HasOne, value_of, fill_page}
-use Rattle.nm_world.specs.CopyLaw.{CopyLaw, CopySight, copy_sight, OwnsCopy, HasCopies, IsUnspoilt, IsTwin, OpCopies}
-use Rattle.nm_world.specs.Laws.{IsReady}
+use Rattle.nm_world.specs.Worlds.{moved}
+use Rattle.nm_world.specs.Parts.{copier_of}
+use Rattle.nm_world.specs.Sights.{Sight, Sets, Writes}
+use Rattle.nm_world.specs.Notions.{IsClean, IsOut, value_of, fill_page}
+use Rattle.nm_world.specs.CopyLaw.{CopyLaw, copy_sight, HasCopies, IsUnspoilt, OpCopies}
 use Rattle.nm_world.proofs.Choose.{choose}
-use Rattle.nm_world.proofs.Writing.{edit_sets, word_writes}
-use Rattle.nm_copies.specs.Facts.{HasHolders, HasInformed, HasStages, HasNamed, HasMapped, HasHomes, HasStanding, IsInformed}
-use Rattle.nm_copies.proofs.Still.{Leaves, copies_left, clean_stays}
-use Rattle.nm_copies.proofs.Quiet.{entries_before}
+use Rattle.nm_copies.specs.Facts.{HasHolders, HasNamed, HasMapped, HasHomes, HasStanding, IsInformed}
+use Rattle.nm_copies.proofs.Still.{Leaves, clean_stays}
 use Rattle.nm_copies.proofs.Flags.{cases_on}
 use Rattle.nm_copies.proofs.Holders.{some_op}
 use Rattle.nm_copies.proofs.Edits.{law_edited}
-use Rattle.nm_copies.proofs.Copying.{known_op, value_home}
+use Rattle.nm_copies.proofs.Copying.{value_home}
 use Rattle.nm_copies.proofs.Emptied.{some_item, if_at, emptied, standing_some, uncached}
 
 -- The fills after a SetHome.
@@ -175,8 +168,8 @@ ready_committed g m a b f o x here owned may informed named standing h =
     let filled : m.fill a f ≡ Some (Copied b g.words) = owned ∙ ap Some may.filled ∙ ap (λ p. Some (Copied p g.words)) informed.page in
     let has : HasCopies m.fill a b o.last = inr (record { frame = f; count = g.words; is = filled }) in
     let out : IsOut g m.pte b =
-        cases_on (λ t. names_one o.phase o.cleared o.moved ≡ t → IsOut g m.pte b) (names_one o.phase o.cleared o.moved)
-        (λ naming. λ _. named_out g m a b o here naming may.clean.some informed named) (λ unnamed. λ _. own.out unnamed has) refl in
+    cases_on (λ t. names_one o.phase o.cleared o.moved ≡ t → IsOut g m.pte b) (names_one o.phase o.cleared o.moved)
+    (λ naming. λ _. named_out g m a b o here naming may.clean.some informed named) (λ unnamed. λ _. own.out unnamed has) refl in
     record {
       out = out;
       clean = λ c v e of is. absurd (standing_some (m.pte v) e (standing.stands a b o here may.flushed c v e of is) (out v of));
@@ -202,21 +195,21 @@ old_home m b k i old =
 home_own : (g : Geometry) (m after : Sight) (a b f : ℕ) (o : Op) → Writes m.home after.home b (home_word f) → ((v : ℕ) → after.pte v ≡ m.pte v) → ((h i : ℕ) → after.mem h i ≡ m.mem h i) → ((c v : ℕ) (e : CacheEntry) → after.entry c v ≡ Some e → m.entry c v ≡ Some e) → FillsOrOld m after a b → IsReadyHome g m b f o → OpCopies g (copy_sight m) a b (copier_of g o) → OpCopies g (copy_sight after) a b (copier_of g (homed_at f o))
 home_own g m after a b f o writes pte mem entry fills ready h =
     let value : (i : ℕ) → IsIndex g i → value_of after.home after.mem b i ≡ value_of m.home m.mem b i = λ i index.
-        value_home after.home after.mem b i (λ none. (omega (arith, none, writes.here))) ∙ mem (after.home b - 1) i
-        ∙ ap (λ n. m.mem n i) (let frame : after.home b - 1 ≡ f = omega (arith, writes.here) in frame) ∙ ready.same i index in
+    value_home after.home after.mem b i (λ none. (omega (arith, none, writes.here))) ∙ mem (after.home b - 1) i
+    ∙ ap (λ n. m.mem n i) (let frame : after.home b - 1 ≡ f = omega (arith, writes.here) in frame) ∙ ready.same i index in
     let copy : (k n : ℕ) → after.fill a k ≡ Some (Copied b n) → m.fill a k ≡ Some (Copied b n) = λ k n is. elim (fills a k (Copied b n) is) [
-        | inl was ↦ was
-        | inr old ↦ absurd (copied_equal b n old.1.is)
+      | inl was ↦ was
+      | inr old ↦ absurd (copied_equal b n old.1.is)
     ] in
     let has : HasCopies after.fill a b o.last → HasCopies m.fill a b o.last = λ copies. elim copies [
-        | inl some ↦ inl some
-        | inr owns ↦ inr (record { frame = owns.frame; count = owns.count; is = copy owns.frame owns.count owns.is })
+      | inl some ↦ inl some
+      | inr owns ↦ inr (record { frame = owns.frame; count = owns.count; is = copy owns.frame owns.count owns.is })
     ] in
     let out : IsOut g after.pte b = λ v of. pte v ∙ ready.out v of in
     let clean : IsClean g after.entry b = clean_stays g (copy_sight m) (copy_sight after) b entry ready.clean in
     let before : IsUnspoilt g after.pte b (names_one o.phase o.cleared true) o.taken → IsUnspoilt g m.pte b (names_one o.phase o.cleared o.moved) o.taken = λ u. record {
-        table = λ naming v of. ap is_dirty (ready.out v of);
-        taken = λ naming. cases_on (λ t. names_one o.phase o.cleared true ≡ t → All (λ p. is_dirty p.1 ≡ false) o.taken) (names_one o.phase o.cleared true) (λ on. λ _. u.taken on) (λ off. λ _. ready.taken naming off) refl;
+      table = λ naming v of. ap is_dirty (ready.out v of);
+      taken = λ naming. cases_on (λ t. names_one o.phase o.cleared true ≡ t → All (λ p. is_dirty p.1 ≡ false) o.taken) (names_one o.phase o.cleared true) (λ on. λ _. u.taken on) (λ off. λ _. ready.taken naming off) refl;
     } in
     record {
       early = λ early copies. h.early early (has copies);

@@ -1,5 +1,5 @@
 -- The step of a SetHome.
-use Rattle.std.proofs.Common.{◌≡◌, ◌≢◌, ℕ, ◌-◌, ◌⊎◌, List, Option, Some, None, IsSome, IsSomeAnd, refl, sym, ap, subst, ◌∙◌, inl, inr}
+use Rattle.std.proofs.Common.{◌≡◌, ℕ, ◌⊎◌, Option, Some, None, IsSomeAnd, refl, sym, ap, subst, ◌∙◌, inl, inr}
 use Rattle.nm_base.specs.Geometry.{Geometry}
 use Rattle.nm_base.specs.HomeWord.{home_word}
 use Rattle.nm_action.specs.declared.action.Reply.TheVariants.{Done}
@@ -22,7 +22,7 @@ use Rattle.nm_world.proofs.Writing.{edit_sets, word_writes}
 use Rattle.nm_copies.specs.Facts.{CopyFacts}
 use Rattle.nm_copies.proofs.Quiet.{entries_before}
 use Rattle.nm_copies.proofs.Copying.{known_op}
-use Rattle.nm_copies.proofs.Homes.{IsLetGo, FillsOrOld, IsReadyHome, let_go_from, erased_from, ready_demanded, ready_committed, ready_moved, law_homed}
+use Rattle.nm_copies.proofs.Homes.{IsLetGo, IsReadyHome, let_go_from, erased_from, ready_demanded, ready_committed, ready_moved, law_homed}
 
 known_fill : (P : Fill → Type 0) (found : Option Fill) → IsSomeAnd found P → (x : Fill) × ((found ≡ Some x) × P x)
 known_fill P None h = absurd h

@@ -1,16 +1,15 @@
 -- Map and Grant: what the actor knows of copies of the page is spoilt.
-use Rattle.std.proofs.Common.{◌≡◌, ◌≢◌, ℕ, ◌⊎◌, ◌&&◌, not, bit_xor, Bool, true, false, IsTrue, List, Option, Some, None, IsSome, refl, sym, ap, subst, ◌∙◌, inl, inr}
+use Rattle.std.proofs.Common.{◌≡◌, ◌≢◌, ℕ, ◌&&◌, Bool, true, false, Option, Some, None, refl, sym, ap, ◌∙◌, inl, inr}
 use Rattle.std.proofs.lemmas.Bool.{cases_eq}
 use Rattle.nm_base.specs.Geometry.{Geometry, backing_page}
 use Rattle.nm_base.specs.PageWord.{grant_mask, granted_word, is_dirty}
 use Rattle.nm_action.specs.declared.action.Reply.TheVariants.{Done, Word}
 use Rattle.nm_action.specs.declared.action.Action.TheVariants.{Map, Grant}
-use Rattle.nm_words.specs.declared.names.Where.{Where}
 use Rattle.nm_words.specs.declared.names.Where.TheVariants as words
 use Rattle.nm_view.specs.declared.view.Phase.{Phase}
 use Rattle.nm_view.specs.declared.view.Phase.TheVariants.{Held, Cleared, Taken}
 use Rattle.nm_view.specs.declared.view.Fill.{Fill}
-use Rattle.nm_view.specs.declared.view.Fill.TheVariants.{Raw, Copied, Equal}
+use Rattle.nm_view.specs.declared.view.Fill.TheVariants.{Copied, Equal}
 use Rattle.nm_view.specs.Views.{Op, View}
 use Rattle.nm_view.specs.Operations.{fill_of, op_on, names_one, is_early, is_flush_ended}
 use Rattle.nm_permit.specs.Permitted.{MayMap, MayGrant}
@@ -20,15 +19,15 @@ use Rattle.nm_world.specs.Worlds.{World, moved, viewing, written, pte_at}
 use Rattle.nm_world.specs.Parts.{Copier, copier_of}
 use Rattle.nm_world.specs.Sights.{Sight, Sets, Writes, sight_of, sight_at}
 use Rattle.nm_world.specs.Notions.{IsClean, IsUndirtied, fill_page}
-use Rattle.nm_world.specs.CopyLaw.{CopyLaw, CopySight, copy_sight, HasCopies, IsUnspoilt, OpCopies}
+use Rattle.nm_world.specs.CopyLaw.{CopyLaw, CopySight, copy_sight, IsUnspoilt, OpCopies}
 use Rattle.nm_world.specs.Laws.{IsReady}
 use Rattle.nm_world.proofs.Writing.{own_view, edit_sets, word_writes}
-use Rattle.nm_world.proofs.Moves.{OnPage, on_page}
+use Rattle.nm_world.proofs.Moves.{on_page}
 use Rattle.nm_world.proofs.Bits.{bit_xor_kept}
 use Rattle.nm_copies.specs.Facts.{HasHolders}
 use Rattle.nm_copies.proofs.Still.{clean_stays}
-use Rattle.nm_copies.proofs.Fills.{FillsFrom, fills_from, no_copies, spoilt_from}
-use Rattle.nm_copies.proofs.Edits.{KeepsFrames, law_table, other_page}
+use Rattle.nm_copies.proofs.Fills.{fills_from, no_copies, spoilt_from}
+use Rattle.nm_copies.proofs.Edits.{law_table, other_page}
 use Rattle.nm_copies.proofs.Flags.{same_flag}
 use Rattle.nm_copies.proofs.Holders.{no_last}
 use Rattle.nm_copies.proofs.Table.{keeps_frames, edit_is}
@@ -59,8 +58,8 @@ spoilt_step g m a v x b o f new holders of here sets cache owned unloaded dirty 
     (fills_from a new m.view (λ k y is. (spoilt_from b k y (m.view a) new owned is).from))
     (λ j u other own. other_page g before.pte after.pte v x b j writes of other u own)
     (spoilt_own g (copy_sight after) a b (copier_of g (f o)) unloaded
-        (λ k y is. (spoilt_from b k y (m.view a) new owned (sym (mine k) ∙ is)).apart)
-        (λ naming late u. clean_stays g (copy_sight before) (copy_sight after) b s.entry (dirty naming late u))) h
+    (λ k y is. (spoilt_from b k y (m.view a) new owned (sym (mine k) ∙ is)).apart)
+    (λ naming late u. clean_stays g (copy_sight before) (copy_sight after) b s.entry (dirty naming late u))) h
 
 spoiled_is : (g : Geometry) (v b : ℕ) (view : View) → backing_page g v ≡ Some b → spoiled_under (backing_page g v) view.owned ≡ spoiled b view.owned
 spoiled_is g v b view of = ap (λ p. spoiled_under p view.owned) of
@@ -115,4 +114,4 @@ copies-grant g m a v holders r h =
     (edit_sets a on.page (granted_at v n) on.op new m.view (λ o. refl) (edit_is g v on.page (granted_at v n) (m.view a).ops on.of) on.here)
     refl (spoiled_is g v on.page (m.view a) on.of) refl
     (λ naming late u. (h.ops a on.page on.op on.here).dirty naming late
-        (record { table = λ named. undirtied_granted g (sight_of g m).pte after.pte v on.page writes (u.table named); taken = u.taken })) h
+    (record { table = λ named. undirtied_granted g (sight_of g m).pte after.pte v on.page writes (u.table named); taken = u.taken })) h

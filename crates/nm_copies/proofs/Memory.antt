@@ -1,25 +1,23 @@
 -- A word of a frame is written: by stores through a dirty entry (Store, Add), and into an owned frame (CopyStore).
-use Rattle.std.proofs.Common.{◌≡◌, ◌≢◌, ℕ, ◌+◌, ◌-◌, ◌%◌, ◌^◌, ◌<◌, ◌≤◌, ◌==◌, ◌⊎◌, if◌then◌else◌, Bool, true, false, IsTrue, List, Option, Some, None, IsSome, IsSomeAnd, refl, sym, ap, subst, ◌∙◌, inl, inr, arith}
+use Rattle.std.proofs.Common.{◌≡◌, ◌≢◌, ℕ, ◌+◌, ◌-◌, ◌%◌, ◌^◌, true, false, IsTrue, Option, Some, None, IsSomeAnd, refl, sym, ap, subst, ◌∙◌, inl, inr, arith}
 use Rattle.std.proofs.lemmas.Bool.{cases_eq}
-use Rattle.nm_base.specs.Geometry.{Geometry, backing_page}
+use Rattle.nm_base.specs.Geometry.{Geometry}
 use Rattle.nm_base.specs.HomeWord.{home_word}
-use Rattle.nm_base.specs.Ranges.{IsIndex}
 use Rattle.nm_action.specs.declared.action.Action.TheVariants.{Store, Add}
-use Rattle.nm_words.specs.declared.names.Where.{Where}
 use Rattle.nm_words.specs.declared.names.Where.TheVariants as words
 use Rattle.nm_step.specs.Table.{cached_frame, entry_frame}
 use Rattle.nm_view.specs.declared.view.CacheEntry.{CacheEntry}
 use Rattle.nm_view.specs.declared.view.Fill.{Fill}
-use Rattle.nm_view.specs.declared.view.Fill.TheVariants.{Zeroed, Copied, Equal}
+use Rattle.nm_view.specs.declared.view.Fill.TheVariants.{Zeroed}
 use Rattle.nm_view.specs.Lists.{find}
-use Rattle.nm_view.specs.Views.{Op, View}
+use Rattle.nm_view.specs.Views.{View}
 use Rattle.nm_view.specs.Operations.{cached_page, fill_of, op_on}
-use Rattle.nm_permit.specs.Permitted.{MayStore, IsCachedDirty}
+use Rattle.nm_permit.specs.Permitted.{IsCachedDirty}
 use Rattle.nm_world.specs.Worlds.{World, moved, viewing, written}
 use Rattle.nm_world.specs.Parts.{Copier, copier_of}
 use Rattle.nm_world.specs.Sights.{Sight, Sets, sight_of, sight_at}
-use Rattle.nm_world.specs.Notions.{IsClean, IsUndirtied, value_of, fill_page}
-use Rattle.nm_world.specs.CopyLaw.{CopyLaw, CopySight, copy_sight, OwnsCopy, HasCopies, IsUnspoilt, OpCopies}
+use Rattle.nm_world.specs.Notions.{IsClean, value_of}
+use Rattle.nm_world.specs.CopyLaw.{CopyLaw, CopySight, copy_sight, HasCopies, IsUnspoilt, OpCopies}
 use Rattle.nm_world.specs.Laws.{IsReady}
 use Rattle.nm_world.proofs.Writing.{mem_sets}
 use Rattle.nm_copies.specs.Facts.{HasHomes, HasRoles}
@@ -109,11 +107,11 @@ law_stored g m a v i x homes roles cached h =
     let frame : f ≡ entry.0.frame = ap entry_frame entry.1.0 in
     let home : before.home page.0 ≡ home_word f = leads ∙ ap home_word (sym frame) in
     let s : StoreLeaves k kept f = record {
-        pte = λ u. refl;
-        home = λ b. refl;
-        mem = λ c j other. sets.others c j other;
-        fill = λ c y. view_part (λ w. fill_of w y) a view m.view refl c;
-        entry = entries_before a view m.view (λ u e is. is);
+      pte = λ u. refl;
+      home = λ b. refl;
+      mem = λ c j other. sets.others c j other;
+      fill = λ c y. view_part (λ w. fill_of w y) a view m.view refl c;
+      entry = entries_before a view m.view (λ u e is. is);
     } in
     let owned : (c y : ℕ) (z : Fill) → before.fill c y ≡ Some z → y ≢ f = λ c y z is same. roles.owned c page.0 y z is (home ∙ ap home_word (sym same)) in
     let spoilt : ¬ IsClean g k.entry page.0 = λ clean. (let off : entry.0.dirty ≡ false = clean a v entry.0 page.1 entry.1.0 in let both : true ≡ false = sym entry.1.1 ∙ off in cc) in

@@ -1,5 +1,5 @@
 -- The kinds that leave table words, homes, the words of frames and fills, and cache nothing.
-use Rattle.std.proofs.Common.{◌≡◌, ◌≢◌, ℕ, ◌+◌, ◌<◌, ◌==◌, ◌&&◌, not, if◌then◌else◌, Bool, true, false, List, [], ◌∷◌, Option, Some, None, refl, sym, ap, subst, ◌∙◌, arith}
+use Rattle.std.proofs.Common.{◌≡◌, ℕ, ◌+◌, ◌<◌, ◌&&◌, not, if◌then◌else◌, Bool, true, false, List, [], ◌∷◌, Option, Some, refl, sym, ap, subst, ◌∙◌, arith}
 use Rattle.std.specs.Prelude.{option_map}
 use Rattle.std.specs.List.{filter}
 use Rattle.nm_base.specs.Geometry.{Geometry}
@@ -17,19 +17,19 @@ use Rattle.nm_step.specs.Table.{where_of, cached_frame}
 use Rattle.nm_view.specs.declared.view.CacheEntry.{CacheEntry}
 use Rattle.nm_view.specs.Lists.{find, Once}
 use Rattle.nm_view.specs.Views.{Op, View}
-use Rattle.nm_view.specs.Operations.{cached_page, op_on, fill_of, are_seen, is_answered, is_early, names_one}
+use Rattle.nm_view.specs.Operations.{cached_page, op_on, fill_of, is_answered, is_early, names_one}
 use Rattle.nm_view.proofs.Finds.{absent_filter}
 use Rattle.nm_view.proofs.Items.{not_none}
 use Rattle.nm_view.proofs.Known.{are_seen_not}
 use Rattle.nm_event.specs.After.{after_of, bumped_to, raised_to, looked_at, read_cell, kept_entries, is_confirmed}
-use Rattle.nm_world.specs.Worlds.{World, moved, viewing, written, found_in, left_in, reply_in}
+use Rattle.nm_world.specs.Worlds.{World, moved, viewing, written, left_in, reply_in}
 use Rattle.nm_world.specs.Parts.{Copier, copier_of}
 use Rattle.nm_world.specs.Sights.{sight_of, sight_at}
 use Rattle.nm_world.specs.CopyLaw.{CopyLaw, copy_sight}
 use Rattle.nm_world.specs.Laws.{IsReady}
-use Rattle.nm_world.proofs.Choose.{choose, choose_name, decide}
+use Rattle.nm_world.proofs.Choose.{choose, choose_name}
 use Rattle.nm_world.proofs.Parts.{part_edit, part_of, part_map}
-use Rattle.nm_copies.proofs.Still.{Stays, stays_tame, law_tame}
+use Rattle.nm_copies.proofs.Still.{stays_tame, law_tame}
 
 -- the words that the copy law reads are as before
 pub record KeepsWords (word after : Where → ℕ) : Type 0 where
@@ -61,11 +61,11 @@ law_quiet g m word a new keeps view h =
     let after = sight_at g word (viewing a new m.view) in
     law_tame g (sight_of g m) after
     (stays_tame g (copy_sight (sight_of g m)) (copy_sight after) (record {
-        pte = keeps.pte;
-        home = keeps.home;
-        mem = keeps.mem;
-        fill = λ c f. view_part (λ v. fill_of v f) a new m.view (view.fill f) c;
-        entry = entries_before a new m.view view.entry;
+      pte = keeps.pte;
+      home = keeps.home;
+      mem = keeps.mem;
+      fill = λ c f. view_part (λ v. fill_of v f) a new m.view (view.fill f) c;
+      entry = entries_before a new m.view view.entry;
     }))
     (λ c b. view_part (λ v. option_map (copier_of g) (op_on v b)) a new m.view (view.copier b) c) h
 

@@ -1,7 +1,6 @@
 -- SeeAck: a flush may end with it, from when on no cache has a dirty entry of a page that is unspoilt.
-use Rattle.std.proofs.Common.{◌≡◌, ◌≢◌, ℕ, ◌<◌, ◌^◌, not, bit_or, nat_le, if◌then◌else◌, Bool, true, false, IsTrue, Option, Some, None, IsSome, IfSome, refl, sym, ap, subst, ◌∙◌, inl, inr}
+use Rattle.std.proofs.Common.{◌≡◌, ℕ, ◌^◌, not, bit_or, nat_le, if◌then◌else◌, Bool, true, false, IsTrue, Option, Some, None, IsSome, IfSome, refl, sym, subst, ◌∙◌}
 use Rattle.std.specs.Prelude.{option_map}
-use Rattle.std.specs.Int.{bit_at}
 use Rattle.nm_base.specs.Geometry.{Geometry, backing_page}
 use Rattle.nm_base.specs.PageWord.{is_dirty}
 use Rattle.nm_action.specs.declared.action.Reply.TheVariants.{Word}
@@ -18,11 +17,10 @@ use Rattle.nm_view.proofs.Items.{not_none, some_same}
 use Rattle.nm_view.proofs.Known.{IsFlushEnded-is, is-IsFlushEnded}
 use Rattle.nm_event.specs.After.{after_of, seen_at, seen_with}
 use Rattle.nm_world.specs.Worlds.{World, moved, viewing, written}
-use Rattle.nm_world.specs.Parts.{Copier, copier_of}
+use Rattle.nm_world.specs.Parts.{copier_of}
 use Rattle.nm_world.specs.Sights.{Sight, sight_of, sight_at}
 use Rattle.nm_world.specs.Notions.{IsClean, IsUndirtied, IsStanding}
 use Rattle.nm_world.specs.CopyLaw.{CopyLaw, CopySight, copy_sight, OpCopies}
-use Rattle.nm_world.specs.Laws.{IsReady}
 use Rattle.nm_world.proofs.Choose.{choose}
 use Rattle.nm_world.proofs.Bits.{bit_or_set}
 use Rattle.nm_copies.specs.Facts.{HasStanding}
@@ -49,8 +47,8 @@ ended_stays : (g : Geometry) (p word : ℕ) (o : Op) → is_flush_ended g o ≡ 
 ended_stays g p word o is =
     let was : IsFlushEnded g o = IsFlushEnded-is g o is in
     is-IsFlushEnded g (seen_at p word o) (record {
-        made = was.made;
-        seen = if_seen o.flush (AreSeen g.cpus o.seen) (AreSeen g.cpus (seen_with o.flush p word o.seen)) (seen_more o.flush p word o.seen g.cpus) was.seen;
+      made = was.made;
+      seen = if_seen o.flush (AreSeen g.cpus o.seen) (AreSeen g.cpus (seen_with o.flush p word o.seen)) (seen_more o.flush p word o.seen g.cpus) was.seen;
     })
 
 turned : (b : Bool) → not b ≡ true → b ≡ false
@@ -128,11 +126,11 @@ copies-see g m a p stands h =
       ops = λ c j q is.
           choose (λ v. op_on v j ≡ Some q → OpCopies g kept c j (copier_of g q)) c a new (m.view c)
           (λ same mine.
-              let was = mapped_op (seen_at p n) (op_on view j) q (sym (own j) ∙ mine) in
-              let there : before.op c j ≡ Some was.0 = subst (λ (i : ℕ). op_on (m.view i) j ≡ Some was.0) (sym same) was.1.0 in
-              let ends_so : IsFlushEnded g q → IsUndirtied g kept.pte j → IsClean g kept.entry j = λ ended. clean_standing g kept.pte kept.entry j (stands.stands c j q is ended) in
-              subst (λ (x : Op). OpCopies g kept c j (copier_of g x)) was.1.1
-              (see_own g kept c j p n was.0 (subst (λ (x : Op). IsFlushEnded g x → IsUndirtied g kept.pte j → IsClean g kept.entry j) (sym was.1.1) ends_so)
-              (copies_left g k kept c j (copier_of g was.0) (left c j) (h.ops c j was.0 there))))
+          let was = mapped_op (seen_at p n) (op_on view j) q (sym (own j) ∙ mine) in
+          let there : before.op c j ≡ Some was.0 = subst (λ (i : ℕ). op_on (m.view i) j ≡ Some was.0) (sym same) was.1.0 in
+          let ends_so : IsFlushEnded g q → IsUndirtied g kept.pte j → IsClean g kept.entry j = λ ended. clean_standing g kept.pte kept.entry j (stands.stands c j q is ended) in
+          subst (λ (x : Op). OpCopies g kept c j (copier_of g x)) was.1.1
+          (see_own g kept c j p n was.0 (subst (λ (x : Op). IsFlushEnded g x → IsUndirtied g kept.pte j → IsClean g kept.entry j) (sym was.1.1) ends_so)
+          (copies_left g k kept c j (copier_of g was.0) (left c j) (h.ops c j was.0 there))))
           (λ other there. copies_left g k kept c j (copier_of g q) (left c j) (h.ops c j q there)) is;
     }

@@ -1,16 +1,16 @@
 -- The copy law in pieces: each is kept where what it reads is as before, or tamer.
-use Rattle.std.proofs.Common.{◌≡◌, ◌≢◌, ℕ, ◌-◌, ◌<◌, ◌⊎◌, Bool, true, false, Option, Some, None, IsSome, refl, sym, ap, subst, ◌∙◌, inl, inr, arith}
+use Rattle.std.proofs.Common.{◌≡◌, ℕ, ◌-◌, Option, Some, None, IsSome, refl, sym, ap, subst, ◌∙◌, inl, inr}
 use Rattle.std.specs.Prelude.{option_map}
-use Rattle.nm_base.specs.Geometry.{Geometry, backing_page}
+use Rattle.nm_base.specs.Geometry.{Geometry}
 use Rattle.nm_view.specs.declared.view.CacheEntry.{CacheEntry}
 use Rattle.nm_view.specs.declared.view.Fill.{Fill}
-use Rattle.nm_view.specs.declared.view.Fill.TheVariants.{Zeroed, Copied, Equal}
+use Rattle.nm_view.specs.declared.view.Fill.TheVariants.{Copied, Equal}
 use Rattle.nm_view.specs.Views.{Op}
 use Rattle.nm_view.proofs.Items.{not_none, some_same}
 use Rattle.nm_world.specs.Parts.{Copier, copier_of}
 use Rattle.nm_world.specs.Sights.{Sight}
 use Rattle.nm_world.specs.Notions.{IsOut, IsReadOnly, IsUndirtied, IsClean, value_of, fill_page}
-use Rattle.nm_world.specs.CopyLaw.{CopySight, copy_sight, OwnsCopy, HasCopies, IsUnspoilt, IsTwin, OpCopies, CopyLaw}
+use Rattle.nm_world.specs.CopyLaw.{CopySight, copy_sight, HasCopies, IsUnspoilt, IsTwin, OpCopies, CopyLaw}
 
 -- what actor a's copies of page b rest on stands after a step: each fill that tells of b was there before, with these words,
 -- and the page has its words; and what else is said of the table and the caches comes of what was said before

@@ -1,13 +1,11 @@
 -- CopyStore: the next word of an owned frame is written, a 0 or the word that was loaded.
-use Rattle.std.proofs.Common.{◌≡◌, ◌≢◌, ℕ, ◌+◌, ◌<◌, ◌≤◌, ◌⊎◌, Bool, true, false, List, Option, Some, None, IsSome, IsSomeAnd, refl, sym, ap, subst, ◌∙◌, inl, inr, arith}
+use Rattle.std.proofs.Common.{◌≡◌, ◌≢◌, ℕ, ◌+◌, ◌<◌, ◌⊎◌, Option, Some, None, IsSome, IsSomeAnd, refl, sym, ap, subst, ◌∙◌, inl, inr, arith}
 use Rattle.std.specs.Prelude.{option_map}
 use Rattle.std.proofs.lemmas.Bool.{cases_eq}
-use Rattle.nm_base.specs.Geometry.{Geometry, backing_page}
-use Rattle.nm_base.specs.HomeWord.{home_word}
+use Rattle.nm_base.specs.Geometry.{Geometry}
 use Rattle.nm_base.specs.Ranges.{IsIndex}
 use Rattle.nm_action.specs.declared.action.Reply.TheVariants.{Done}
 use Rattle.nm_action.specs.declared.action.Action.TheVariants.{CopyStore}
-use Rattle.nm_words.specs.declared.names.Where.{Where}
 use Rattle.nm_words.specs.declared.names.Where.TheVariants as words
 use Rattle.nm_view.specs.declared.view.CacheEntry.{CacheEntry}
 use Rattle.nm_view.specs.declared.view.Fill.{Fill}
@@ -24,7 +22,7 @@ use Rattle.nm_world.specs.Worlds.{World, moved, viewing, written}
 use Rattle.nm_world.specs.Parts.{Copier, copier_of}
 use Rattle.nm_world.specs.Sights.{Sight, Sets, sight_of, sight_at}
 use Rattle.nm_world.specs.Notions.{value_of, fill_page}
-use Rattle.nm_world.specs.CopyLaw.{CopyLaw, CopySight, copy_sight, OwnsCopy, HasCopies, IsUnspoilt, IsTwin, OpCopies}
+use Rattle.nm_world.specs.CopyLaw.{CopyLaw, copy_sight, HasCopies, IsUnspoilt, IsTwin, OpCopies}
 use Rattle.nm_world.specs.Laws.{IsReady}
 use Rattle.nm_world.proofs.Writing.{item_sets, edit_sets, mem_sets}
 use Rattle.nm_world.proofs.Moves.{edited}
@@ -41,9 +39,9 @@ fill_edit : (a f : ℕ) (x : Fill) (w : Owned) (new : View) (views : ℕ → Vie
 fill_edit a f x w new views is there =
     item_sets fill_of a f (Some x) new views
     (ap (λ ws. option_map (λ (y : Owned). y.fill) (find owned_frame f ws)) is
-        ∙ ap (option_map (λ (y : Owned). y.fill)) (find_edit owned_frame f (filled x) (views a).owned (λ y. refl) ∙ ap (option_map (filled x)) there))
+    ∙ ap (option_map (λ (y : Owned). y.fill)) (find_edit owned_frame f (filled x) (views a).owned (λ y. refl) ∙ ap (option_map (filled x)) there))
     (λ j other. ap (λ ws. option_map (λ (y : Owned). y.fill) (find owned_frame j ws)) is
-        ∙ ap (option_map (λ (y : Owned). y.fill)) (find_edit_other owned_frame f (filled x) j (views a).owned (λ y. refl) (λ same. other (sym same))))
+    ∙ ap (option_map (λ (y : Owned). y.fill)) (find_edit_other owned_frame f (filled x) j (views a).owned (λ y. refl) (λ same. other (sym same))))
 
 -- the frame that a permission names is owned
 pub record OwnsFrame (view : View) (f : ℕ) (P : Fill → Type 0) : Type 0 where
@@ -162,9 +160,9 @@ stored_own g m after a b f i x was o s roles may loaded index h =
     let value : (j : ℕ) → value_of after.home after.mem b j ≡ value_of m.home m.mem b j = λ j. value_kept m after a f i x b j was fill s roles in
     let before : IsUnspoilt g after.pte b (copier_of g o).naming o.taken → IsUnspoilt g m.pte b (copier_of g o).naming o.taken = λ u. record { table = λ n v of. rw (sym (s.pte v)) (u.table n v of); taken = u.taken } in
     let at : (j : ℕ) → j ≡ i → IsUnspoilt g m.pte b (copier_of g o).naming o.taken → x ≡ value_of m.home m.mem b j = λ j same u. (
-        let next : o.copied ≡ j = sym (same ∙ loaded.next) in
-        let range : IsIndex g o.copied = subst (IsIndex g) loaded.next index in
-        h.last x loaded.last range u ∙ ap (value_of m.home m.mem b) next) in
+    let next : o.copied ≡ j = sym (same ∙ loaded.next) in
+    let range : IsIndex g o.copied = subst (IsIndex g) loaded.next index in
+    h.last x loaded.last range u ∙ ap (value_of m.home m.mem b) next) in
     let entry : (c v : ℕ) (e : CacheEntry) → after.entry c v ≡ Some e → m.entry c v ≡ Some e = λ c v e is. sym (s.entry c v) ∙ is in
     record {
       early = λ early. absurd (h.early early has);
@@ -199,9 +197,9 @@ law_copied g m after a b f i x was o s sets here holders roles may loaded index 
     law_edited g m after a b o (copied_one o) holders sets here
     (zeroed_after m after a f i x was fill s roles h.zeroed (λ n same. absurd (no_zeroed b (i + 1) n same)))
     (λ c k j y is of.
-        edited (λ c k y. fill_page y ≡ Some j → IsSome (m.op c j)) m.fill after.fill a f fill s.fills
-        (λ own. subst (λ (p : ℕ). IsSome (m.op a p)) (some_same b j own) (some_op (m.op a b) o here))
-        (λ c k y apart there of. h.has_op c k j y there of) c k y is of)
+    edited (λ c k y. fill_page y ≡ Some j → IsSome (m.op c j)) m.fill after.fill a f fill s.fills
+    (λ own. subst (λ (p : ℕ). IsSome (m.op a p)) (some_same b j own) (some_op (m.op a b) o here))
+    (λ c k y apart there of. h.has_op c k j y there of) c k y is of)
     (stored_own g m after a b f i x was o s roles may loaded index (h.ops a b o here))
     (λ c j other. fills_leave g m after a f i x c j was fill s roles (λ same. other (sym (some_same b j same)))) h
 
@@ -212,12 +210,12 @@ copies-copy_store g m a None f i x holders roles r h =
     let after : Sight = sight_at g (written (words.Mem f i) x m.word) (viewing a new m.view) in
     let frame = owns_frame (m.view a) f (IsZeroedTo i) r.allowed.permitted.fill in
     let s : Fills before after a f i x frame.item.fill (Zeroed (i + 1)) = record {
-        pte = λ v. refl;
-        home = λ b. refl;
-        entry = λ c v. view_part (λ w. find cached_page v w.cache) a new m.view refl c;
-        mem = mem_sets before.mem f i x;
-        fills = fill_edit a f (Zeroed (i + 1)) frame.item new m.view refl frame.there;
-        owned = ap (option_map (λ (w : Owned). w.fill)) frame.there;
+      pte = λ v. refl;
+      home = λ b. refl;
+      entry = λ c v. view_part (λ w. find cached_page v w.cache) a new m.view refl c;
+      mem = mem_sets before.mem f i x;
+      fills = fill_edit a f (Zeroed (i + 1)) frame.item new m.view refl frame.there;
+      owned = ap (option_map (λ (w : Owned). w.fill)) frame.there;
     } in
     law_zeroed g before after a f i x frame.item.fill s (λ c b. view_part (λ w. op_on w b) a new m.view refl c) roles frame.may r.allowed.permitted.zero_is h
 copies-copy_store g m a (Some b) f i x holders roles r h =
@@ -227,12 +225,12 @@ copies-copy_store g m a (Some b) f i x holders roles r h =
     let frame = owns_frame (m.view a) f (IsCopiedTo b i) r.allowed.permitted.fill in
     let on = known_op (IsLoaded i x) (op_on (m.view a) b) r.allowed.permitted.loaded in
     let s : Fills before after a f i x frame.item.fill (Copied b (i + 1)) = record {
-        pte = λ v. refl;
-        home = λ b. refl;
-        entry = λ c v. view_part (λ w. find cached_page v w.cache) a new m.view refl c;
-        mem = mem_sets before.mem f i x;
-        fills = fill_edit a f (Copied b (i + 1)) frame.item new m.view refl frame.there;
-        owned = ap (option_map (λ (w : Owned). w.fill)) frame.there;
+      pte = λ v. refl;
+      home = λ b. refl;
+      entry = λ c v. view_part (λ w. find cached_page v w.cache) a new m.view refl c;
+      mem = mem_sets before.mem f i x;
+      fills = fill_edit a f (Copied b (i + 1)) frame.item new m.view refl frame.there;
+      owned = ap (option_map (λ (w : Owned). w.fill)) frame.there;
     } in
     law_copied g before after a b f i x frame.item.fill on.0 s
     (edit_sets a b copied_one on.0 new m.view (λ o. refl) refl on.1.0) on.1.0 holders roles frame.may on.1.1 r.allowed.range.index h

@@ -1,36 +1,34 @@
 -- The kinds that change a table word and an operation on its page: ClearDirty, Unmap, Map, Grant.
-use Rattle.std.proofs.Common.{◌≡◌, ◌≢◌, ℕ, ◌<◌, ◌⊎◌, ◌&&◌, not, bit_and, bit_xor, Bool, true, false, IsTrue, List, [], ◌∷◌, ◌++◌, All, Option, Some, None, IsSome, refl, sym, ap, subst, ◌∙◌, inl, inr}
+use Rattle.std.proofs.Common.{◌≡◌, ℕ, ◌&&◌, not, bit_and, Bool, true, false, List, [], ◌∷◌, ◌++◌, Option, Some, refl, sym, ap, subst, ◌∙◌, inl, inr}
 use Rattle.std.proofs.lemmas.Bool.{cases_eq}
 use Rattle.nm_base.specs.Geometry.{Geometry, backing_page}
-use Rattle.nm_base.specs.PageWord.{all_but, dirty_mask, grant_mask, granted_word, is_dirty, is_writable}
-use Rattle.nm_action.specs.declared.action.Reply.TheVariants.{Done, Word}
-use Rattle.nm_action.specs.declared.action.Action.TheVariants.{ClearDirty, Unmap, Map, Grant}
-use Rattle.nm_words.specs.declared.names.Where.{Where}
+use Rattle.nm_base.specs.PageWord.{all_but, dirty_mask, is_dirty, is_writable}
+use Rattle.nm_action.specs.declared.action.Reply.TheVariants.{Word}
+use Rattle.nm_action.specs.declared.action.Action.TheVariants.{ClearDirty, Unmap}
 use Rattle.nm_words.specs.declared.names.Where.TheVariants as words
 use Rattle.nm_view.specs.declared.view.Phase.{Phase}
 use Rattle.nm_view.specs.declared.view.Phase.TheVariants.{Held, Cleared, Taken}
 use Rattle.nm_view.specs.declared.view.Fill.{Fill}
-use Rattle.nm_view.specs.declared.view.Fill.TheVariants.{Raw, Copied, Equal}
+use Rattle.nm_view.specs.declared.view.Fill.TheVariants.{Copied, Equal}
 use Rattle.nm_view.specs.Views.{Op, View}
-use Rattle.nm_view.specs.Operations.{fill_of, op_on, page_of, names_one, is_early, is_flush_ended}
+use Rattle.nm_view.specs.Operations.{fill_of, names_one, is_early, is_flush_ended}
 use Rattle.nm_view.proofs.Items.{all_last}
 use Rattle.nm_view.proofs.Known.{is-IsFlushEnded}
-use Rattle.nm_permit.specs.Permitted.{MayClear, MayUnmap, MayMap, MayGrant, IsTakingPhase}
-use Rattle.nm_event.specs.After.{after_of, cleared_at, taken_at, mapped_at, granted_at, has_some, edit_under, spoiled_under}
+use Rattle.nm_permit.specs.Permitted.{MayClear, MayUnmap, IsTakingPhase}
+use Rattle.nm_event.specs.After.{after_of, cleared_at, taken_at, edit_under}
 use Rattle.nm_world.specs.Worlds.{World, moved, viewing, written, pte_at}
 use Rattle.nm_world.specs.Parts.{Copier, copier_of}
-use Rattle.nm_world.specs.Sights.{Sight, Sets, Writes, sight_of, sight_at}
-use Rattle.nm_world.specs.Notions.{IsClean, IsOut, IsReadOnly, IsUndirtied}
-use Rattle.nm_world.specs.CopyLaw.{CopyLaw, CopySight, copy_sight, OwnsCopy, HasCopies, IsUnspoilt, IsTwin, OpCopies}
+use Rattle.nm_world.specs.Sights.{Sight, Writes, sight_of, sight_at}
+use Rattle.nm_world.specs.Notions.{IsOut, IsReadOnly}
+use Rattle.nm_world.specs.CopyLaw.{CopyLaw, CopySight, copy_sight, HasCopies, IsUnspoilt, IsTwin, OpCopies}
 use Rattle.nm_world.specs.Laws.{IsReady}
-use Rattle.nm_world.proofs.Choose.{choose}
-use Rattle.nm_world.proofs.Writing.{own_view, item_same, edit_sets, word_writes}
+use Rattle.nm_world.proofs.Writing.{own_view, edit_sets, word_writes}
 use Rattle.nm_world.proofs.Moves.{on_page}
-use Rattle.nm_world.proofs.Bits.{bit_and_kept, bit_xor_kept}
+use Rattle.nm_world.proofs.Bits.{bit_and_kept}
 use Rattle.nm_copies.specs.Facts.{HasHolders, HasStages}
 use Rattle.nm_copies.proofs.Still.{value_same, clean_stays}
 use Rattle.nm_copies.proofs.Quiet.{entries_before}
-use Rattle.nm_copies.proofs.Fills.{FillsFrom, fills_from, no_copies, spoilt_from, there}
+use Rattle.nm_copies.proofs.Fills.{FillsFrom, fills_from, there}
 use Rattle.nm_copies.proofs.Edits.{KeepsFrames, law_table, other_page, all_front}
 use Rattle.nm_copies.proofs.Flags.{same_flag}
 
@@ -112,8 +110,8 @@ copies-clear_dirty g m a v holders r h =
     on.here s (kept_fills a new m.view refl)
     (λ j u other own. other_page g before.pte after.pte v x on.page j writes on.of other u own)
     (clear_own g (copy_sight before) (copy_sight after) a on.page v on.op s (own_fills a new m.view refl)
-        (written_only g before.pte after.pte v x on.page writes (λ off. same_flag _ _ (bit_and_kept n (all_but dirty_mask) 2 refl) ∙ off))
-        on.may.phase (h.ops a on.page on.op on.here)) h
+    (written_only g before.pte after.pte v x on.page writes (λ off. same_flag _ _ (bit_and_kept n (all_but dirty_mask) 2 refl) ∙ off))
+    on.may.phase (h.ops a on.page on.op on.here)) h
 
 -- Unmap.
 
@@ -223,5 +221,5 @@ copies-unmap g m a v holders stages r h =
     on.here s (kept_fills a new m.view refl)
     (λ j u other own. other_page g before.pte after.pte v 0 on.page j writes on.of other u own)
     (unmap_own g (copy_sight before) (copy_sight after) a on.page v n on.op on.op.phase refl
-        (record { frames = s; fill = own_fills a new m.view refl; writes = writes; was = refl }) on.may
-        (stages.held a on.page on.op on.here) (stages.cleared a on.page on.op on.here) (h.ops a on.page on.op on.here)) h
+    (record { frames = s; fill = own_fills a new m.view refl; writes = writes; was = refl }) on.may
+    (stages.held a on.page on.op on.here) (stages.cleared a on.page on.op on.here) (h.ops a on.page on.op on.here)) h

@@ -1,9 +1,7 @@
 -- SetShadow to none: the shadow is owned, and may be Equal of the page, whose twin it is.
-use Rattle.std.proofs.Common.{◌≡◌, ◌≢◌, ℕ, ◌-◌, ◌<◌, ◌⊎◌, Bool, true, false, List, Option, Some, None, IsSome, IsSomeAnd, refl, sym, ap, subst, ◌∙◌, inl, inr, arith}
-use Rattle.std.proofs.lemmas.Bool.{cases_eq}
+use Rattle.std.proofs.Common.{◌≡◌, ◌≢◌, ℕ, ◌-◌, ◌⊎◌, Bool, true, false, List, Option, Some, None, IsSome, refl, sym, ap, subst, ◌∙◌, inl, inr, arith}
 use Rattle.nm_base.specs.Geometry.{Geometry}
 use Rattle.nm_base.specs.HomeWord.{home_word}
-use Rattle.nm_base.specs.Ranges.{IsIndex}
 use Rattle.nm_base.specs.ShadowWord.{shadow_frame}
 use Rattle.nm_action.specs.declared.action.Reply.TheVariants.{Done}
 use Rattle.nm_action.specs.declared.action.Action.TheVariants.{SetShadow}
@@ -13,7 +11,7 @@ use Rattle.nm_view.specs.declared.view.Fill.{Fill}
 use Rattle.nm_view.specs.declared.view.Fill.TheVariants.{Raw, Zeroed, Copied, Equal}
 use Rattle.nm_view.specs.declared.view.Owned.{Owned}
 use Rattle.nm_view.specs.Views.{Op, View}
-use Rattle.nm_view.specs.Operations.{fill_of, op_on, is_flush_ended}
+use Rattle.nm_view.specs.Operations.{op_on}
 use Rattle.nm_view.proofs.Items.{not_none, some_same}
 use Rattle.nm_permit.specs.Permitted.{MayUnshade}
 use Rattle.nm_event.specs.After.{after_of, shaded, owning, unshaded, unshading, unshaded_fill, is_quiet}
@@ -26,10 +24,10 @@ use Rattle.nm_world.specs.Laws.{IsReady}
 use Rattle.nm_world.proofs.Writing.{edit_sets, fill_put}
 use Rattle.nm_world.proofs.Moves.{edited}
 use Rattle.nm_copies.specs.Facts.{HasHolders, HasInformed, HasShadowed}
-use Rattle.nm_copies.proofs.Still.{Leaves, copies_left, clean_stays, twin_left, value_same}
+use Rattle.nm_copies.proofs.Still.{Leaves, clean_stays, value_same}
 use Rattle.nm_copies.proofs.Quiet.{unread_keeps, entries_before}
 use Rattle.nm_copies.proofs.Holders.{some_op}
-use Rattle.nm_copies.proofs.Fills.{KeepsRest, told_before, zeroed_before}
+use Rattle.nm_copies.proofs.Fills.{KeepsRest}
 use Rattle.nm_copies.proofs.Edits.{law_edited}
 use Rattle.nm_copies.proofs.Copying.{known_op, known_word, value_home}
 
@@ -90,8 +88,8 @@ unshade_own g m after a b s o keeps fills twin h =
     let new = copy_sight after in
     let copy : (f n : ℕ) → after.fill a f ≡ Some (Copied b n) → m.fill a f ≡ Some (Copied b n) = λ f n is. shadow_before m after a b s a f (Copied b n) fills is (copied_unequal b n) (copied_told b n) in
     let has : HasCopies after.fill a b o.last → HasCopies m.fill a b o.last = λ copies. elim copies [
-        | inl some ↦ inl some
-        | inr owns ↦ inr (record { frame = owns.frame; count = owns.count; is = copy owns.frame owns.count owns.is })
+      | inl some ↦ inl some
+      | inr owns ↦ inr (record { frame = owns.frame; count = owns.count; is = copy owns.frame owns.count owns.is })
     ] in
     let before : IsUnspoilt g after.pte b (copier_of g o).naming o.taken → IsUnspoilt g m.pte b (copier_of g o).naming o.taken = λ u. record { table = λ n v of. rw (sym (keeps.pte v)) (u.table n v of); taken = u.taken } in
     let value : (i : ℕ) → value_of after.home after.mem b i ≡ value_of m.home m.mem b i = λ i. value_same k new b i (keeps.home b) keeps.mem in
@@ -152,9 +150,9 @@ copies-unshade g m a b k holders knows shadows r h =
     let frame : before.home b - 1 ≡ k = omega (arith, home) in
     let named : shadow_frame (before.shadow k) ≡ s = ap shadow_frame (sym stands) in
     let twin : IsTwin g (copy_sight before) b s = record {
-        equal = λ i index. ap (λ n. before.mem n i) (sym named) ∙ sym (shadowed.equal i index) ∙ ap (λ n. before.mem n i) (sym frame) ∙ sym (value_home before.home before.mem b i some);
-        unwritable = shadowed.unwritable;
-        clean = shadowed.clean;
+      equal = λ i index. ap (λ n. before.mem n i) (sym named) ∙ sym (shadowed.equal i index) ∙ ap (λ n. before.mem n i) (sym frame) ∙ sym (value_home before.home before.mem b i some);
+      unwritable = shadowed.unwritable;
+      clean = shadowed.clean;
     } in
     let keeps = unread_keeps (words.Shadow k) 0 m.word tt in
     let sets : Sets before.fill after.fill a s (Some fill) = fill_put a (record { frame = s; fill = fill }) new m.view (unshaded_is g b shadow.0 o (op_on view b) view.owned on.1.0 shadow.1.0) in
@@ -162,5 +160,5 @@ copies-unshade g m a b k holders knows shadows r h =
     (edit_sets a b (shaded b None) o new m.view (λ o. refl) refl on.1.0) on.1.0
     (record { pte = keeps.pte; home = keeps.home; mem = keeps.mem; entry = entries_before a new m.view (λ v e is. is) })
     (λ c f x is. edited (λ c f x. (before.fill c f ≡ Some x) ⊎ ((c ≡ a) × ((f ≡ s) × ((x ≡ Equal b) ⊎ (x ≡ Raw))))) before.fill after.fill a s fill sets
-        (inr (refl, (refl, fill_unshaded (is_quiet g o) b))) (λ c f x apart was. inl was) c f x is)
+    (inr (refl, (refl, fill_unshaded (is_quiet g o) b))) (λ c f x apart was. inl was) c f x is)
     twin h

@@ -1,9 +1,9 @@
 -- What the copy law takes from the other groups, and from the geometry.
-use Rattle.std.specs.Prelude.{◌≡◌, ◌≢◌, ℕ, ◌<◌, Bool, List, [], Option, Some, None, IfSome, IsTrue, true, false}
+use Rattle.std.specs.Prelude.{◌≡◌, ◌≢◌, ℕ, ◌<◌, [], Option, Some, None, IfSome, true, false}
 use Rattle.nm_base.specs.Geometry.{Geometry, backing_page}
 use Rattle.nm_base.specs.HomeWord.{home_word}
 use Rattle.nm_base.specs.ShadowWord.{shadow_frame}
-use Rattle.nm_base.specs.Ranges.{IsIndex, IsFrame}
+use Rattle.nm_base.specs.Ranges.{IsIndex}
 use Rattle.nm_view.specs.declared.view.CacheEntry.{CacheEntry}
 use Rattle.nm_view.specs.declared.view.Fill.{Fill}
 use Rattle.nm_view.specs.declared.view.Phase.TheVariants.{Held, Cleared}
