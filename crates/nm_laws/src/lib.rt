@@ -1,6 +1,7 @@
-//! That each permitted step keeps the laws: the groups, each kept in a crate of its own, put together.
+//! That each permitted step keeps the laws, and so each run: the groups, each kept in a crate of its own, put together.
 #![tactic(auto)]
 
+pub mod runs;
 pub mod steps;
 
-pub use steps::{cache_law, frame_law, lock_law, shadow_law, shape_law};
+pub use steps::{all_laws, cache_law, copy_law, frame_law, lock_law, shadow_law};

@@ -1,6 +1,5 @@
--- The step leaves the group.
-use Rattle.nm_laws.proofs.Joined.{frames_left}
+-- It is one of the groups.
 use Rattle.nm_laws.proofs.steps.frame_law.Goals as goal
 
 pub returns-clause-law : goal.returns-clause-law
-returns-clause-law c = frames_left c.args.state.now c.apply.new.self c.args.actor c.args.action c.apply.ensures.before c.requires.actor c.requires.allowed c.apply.ensures.step
+returns-clause-law c = λ all. (c.all_laws.ensures.law all).frames
