@@ -1,12 +1,11 @@
 -- What the copy law takes from the other groups follows from them.
-use Rattle.std.proofs.Common.{◌≡◌, ◌≢◌, ℕ, ◌+◌, ◌<◌, ◌≤◌, ◌⊎◌, Bool, true, false, IsTrue, List, [], ◌∷◌, All, Option, Some, None, IsSome, IsSomeAnd, IfSome, refl, sym, ap, subst, ◌∙◌, inl, inr, arith}
+use Rattle.std.proofs.Common.{◌≡◌, ◌≢◌, ℕ, ◌+◌, ◌<◌, ◌≤◌, true, false, List, [], ◌∷◌, All, Option, Some, None, IsSome, IfSome, refl, sym, ap, subst, ◌∙◌, inl, inr, arith}
 use Rattle.std.specs.Prelude.{option_map}
-use Rattle.std.specs.Int.{bit_at}
 use Rattle.std.proofs.lemmas.Bool.{cases_eq, cases_lt}
 use Rattle.nm_base.specs.Geometry.{Geometry, IsGeometry, backing_page, frame_count}
 use Rattle.nm_base.specs.HomeWord.{home_word}
 use Rattle.nm_base.specs.PageWord.{is_writable, frame_of}
-use Rattle.nm_base.specs.Ranges.{IsFrame, IsIndex}
+use Rattle.nm_base.specs.Ranges.{IsFrame}
 use Rattle.nm_base.specs.ShadowWord.{shadow_frame}
 use Rattle.nm_base.proofs.ShadowWords.{shadow_frame-NamesShadow}
 use Rattle.nm_action.specs.declared.action.Action.{Action}
@@ -14,20 +13,20 @@ use Rattle.nm_view.specs.declared.view.CacheEntry.{CacheEntry}
 use Rattle.nm_view.specs.declared.view.Fill.{Fill}
 use Rattle.nm_view.specs.declared.view.Owned.{Owned}
 use Rattle.nm_view.specs.Lists.{find}
-use Rattle.nm_view.specs.Views.{Op, View}
-use Rattle.nm_view.specs.Opening.{opening, IsActor}
-use Rattle.nm_view.specs.Operations.{page_of, cached_page, owned_frame, op_on, fill_of, IsFlushEnded, AreSeen}
+use Rattle.nm_view.specs.Views.{Op}
+use Rattle.nm_view.specs.Opening.{opening}
+use Rattle.nm_view.specs.Operations.{page_of, cached_page, owned_frame, fill_of, IsFlushEnded, AreSeen}
 use Rattle.nm_view.proofs.Finds.{find_number}
 use Rattle.nm_view.proofs.Items.{not_none, some_same, all_find, all_head}
 use Rattle.nm_shape.specs.Keyed.{IsOwnedInRange}
 use Rattle.nm_world.specs.Worlds.{World, moved, op_at, pte_at, home_at, shadow_at, ack_at}
 use Rattle.nm_world.specs.Parts.{Flight, flight_of, flight_at, lore_of}
-use Rattle.nm_world.specs.Sights.{Sight, sight_of}
+use Rattle.nm_world.specs.Sights.{sight_of}
 use Rattle.nm_world.specs.Notions.{IsStanding, IsOwed, Owes, IsBehind, IsClean}
 use Rattle.nm_world.specs.ShapeLaw.{ShapeLaw}
 use Rattle.nm_world.specs.LockLaw.{LockLaw}
 use Rattle.nm_world.specs.CacheLaw.{CacheLaw, IsEntrySound}
-use Rattle.nm_world.specs.FrameLaw.{FrameLaw, IsMapping, IsWordOf, Claims, names_of}
+use Rattle.nm_world.specs.FrameLaw.{FrameLaw, IsWordOf, names_of}
 use Rattle.nm_world.specs.FrameLaw.Claim.{AtHome, By}
 use Rattle.nm_world.specs.ShadowLaw.{ShadowLaw}
 use Rattle.nm_world.specs.Bounds.{HasBounds}
@@ -35,7 +34,7 @@ use Rattle.nm_world.specs.CopyLaw.{CopyLaw}
 use Rattle.nm_world.specs.Laws.{AreAll, IsReady}
 use Rattle.nm_world.proofs.Moves.{sole_op}
 use Rattle.nm_world.proofs.Roles.{one_claim}
-use Rattle.nm_copies.specs.Facts.{HasHolders, HasInformed, IsInformed, HasStages, HasNamed, HasMapped, HasHomes, HasStanding, HasRoles, HasShadowed, CopyFacts}
+use Rattle.nm_copies.specs.Facts.{HasHolders, HasInformed, HasStages, HasNamed, HasMapped, HasHomes, HasStanding, HasRoles, HasShadowed, CopyFacts}
 use Rattle.nm_copies.proofs.Copying.{known_word}
 use Rattle.nm_copies.proofs.Kept.{copies-kept}
 
