@@ -93,8 +93,8 @@ copies-lock g m a b r h =
     (λ held. law_quiet g m (written (words.Lock b) n m.word) a view (read_keeps (words.Lock b) m.word) (same_view g view) h)
 
 -- where an operation goes, so goes what the fills of its actor tell of its page
-closed_op : (op after : ℕ → ℕ → Option Op) (fill : ℕ → ℕ → Option Fill) (a b c j f : ℕ) (x : Fill) → Sets op after a b None → (c ≡ a → fill_page x ≢ Some b) → fill_page x ≡ Some j → IsSome (op c j) → IsSome (after c j)
-closed_op op after fill a b c j f x sets apart of some =
+closed_op : (op after : ℕ → ℕ → Option Op) (a b c j : ℕ) (x : Fill) → Sets op after a b None → (c ≡ a → fill_page x ≢ Some b) → fill_page x ≡ Some j → IsSome (op c j) → IsSome (after c j)
+closed_op op after a b c j x sets apart of some =
     elim (cases_eq c a) [
       | inl actor ↦
           let other : j ≢ b = λ same. apart actor (of ∙ ap Some same) in
@@ -119,7 +119,7 @@ copies-unlock g m a b r h =
     record {
       zeroed = λ c f n is i lt. s.mem f i ∙ h.zeroed c f n (zeroed_before before.fill after.fill c f n from is) i lt;
       has_op = λ c f j x is of.
-          closed_op before.op after.op after.fill a b c j f x sets
+          closed_op before.op after.op a b c j x sets
           (λ actor. (spoilt_from b f x view new refl (sym (mine f) ∙ subst (λ (n : ℕ). after.fill n f ≡ Some x) actor is)).apart)
           of (h.has_op c f j x (told_before before.fill after.fill c f j x from is of) of);
       ops = λ c j p is. copies_left g k kept c j (copier_of g p) (leaves_fills g k kept c j s from) (h.ops c j p (gone before.op after.op a b sets c j p is).1);

@@ -16,3 +16,4 @@ pub mod Homes
 pub mod Homing
 pub mod Unshading
 pub mod Kept
+pub mod Closing

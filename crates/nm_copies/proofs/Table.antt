@@ -133,18 +133,18 @@ written_out g pte after v b writes out u of =
     elim (cases_eq u v) [ inl same ↦ ap after same ∙ writes.here | inr other ↦ writes.rest u other ∙ out u of ]
 
 -- what an Unmap leaves, beside the operation
-record UnmapLeaves (g : Geometry) (k after : CopySight) (a b v n : ℕ) : Type 0 where
+record UnmapLeaves (k after : CopySight) (a v n : ℕ) : Type 0 where
   frames : KeepsFrames k after
   fill : (f : ℕ) (x : Fill) → after.fill a f ≡ Some x → k.fill a f ≡ Some x
   writes : WritesOne k.pte after.pte v 0
   was : k.pte v ≡ n
 
 -- the twins of the page stay so
-unmap_twin : (g : Geometry) (k after : CopySight) (a b v n f : ℕ) (o : Copier) → UnmapLeaves g k after a b v n → OpCopies g k a b o → after.fill a f ≡ Some (Equal b) → IsTwin g after b f
+unmap_twin : (g : Geometry) (k after : CopySight) (a b v n f : ℕ) (o : Copier) → UnmapLeaves k after a v n → OpCopies g k a b o → after.fill a f ≡ Some (Equal b) → IsTwin g after b f
 unmap_twin g k after a b v n f o left h is = twin_kept g k after b f left.frames (written_only g k.pte after.pte v 0 b left.writes (λ off. refl)) (h.equal f (left.fill f (Equal b) is))
 
 -- from phase Held there are no copies, and no virtual page is named
-unmap_held : (g : Geometry) (k after : CopySight) (a b v n : ℕ) (o p : Copier) → UnmapLeaves g k after a b v n → OpCopies g k a b o → o.early ≡ true → p.naming ≡ false → p.last ≡ o.last → OpCopies g after a b p
+unmap_held : (g : Geometry) (k after : CopySight) (a b v n : ℕ) (o p : Copier) → UnmapLeaves k after a v n → OpCopies g k a b o → o.early ≡ true → p.naming ≡ false → p.last ≡ o.last → OpCopies g after a b p
 unmap_held g k after a b v n o p left h early unnamed last =
     twins_only g after a b p
     (λ has. h.early early (has_before k.fill after.fill a b o.last left.fill (subst (HasCopies after.fill a b) last has)))
@@ -152,7 +152,7 @@ unmap_held g k after a b v n o p left h early unnamed last =
     (λ f is. unmap_twin g k after a b v n f o left h is)
 
 -- from phase Cleared the copies were true unless the page was spoilt, and the word that goes is dirty if it is spoilt so
-unmap_cleared : (g : Geometry) (k after : CopySight) (a b v n copied : ℕ) (last : Option ℕ) (taken : List (ℕ × ℕ)) → UnmapLeaves g k after a b v n
+unmap_cleared : (g : Geometry) (k after : CopySight) (a b v n copied : ℕ) (last : Option ℕ) (taken : List (ℕ × ℕ)) → UnmapLeaves k after a v n
     → OpCopies g k a b (record { naming = true; early = false; taken = taken; copied = copied; last = last })
     → OpCopies g after a b (record { naming = true; early = false; taken = taken ++ (v, n) ∷ []; copied = copied; last = last })
 unmap_cleared g k after a b v n copied last taken left h =
@@ -169,7 +169,7 @@ unmap_cleared g k after a b v n copied last taken left h =
     }
 
 -- from phase Taken, without Cleared, no virtual page is named before and after
-unmap_taken : (g : Geometry) (k after : CopySight) (a b v n copied : ℕ) (last : Option ℕ) (taken more : List (ℕ × ℕ)) → UnmapLeaves g k after a b v n
+unmap_taken : (g : Geometry) (k after : CopySight) (a b v n copied : ℕ) (last : Option ℕ) (taken more : List (ℕ × ℕ)) → UnmapLeaves k after a v n
     → OpCopies g k a b (record { naming = false; early = false; taken = taken; copied = copied; last = last })
     → OpCopies g after a b (record { naming = false; early = false; taken = more; copied = copied; last = last })
 unmap_taken g k after a b v n copied last taken more left h =
@@ -185,7 +185,7 @@ unmap_taken g k after a b v n copied last taken more left h =
       equal = λ f is. unmap_twin g k after a b v n f (record { naming = false; early = false; taken = taken; copied = copied; last = last }) left h is;
     }
 
-unmap_own : (g : Geometry) (k after : CopySight) (a b v n : ℕ) (o : Op) (phase : Phase) → o.phase ≡ phase → UnmapLeaves g k after a b v n → MayUnmap g v o → (o.phase ≡ Held → o.cleared ≡ false) → (o.phase ≡ Cleared → o.cleared ≡ true) → OpCopies g k a b (copier_of g o) → OpCopies g after a b (copier_of g (taken_at v n o))
+unmap_own : (g : Geometry) (k after : CopySight) (a b v n : ℕ) (o : Op) (phase : Phase) → o.phase ≡ phase → UnmapLeaves k after a v n → MayUnmap g v o → (o.phase ≡ Held → o.cleared ≡ false) → (o.phase ≡ Cleared → o.cleared ≡ true) → OpCopies g k a b (copier_of g o) → OpCopies g after a b (copier_of g (taken_at v n o))
 unmap_own g k after a b v n o Held is left may held cleared h =
     unmap_held g k after a b v n (copier_of g o) (copier_of g (taken_at v n o)) left h (held_early g o is) (ap (λ c. c && not o.moved) (held is)) refl
 unmap_own g k after a b v n o Cleared is left may held cleared h =
