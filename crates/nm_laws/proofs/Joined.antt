@@ -18,8 +18,7 @@ use Rattle.nm_world.proofs.Shapes.{ShapeLaw-moved}
 use Rattle.nm_fits.proofs.EachReply.{Fits-reply_in}
 use Rattle.nm_locks.proofs.EachKind.{lock_law}
 use Rattle.nm_caches.proofs.Kept.{cache_kept_of}
-use Rattle.nm_copies.proofs.Closing.{facts_hold, standing_hold}
-use Rattle.nm_copies.proofs.Kept.{copies-kept}
+use Rattle.nm_copies.proofs.Closing.{copies_stand}
 use Rattle.nm_frames.specs.Facts.{HasFrameFacts, HasShadowFacts}
 use Rattle.nm_frames.proofs.Steps.{frames_step, shadows_step}
 
@@ -51,8 +50,7 @@ shadows_moved g m a action is all there may = shadows_step g m a action (shadow_
 -- the copies of SeeAck rest on what the step leaves of caches and locks
 copies_moved : (g : Geometry) (m : World) (a : ℕ) (action : Action) → IsGeometry g → AreAll g m → IsActor g a → Allowed g (m.view a) action → CopyLaw g (sight_of g (moved g m a action))
 copies_moved g m a action is all there may =
-    let standing = standing_hold g (moved g m a action) (locks_moved g m a action is all there may) (shape_moved g m a action is all there may) (caches_moved g m a action is all there may) in
-    copies-kept g m a action (facts_hold g m is all) standing (ready_of g m a action is all there may) all.copies
+    copies_stand g m a action is all (ready_of g m a action is all there may) (shape_moved g m a action is all there may) (locks_moved g m a action is all there may) (caches_moved g m a action is all there may)
 
 -- all the groups, with the bounds, which each state has by itself
 pub all_moved : (g : Geometry) (m : World) (a : ℕ) (action : Action) → IsGeometry g → AreAll g m → IsActor g a → Allowed g (m.view a) action → HasBounds g (moved g m a action) → AreAll g (moved g m a action)
