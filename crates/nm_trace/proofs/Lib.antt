@@ -7,3 +7,5 @@ pub mod Spelling
 pub mod Rows
 pub mod Progress
 pub mod Validity
+pub mod Whole
+pub mod Outcome

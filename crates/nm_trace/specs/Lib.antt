@@ -3,3 +3,4 @@ pub mod Records
 pub mod Traces
 pub mod Imports
 pub mod Drafts
+pub mod Replies

@@ -1,10 +1,11 @@
 //! The script of a trace.
 
-ghost use Rattle.std.specs.Prelude.{◌≡◌, ◌≢◌, ◌+◌, ◌-◌, ◌≤◌, ◌<◌, ◌^◌, [], List, length, IfOk, IfErr, OnOk};
+ghost use Rattle.std.specs.Prelude.{◌≡◌, ◌≢◌, ◌+◌, ◌-◌, ◌≤◌, ◌<◌, ◌^◌, [], List, length, Ok, Err, IfOk, IfErr, OnOk};
 ghost use Rattle.csv.specs.Records.{fields_of};
 ghost use Rattle.nm_script.specs.Script.{IsScript};
 ghost use Rattle.nm_trace.specs.References.{header};
-ghost use Rattle.nm_trace.specs.Imports.{IsImport, IsTraceOf, IsTraceRefusal};
+ghost use Rattle.nm_trace.specs.Imports.{IsImport, IsTraceOf, IsTraceRefusal, IsFirstTraceFault};
+ghost use Rattle.nm_trace.specs.Replies.{GivesImport};
 ghost use Rattle.nm_trace.specs.Drafts.{IsDraftOf, TakesReference, IsRowRefusal};
 ghost use Rattle.nm_trace.specs.declared.reference.Reference.{Reference};
 
@@ -23,6 +24,24 @@ const MOST_BYTES: usize = 16_777_216;
 /// `At` comes exactly where the text is no trace, or its script is too long, with the first fault and its record.
 /// `Memory` comes where there is none for the script.
 pub fn import(alloc: Global, bytes: &[u8], fast: u32, slow: u32) -> Result<Script, TraceRefusal>
+    requires fast { 1 ≤ fast }
+    requires slow { 1 ≤ slow }
+    requires sum { fast + slow ≤ 4096 }
+    requires short { length bytes.now < 2 ^ 32 - 1 }
+    // The script is that of a trace of the bytes.
+    ensures found { IfOk result (IsImport bytes.now fast slow) }
+    // The script of a trace is given, unless memory runs out.
+    ensures only { (s : _) → IsImport bytes.now fast slow s → GivesImport result (Ok s) }
+    // A refusal is the first fault, and a first fault is refused so, unless memory runs out.
+    ensures fault { IfErr result (IsTraceRefusal bytes.now fast slow) }
+    ensures first { (f : _) (n : _) → IsFirstTraceFault bytes.now fast slow f n → GivesImport result (Err (f, n)) }
+    ensures script { IfOk result IsScript }
+{
+    read_script(alloc, bytes, fast, slow)
+}
+
+/// The script of a trace, or its first fault.
+fn read_script(alloc: Global, bytes: &[u8], fast: u32, slow: u32) -> Result<Script, TraceRefusal>
     requires fast { 1 ≤ fast }
     requires slow { 1 ≤ slow }
     requires sum { fast + slow ≤ 4096 }
