@@ -1,12 +1,10 @@
 -- What a text gives, as one value: so it gives no other.
-use Rattle.std.proofs.Common.{◌≡◌, ◌≢◌, ◌⊎◌, ◌+◌, ◌%◌, ◌≤◌, ◌<◌, ◌^◌, ◌==◌, max, ℕ, zero, suc, Bool, true, false, not, cond, nat_lt, nat_eq, List, [], ◌∷◌, ◌++◌, length, map, Option, Some, None, Result, Ok, Err, IfOk, IfErr, IfSome, option_map, codes, refl, sym, ap, subst, ◌∙◌, inl, inr, arith, append_assoc, length-append}
+use Rattle.std.proofs.Common.{◌≡◌, ◌≢◌, ◌⊎◌, ◌+◌, ◌%◌, ◌≤◌, ◌<◌, ◌^◌, ◌==◌, ℕ, Bool, true, false, cond, nat_lt, nat_eq, List, [], ◌∷◌, ◌++◌, length, map, Option, Some, None, Result, Ok, Err, IfOk, IfErr, IfSome, option_map, refl, sym, ap, subst, ◌∙◌, inl, inr, arith, append_assoc, length-append}
 use Rattle.std.specs.List.{AllByRecursion, list_any}
 use Rattle.std.specs.Fmt.{decimal}
 use Rattle.std.proofs.lemmas.Bool.{cases_Bool, eq-eqb, ltb-true, ltb-false}
-use Rattle.std.proofs.lemmas.List.{append-nil, length-map}
-use Rattle.nm_text.specs.Numbers.{number_of}
+use Rattle.std.proofs.lemmas.List.{append-nil}
 use Rattle.nm_text.proofs.NumberLemmas.{number_of-decimal}
-use Rattle.indexmap.specs.IndexSet.{insert_key}
 use Rattle.nm_script.specs.Plain.{Script}
 use Rattle.nm_script.specs.Script.{script_text}
 use Rattle.nm_trace.specs.declared.fault.TraceFault.{TraceFault}
@@ -15,8 +13,8 @@ use Rattle.nm_trace.specs.declared.fault.TraceRefusal.{TraceRefusal}
 use Rattle.nm_trace.specs.declared.fault.TraceRefusal.TheVariants as refusals
 use Rattle.nm_trace.specs.declared.reference.Reference.{Reference}
 use Rattle.nm_trace.specs.References.{IsReference, record_of, header}
-use Rattle.nm_trace.specs.Records.{fields_in, numbers_in, ranged_reference, reference_in}
-use Rattle.nm_trace.specs.Imports.{page_of, AreReferences, IsTraceOf, IsImport, IsFirstBadRow, IsRowFault, IsFirstTraceFault, IsTraceRefusal, IsTooLong, HasNoHeader, HasRecords, pages_seen, cpus_seen, frames_for, trace_rows, script_for}
+use Rattle.nm_trace.specs.Records.{fields_in, numbers_in, reference_in}
+use Rattle.nm_trace.specs.Imports.{page_of, AreReferences, IsTraceOf, IsImport, IsFirstBadRow, IsRowFault, IsFirstTraceFault, IsTraceRefusal, IsTooLong, HasNoHeader, HasRecords, pages_seen, frames_for, trace_rows, script_for}
 use Rattle.nm_trace.specs.Replies.{GivesImport}
 use Rattle.nm_trace.proofs.Pages.{pages_seen-push, cpus_seen-push}
 use Rattle.nm_trace.proofs.Whole.{one-list, whole-of}
@@ -162,10 +160,16 @@ row-says : (bytes : List ℕ) (fast slow : ℕ) (f : TraceFault) (n : ℕ) → I
 row-says bytes fast slow f n i =
     let whole = whole-of bytes (trace_rows i.front ++ i.row ∷ []) i.rows in
     let body = map record_of i.front ++ i.row ∷ whole.0 in
-    let is : (trace_rows i.front ++ i.row ∷ []) ++ whole.0 ≡ header ∷ body = append_assoc (trace_rows i.front) (i.row ∷ []) whole.0 in
-    ((trace_rows i.front ++ i.row ∷ []) ++ whole.0, whole.1, inr (body, is,
-      ap (script-of fast slow) (refs-read-any (fast + slow) i.front (i.row ∷ whole.0) i.are ∙ fault-read (fast + slow) i.front i.row whole.0 f i.fault)
-      ∙ ap (λ k. Err (f, k)) (sym i.count)))
+    let is : (trace_rows i.front ++ i.row ∷ []) ++ whole.0 ≡ header ∷ body = append_assoc (trace_rows i.front) (i.row ∷ []) whole.0 in (
+      (trace_rows i.front ++ i.row ∷ []) ++ whole.0,
+      whole.1,
+      inr (
+        body,
+        is,
+        ap (script-of fast slow) (refs-read-any (fast + slow) i.front (i.row ∷ whole.0) i.are ∙ fault-read (fast + slow) i.front i.row whole.0 f i.fault)
+            ∙ ap (λ k. Err (f, k)) (sym i.count),
+      ),
+    )
 
 pub fault-says : (bytes : List ℕ) (fast slow : ℕ) (f : TraceFault) (n : ℕ) → IsFirstTraceFault bytes fast slow f n → TextSays bytes fast slow (Err (f, n))
 unfolding rows-read

@@ -1,7 +1,7 @@
 -- One reference more: its page, its number, and the lines of the references before it.
-use Rattle.std.proofs.Common.{◌≡◌, ℕ, zero, suc, ◌+◌, ◌<◌, ◌≤◌, ◌==◌, ◌||◌, Bool, true, false, not, cond, nat_eq, max, List, [], ◌∷◌, ◌++◌, map, filter, length, fold, set, get_or, refl, sym, ap, subst, ◌∙◌, inl, inr, arith, add-one}
-use Rattle.std.specs.List.{AllByRecursion, list_any, position_or_len, range_with_len}
-use Rattle.std.proofs.lemmas.Bool.{cases_Bool, eqb-true, ne_eqb, eq-eqb}
+use Rattle.std.proofs.Common.{◌≡◌, ℕ, zero, suc, ◌+◌, ◌<◌, ◌==◌, ◌||◌, Bool, true, false, not, cond, nat_eq, max, List, [], ◌∷◌, ◌++◌, map, filter, length, set, get_or, refl, sym, ap, subst, ◌∙◌, inl, inr, arith}
+use Rattle.std.specs.List.{AllByRecursion, list_any, range_with_len}
+use Rattle.std.proofs.lemmas.Bool.{cases_Bool, ne_eqb, eq-eqb}
 use Rattle.std.proofs.lemmas.List.{append-nil, map-append}
 use Rattle.std.proofs.lemmas.List.Elements.{filter-append}
 use Rattle.std.proofs.lemmas.List.FromFn.{get_or-map-range_with_len}
@@ -153,4 +153,4 @@ pub seen-push : (refs : List Reference) (r : Reference) → AllByRecursion (IsPa
 seen-push refs r h =
     let ks = insert_key nat_eq (pages_seen refs) (page_of r) in
     subst (λ new. AllByRecursion (IsPageSeen new) (refs ++ r ∷ [])) (sym (pages_seen-push refs r))
-        (all-push (IsPageSeen ks) refs r (seen-more (pages_seen refs) (page_of r) refs h) (seen-new (pages_seen refs) (page_of r)))
+    (all-push (IsPageSeen ks) refs r (seen-more (pages_seen refs) (page_of r) refs h) (seen-new (pages_seen refs) (page_of r)))

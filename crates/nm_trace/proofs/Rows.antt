@@ -1,5 +1,5 @@
 -- The records of a text are no more than its bytes.
-use Rattle.std.proofs.Common.{◌≡◌, ◌+◌, ◌≤◌, ◌<◌, ◌==◌, ◌||◌, ℕ, zero, suc, Bool, true, false, cond, List, [], ◌∷◌, ◌++◌, length, Option, Some, None, refl, sym, ap, subst, ◌∙◌, inl, inr, arith}
+use Rattle.std.proofs.Common.{◌≡◌, ◌+◌, ◌≤◌, ◌==◌, ◌||◌, ℕ, Bool, true, false, cond, List, [], ◌∷◌, ◌++◌, length, Option, Some, None, refl, ap, subst, arith}
 use Rattle.std.proofs.lemmas.Option.{same_Some}
 use Rattle.csv.specs.Machine.{Read, next_record, step, is_end, ends_at_end, fields_after, field_after}
 use Rattle.csv.specs.Reading.{Reached, default_config, strip_bom, is_bom}
@@ -51,7 +51,7 @@ between s f p [] r e = read-case (ends_at_end s) (f ++ (p ∷ []), st.StartRecor
 between s f p (c ∷ xs) r e =
     let go = step default_config s c in
     read-case (is_end go.1) (fields_after go.1 f p, go.0, xs) r _ (λ q. ends_at_end q.1 ≡ false) e (step-ends s c)
-        (between go.0 (fields_after go.1 f p) (field_after go.1 c p) xs r)
+    (between go.0 (fields_after go.1 f p) (field_after go.1 c p) xs r)
 
 -- what is left is no longer
 shorter : (s : State) (f : List (List ℕ)) (p xs : List ℕ) (r : Read) → next_record default_config s f p xs ≡ Some r → length r.2 ≤ length xs
@@ -60,7 +60,7 @@ shorter s f p [] r e = read-case (ends_at_end s) (f ++ (p ∷ []), st.StartRecor
 shorter s f p (c ∷ xs) r e =
     let go = step default_config s c in
     read-case (is_end go.1) (fields_after go.1 f p, go.0, xs) r _ (λ q. length q.2 ≤ length (c ∷ xs)) e (λ _. omega arith)
-        (λ n. omega (arith, shorter go.0 (fields_after go.1 f p) (field_after go.1 c p) xs r n))
+    (λ n. omega (arith, shorter go.0 (fields_after go.1 f p) (field_after go.1 c p) xs r n))
 
 none-from : (b : Bool) (here r : Read) → b ≡ false → cond b (Some here) None ≡ Some r → ⊥
 none-from true here r f e = cc f
@@ -73,7 +73,7 @@ strictly-shorter s f p [] r b e = absurd (none-from (ends_at_end s) (f ++ (p ∷
 strictly-shorter s f p (c ∷ xs) r b e =
     let go = step default_config s c in
     read-case (is_end go.1) (fields_after go.1 f p, go.0, xs) r _ (λ q. length q.2 + 1 ≤ length (c ∷ xs)) e (λ _. omega arith)
-        (λ n. omega (arith, shorter go.0 (fields_after go.1 f p) (field_after go.1 c p) xs r n))
+    (λ n. omega (arith, shorter go.0 (fields_after go.1 f p) (field_after go.1 c p) xs r n))
 
 pub rows-few : (s t : State) (xs ys : List ℕ) (rows : List (List (List ℕ))) → ends_at_end s ≡ false → Reached default_config s xs rows t ys → length rows + length ys ≤ length xs
 unfolding Reached

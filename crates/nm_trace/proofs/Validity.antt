@@ -1,10 +1,10 @@
 -- The script of references is one that a text can say.
-use Rattle.std.proofs.Common.{◌≡◌, ◌≢◌, ℕ, zero, suc, ◌+◌, ◌/◌, ◌%◌, ◌^◌, ◌<◌, ◌≤◌, ◌==◌, max, not, Bool, true, false, List, [], ◌∷◌, length, map, filter, get_or, cond, nat_eq, Option, Some, None, IsSome, IsSomeAnd, IsTrue, IfSome, refl, sym, ap, subst, ◌∙◌, inl, inr, arith, lit≤}
+use Rattle.std.proofs.Common.{◌≡◌, ◌≢◌, ℕ, zero, suc, ◌+◌, ◌^◌, ◌<◌, ◌≤◌, ◌==◌, Bool, true, false, List, [], ◌∷◌, length, map, filter, get_or, cond, nat_eq, Option, Some, None, IsSome, IsSomeAnd, IsTrue, IfSome, refl, sym, ap, subst, ◌∙◌, inl, inr, arith, lit≤}
 use Rattle.std.specs.List.{AllByRecursion, range_with_len, list_any}
 use Rattle.std.proofs.lemmas.Bool.{cases_Bool}
 use Rattle.std.proofs.lemmas.List.FromFn.{get_or-map-range_with_len, length-map-range_with_len}
 use Rattle.nm_base.specs.declared.geometry.VPage.{VPage}
-use Rattle.nm_base.specs.Geometry.{Geometry, IsGeometry}
+use Rattle.nm_base.specs.Geometry.{Geometry}
 use Rattle.nm_tiers.specs.declared.nodes.Node.{Node}
 use Rattle.nm_script.specs.declared.limits.TheConstants.{MOST_TURNS}
 use Rattle.nm_script.specs.declared.script.Line.{Line}
@@ -13,7 +13,7 @@ use Rattle.nm_script.specs.Plain.{Script}
 use Rattle.nm_script.specs.Script.{IsScript, IsAccess, IsTrimmed}
 use Rattle.nm_trace.specs.declared.reference.Reference.{Reference}
 use Rattle.nm_trace.specs.References.{IsReference}
-use Rattle.nm_trace.specs.Imports.{AreReferences, page_of, word_of, pages_seen, cpus_seen, page_number, access_with, line_for, program_for, programs_for, own_page, script_for, frames_for}
+use Rattle.nm_trace.specs.Imports.{page_of, word_of, pages_seen, cpus_seen, page_number, access_with, line_for, program_for, programs_for, own_page, script_for}
 use Rattle.nm_trace.specs.Drafts.{IsPageSeen}
 use Rattle.nm_trace.proofs.Geometries.{AreSizes, geometry_for, geometry-is}
 

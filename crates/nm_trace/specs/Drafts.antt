@@ -1,5 +1,5 @@
 -- What is kept of the references that were read so far.
-use Rattle.std.specs.Prelude.{◌≡◌, ◌≤◌, ◌<◌, ℕ, nat_eq, true, List, [], ◌∷◌, ◌++◌, length, map}
+use Rattle.std.specs.Prelude.{◌≡◌, ◌≤◌, ◌<◌, ℕ, nat_eq, true, List, [], ◌∷◌, ◌++◌, map}
 use Rattle.std.specs.List.{AllByRecursion, list_any}
 use Rattle.nm_trace.specs.declared.draft.Draft.{Draft}
 use Rattle.nm_trace.specs.declared.draft.Untaken.{Untaken}

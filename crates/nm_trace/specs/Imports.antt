@@ -1,7 +1,6 @@
 -- The script of a trace, and the first fault of a text that has none.
 use Rattle.std.specs.Prelude.{◌≡◌, ◌≢◌, ℕ, ◌+◌, ◌/◌, ◌%◌, ◌<◌, ◌≤◌, ◌==◌, ◌⊎◌, max, nat_eq, true, List, [], ◌∷◌, ◌++◌, length, map, filter, Option, Some, None, Ok, Err}
 use Rattle.std.specs.List.{AllByRecursion, range_with_len, position_or_len}
-use Rattle.csv.specs.Machine.{next_record}
 use Rattle.csv.specs.Reading.{AreRecords, Reached, default_config, strip_bom}
 use Rattle.csv.specs.declared.parser.State.{State}
 use Rattle.csv.specs.declared.parser.State.TheVariants as st

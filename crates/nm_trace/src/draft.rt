@@ -141,7 +141,13 @@ fn push_line(programs: &mut Vec<Vec<Line>>, cpu: usize, line: Line) -> Result<()
 }
 
 /// The geometry for this many processors and pages.
-fn make_geometry(alloc: Global, fast: u32, slow: u32, cpus: u32, pages: u32) -> Result<Geometry, AllocError>
+fn make_geometry(
+    alloc: Global,
+    fast: u32,
+    slow: u32,
+    cpus: u32,
+    pages: u32,
+) -> Result<Geometry, AllocError>
     requires fast { 1 ≤ fast }
     requires slow { 1 ≤ slow }
     requires sum { fast + slow ≤ 4096 }

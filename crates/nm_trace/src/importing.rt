@@ -110,7 +110,12 @@ fn read_records(alloc: Global, bytes: &[u8], fast: u32, slow: u32) -> Result<Dra
 }
 
 /// Takes the record of this number: the first is the header.
-fn take_record(draft: &mut Draft, fields: &ByteRecord, row: u32, frames: u32) -> Result<(), TraceRefusal>
+fn take_record(
+    draft: &mut Draft,
+    fields: &ByteRecord,
+    row: u32,
+    frames: u32,
+) -> Result<(), TraceRefusal>
     requires draft { (refs : List Reference) × IsDraftOf draft.old refs }
     requires few { frames ≤ 4096 }
     ensures header { row ≡ 1 → OnOk result ((draft.new ≡ draft.old) × (fields_of fields.now ≡ header)) }
@@ -124,12 +129,20 @@ fn take_record(draft: &mut Draft, fields: &ByteRecord, row: u32, frames: u32) ->
     if is_header(fields) {
         Ok(())
     } else {
-        Err(TraceRefusal::At { fault: TraceFault::BadHeader, row })
+        Err(TraceRefusal::At {
+            fault: TraceFault::BadHeader,
+            row,
+        })
     }
 }
 
 /// Takes the reference of the record of this number.
-fn take_reference(draft: &mut Draft, fields: &ByteRecord, row: u32, frames: u32) -> Result<(), TraceRefusal>
+fn take_reference(
+    draft: &mut Draft,
+    fields: &ByteRecord,
+    row: u32,
+    frames: u32,
+) -> Result<(), TraceRefusal>
     requires draft { (refs : List Reference) × IsDraftOf draft.old refs }
     requires few { frames ≤ 4096 }
     ensures taken { (refs : List Reference) → IsDraftOf draft.old refs → OnOk result (TakesReference draft.new (fields_of fields.now) frames refs) }
@@ -142,6 +155,9 @@ fn take_reference(draft: &mut Draft, fields: &ByteRecord, row: u32, frames: u32)
     match draft.take(reference, frames) {
         Ok(()) => Ok(()),
         Err(Untaken::Memory) => Err(TraceRefusal::Memory),
-        Err(Untaken::TooManyPages) => Err(TraceRefusal::At { fault: TraceFault::TooManyPages, row }),
+        Err(Untaken::TooManyPages) => Err(TraceRefusal::At {
+            fault: TraceFault::TooManyPages,
+            row,
+        }),
     }
 }

@@ -23,7 +23,11 @@ const HEADERS: [(&[u8], TraceFault, u32); 8] = [
     (b"cpu,kind,address,value,more\n", TraceFault::BadHeader, 1),
     (b" cpu,kind,address,value\n", TraceFault::BadHeader, 1),
     (b"cpu,kind,value,address\n", TraceFault::BadHeader, 1),
-    (b"\xef\xbb\xbfcpu,kind,address,value\n", TraceFault::Empty, 2),
+    (
+        b"\xef\xbb\xbfcpu,kind,address,value\n",
+        TraceFault::Empty,
+        2,
+    ),
     (b"cpu,\"kind\",address,value", TraceFault::Empty, 2),
 ];
 
@@ -54,9 +58,21 @@ const RECORDS: [(&[u8], TraceFault, u32); 28] = [
     (b"0,w,8,1\r\n0,w,9,1\r\n", TraceFault::OutOfRange, 3),
     (b"15,r,4,\n", TraceFault::OutOfRange, 2),
     (b"15,r,0,\n", TraceFault::TooManyPages, 2),
-    (b"0,r,0,\n0,r,4096,\n0,r,8192,\n0,r,12288,\n", TraceFault::TooManyPages, 5),
-    (b"0,r,0,\n1,r,4096,\n2,w,16,1\n0,x\n", TraceFault::TooManyPages, 4),
-    (b"0,r,0,\n0,r,8,\n1,w,16,1\n1,r,4096,\n0,x\n", TraceFault::BadRecord, 6),
+    (
+        b"0,r,0,\n0,r,4096,\n0,r,8192,\n0,r,12288,\n",
+        TraceFault::TooManyPages,
+        5,
+    ),
+    (
+        b"0,r,0,\n1,r,4096,\n2,w,16,1\n0,x\n",
+        TraceFault::TooManyPages,
+        4,
+    ),
+    (
+        b"0,r,0,\n0,r,8,\n1,w,16,1\n1,r,4096,\n0,x\n",
+        TraceFault::BadRecord,
+        6,
+    ),
 ];
 
 /// What stands after the header, and the canonical text of the script after the line of the tiers.

@@ -1,5 +1,5 @@
 -- The draft of a trace has a processor and a page, and its script is one that a text can say.
-use Rattle.std.proofs.Common.{◌≡◌, ◌+◌, ◌≤◌, length, ap, sym, subst, ◌∙◌, refl, inl, inr, arith}
+use Rattle.std.proofs.Common.{◌≡◌, length, ap, sym, subst, ◌∙◌, refl, inr, arith}
 use Rattle.nm_script.specs.Script.{IsScript, script_text}
 use Rattle.nm_trace.specs.Imports.{pages_seen, cpus_seen, script_for}
 use Rattle.nm_trace.proofs.Geometries.{AreSizes}
@@ -34,5 +34,5 @@ pub returns-then-len-gt-MOST_BYTES-clause-fault : goal.returns-then-len-gt-MOST_
 returns-then-len-gt-MOST_BYTES-clause-fault c =
     let read = c.in_ok-draft.ensures.read in
     let same : length c.in-Ok-print.text.items ≡ length (script_text (script_for c.args.fast c.args.slow read.0)) =
-        ap length (c.in-Ok-print.ensures.text ∙ ap script_text (c.in-Ok.ensures.script read.0 read.2)) in
+    ap length (c.in-Ok-print.ensures.text ∙ ap script_text (c.in-Ok.ensures.script read.0 read.2)) in
     inr (inr (inr (refl, refl, record { refs = read.0; trace = read.1; long = omega (arith, same, c.if-len-gt-MOST_BYTES.true, c.in-Ok-print.text.ok.0) })))
