@@ -9,3 +9,5 @@ pub mod Progress
 pub mod Validity
 pub mod Whole
 pub mod Outcome
+pub mod Numbers
+pub mod Again

@@ -4,3 +4,4 @@ pub mod Traces
 pub mod Imports
 pub mod Drafts
 pub mod Replies
+pub mod Laws
