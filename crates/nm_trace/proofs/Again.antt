@@ -1,5 +1,5 @@
 -- The trace of a script is read as the references of its lines.
-use Rattle.std.proofs.Common.{◌≡◌, ◌≢◌, ◌⊎◌, ◌+◌, ◌*◌, ◌%◌, ◌/◌, ◌<◌, ◌≤◌, ◌^◌, ◌==◌, ◌||◌, ℕ, zero, suc, Bool, true, false, List, [], ◌∷◌, ◌++◌, length, map, flat_map, Option, Some, None, IfSome, Result, Ok, Err, codes, refl, sym, ap, subst, ◌∙◌, inl, inr, arith, append_assoc}
+use Rattle.std.proofs.Common.{◌≡◌, ◌+◌, ◌%◌, ◌<◌, ◌^◌, ℕ, false, List, [], ◌∷◌, ◌++◌, map, flat_map, Option, Some, None, IfSome, codes, refl, subst, ◌∙◌, arith, append_assoc}
 use Rattle.std.specs.Fmt.{decimal}
 use Rattle.std.specs.List.{AllByRecursion, list_any}
 use Rattle.std.proofs.lemmas.Bool.{ne_eqb}
@@ -45,12 +45,12 @@ four-text a b c d h k l m = rw (h, k, l, m) (simp (append_assoc, append-nil))
 row-is : (r : Reference) → IsReference r → row_text default_writer (record_of r) ≡ reference_text r
 row-is r is =
     four-text (decimal r.cpu) (kind_field r.value) (decimal r.address) (value_field r.value) (field-plain (decimal r.cpu) (plain-number r.cpu (omega (arith, is.cpu)))) (plain-kind r.value)
-        (field-plain (decimal r.address) (plain-number r.address is.address)) (plain-value r.value is.value)
+    (field-plain (decimal r.address) (plain-number r.address is.address)) (plain-value r.value is.value)
 
 record-read : (r : Reference) (tail : List ℕ) → IsReference r → next_record default_config st.StartRecord [] [] (reference_text r ++ tail) ≡ Some (record_of r, st.StartRecord, tail)
 record-read r tail is =
     subst (λ t. next_record default_config st.StartRecord [] [] (t ++ tail) ≡ Some (record_of r, st.StartRecord, tail)) (row-is r is)
-        (read-write-many (decimal r.cpu) (kind_field r.value) (decimal r.address ∷ value_field r.value ∷ []) tail)
+    (read-write-many (decimal r.cpu) (kind_field r.value) (decimal r.address ∷ value_field r.value ∷ []) tail)
 
 header-is : row_text default_writer header ≡ codes "cpu,kind,address,value\n"
 unfolding fields_text is_blank escaped
@@ -59,7 +59,7 @@ header-is = refl
 header-read : (tail : List ℕ) → next_record default_config st.StartRecord [] [] (codes "cpu,kind,address,value\n" ++ tail) ≡ Some (header, st.StartRecord, tail)
 header-read tail =
     subst (λ t. next_record default_config st.StartRecord [] [] (t ++ tail) ≡ Some (header, st.StartRecord, tail)) header-is
-        (read-write-many (codes "cpu") (codes "kind") (codes "address" ∷ codes "value" ∷ []) tail)
+    (read-write-many (codes "cpu") (codes "kind") (codes "address" ∷ codes "value" ∷ []) tail)
 
 references-read : (refs : List Reference) → AllByRecursion IsReference refs → Reached default_config st.StartRecord (flat_map reference_text refs) (map record_of refs) st.StartRecord []
 unfolding Reached

@@ -11,3 +11,4 @@ pub mod Whole
 pub mod Outcome
 pub mod Numbers
 pub mod Again
+pub mod ReadAgain

@@ -1,7 +1,7 @@
 //! Scripts, with their traces.
 
 use nm_script::parse;
-use nm_trace::to_trace;
+use nm_trace::{page_numbers, read_again, to_trace};
 use std::test::Fail;
 
 /// Scripts, and the trace of each, where it has one.
@@ -41,5 +41,7 @@ fn traces(rt: HostRuntime) -> Result<(), Fail> {
             Some(bytes) => assert_eq!(rt; Some(bytes.as_slice()), trace),
         }
     }
+    page_numbers();
+    read_again();
     Ok(())
 }
