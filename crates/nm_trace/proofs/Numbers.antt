@@ -5,7 +5,7 @@ use Rattle.std.proofs.lemmas.Bool.{cases_Bool, eqb-true}
 use Rattle.std.proofs.lemmas.List.{append-nil}
 use Rattle.std.proofs.lemmas.List.Elements.{All-from_recursion}
 use Rattle.nm_trace.specs.declared.reference.Reference.{Reference}
-use Rattle.nm_trace.specs.Imports.{page_of, pages_seen, page_number}
+use Rattle.nm_trace.specs.Imports.{referenced_page, pages_seen, page_number}
 use Rattle.nm_trace.specs.Laws.{HasOwnNumbers}
 use Rattle.nm_trace.specs.Drafts.{IsPageSeen}
 use Rattle.nm_trace.proofs.Pages.{seen-push}
@@ -42,4 +42,4 @@ seen-all front (r ∷ rest) h = subst (λ l. AllByRecursion (IsPageSeen (pages_s
 pub own-numbers : (refs : List Reference) → HasOwnNumbers refs
 own-numbers refs i j d h k =
     let seen = All-from_recursion (IsPageSeen (pages_seen refs)) refs (seen-all [] refs tt) in
-    (same-place (pages_seen refs) (page_of (get_or refs i d)) (page_of (get_or refs j d)) (seen i d h) (seen j d k), λ e. ap (page_number (pages_seen refs)) e)
+    (same-place (pages_seen refs) (referenced_page (get_or refs i d)) (referenced_page (get_or refs j d)) (seen i d h) (seen j d k), λ e. ap (page_number (pages_seen refs)) e)

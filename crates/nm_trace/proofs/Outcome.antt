@@ -14,7 +14,7 @@ use Rattle.nm_trace.specs.declared.fault.TraceRefusal.TheVariants as refusals
 use Rattle.nm_trace.specs.declared.reference.Reference.{Reference}
 use Rattle.nm_trace.specs.References.{IsReference, record_of, header}
 use Rattle.nm_trace.specs.Records.{fields_in, numbers_in, reference_in}
-use Rattle.nm_trace.specs.Imports.{page_of, AreReferences, IsTraceOf, IsImport, IsFirstBadRow, IsRowFault, IsFirstTraceFault, IsTraceRefusal, IsTooLong, HasNoHeader, HasRecords, pages_seen, frames_for, trace_rows, script_for}
+use Rattle.nm_trace.specs.Imports.{referenced_page, AreReferences, IsTraceOf, IsImport, IsFirstBadRow, IsRowFault, IsFirstTraceFault, IsTraceRefusal, IsTooLong, HasNoHeader, HasRecords, pages_seen, frames_for, trace_rows, script_for}
 use Rattle.nm_trace.specs.Replies.{GivesImport}
 use Rattle.nm_trace.proofs.Pages.{pages_seen-push, cpus_seen-push}
 use Rattle.nm_trace.proofs.Whole.{one-list, whole-of}
@@ -70,7 +70,7 @@ insert-longer true ks k = omega arith
 insert-longer false ks k = omega (arith, length-append ks (k ∷ []))
 
 frames-push : (refs : List Reference) (r : Reference) → frames_for refs ≤ frames_for (refs ++ r ∷ [])
-frames-push refs r = omega (arith, ap length (pages_seen-push refs r), insert-longer (list_any (nat_eq (page_of r)) (pages_seen refs)) (pages_seen refs) (page_of r), cpus_seen-push refs r)
+frames-push refs r = omega (arith, ap length (pages_seen-push refs r), insert-longer (list_any (nat_eq (referenced_page r)) (pages_seen refs)) (pages_seen refs) (referenced_page r), cpus_seen-push refs r)
 
 frames-more : (front refs : List Reference) → frames_for front ≤ frames_for (front ++ refs)
 frames-more front [] = let same : frames_for (front ++ []) ≡ frames_for front = ap frames_for (append-nil front) in omega (arith, same)

@@ -7,13 +7,13 @@ use Rattle.nm_trace.specs.declared.fault.TraceFault.TheVariants as faults
 use Rattle.nm_trace.specs.declared.reference.Reference.{Reference}
 use Rattle.nm_trace.specs.References.{IsReference}
 use Rattle.nm_trace.specs.Traces.{references_from, trace_text}
-use Rattle.nm_trace.specs.Imports.{page_of, page_number, pages_seen, HasRecords, trace_rows, IsFirstTraceFault, IsImport, script_for}
+use Rattle.nm_trace.specs.Imports.{referenced_page, page_number, pages_seen, HasRecords, trace_rows, IsFirstTraceFault, IsImport, script_for}
 
 -- two references have one page number exactly where their addresses have one page
 abbrev pub HasOwnNumbers : List Reference → Type 0
 HasOwnNumbers refs = (i j : ℕ) (d : Reference) → i < length refs → j < length refs
-    → (page_number (pages_seen refs) (page_of (slice_index_or refs i d)) ≡ page_number (pages_seen refs) (page_of (slice_index_or refs j d)))
-    ↔ (page_of (slice_index_or refs i d) ≡ page_of (slice_index_or refs j d))
+    → (page_number (pages_seen refs) (referenced_page (slice_index_or refs i d)) ≡ page_number (pages_seen refs) (referenced_page (slice_index_or refs j d)))
+    ↔ (referenced_page (slice_index_or refs i d) ≡ referenced_page (slice_index_or refs j d))
 
 -- the trace of the script has the records of the references of its lines, so its import is the script of these, or has a
 -- fault of the whole

@@ -4,7 +4,7 @@ use Rattle.std.proofs.lemmas.List.{length-map}
 use Rattle.std.proofs.lemmas.List.FromFn.{length-map-range_with_len}
 use Rattle.indexmap.specs.IndexSet.{insert_key}
 use Rattle.nm_script.specs.declared.script.Line.{Line}
-use Rattle.nm_trace.specs.Imports.{page_of, pages_seen, program_for, line_for}
+use Rattle.nm_trace.specs.Imports.{referenced_page, pages_seen, program_for, line_for}
 use Rattle.nm_trace.proofs.Pages.{frames-more, line-own, seen-push, programs-more, pages_seen-push, cpus_seen-push}
 use Rattle.nm_trace.proofs.Outcomes.{OnOk-map}
 use Rattle.nm_trace.proofs.draft.Draft.take.Goals as goal
@@ -29,7 +29,7 @@ returns-clause-taken c refs h =
     line-own refs r c.args.self.now.pages.keys c.in_ok-v.v c.line_of-line.result h.pages c.in_ok-v.ensures.number.0 c.line_of-line.ensures in
     OnOk-map c.push_line.result c.push_line.ensures.pushed (λ pushed. (
       record {
-        pages = c.in_ok-v.ensures.keys ∙ ap (λ ks. insert_key nat_eq ks (page_of r)) h.pages ∙ sym (pages_seen-push refs r);
+        pages = c.in_ok-v.ensures.keys ∙ ap (λ ks. insert_key nat_eq ks (referenced_page r)) h.pages ∙ sym (pages_seen-push refs r);
         cpus = omega (arith, c.max-self.ensures, h.cpus, cpus_seen-push refs r);
         few = omega (arith, cpus_seen-push refs r, h.few, c.requires.reference.cpu);
         programs = pushed ∙ ap (λ (l : Line). set (map (λ p. p.items) c.args.self.now.programs.items) r.cpu (get_or (map (λ p. p.items) c.args.self.now.programs.items) r.cpu [] ++ l ∷ [])) line
