@@ -1,5 +1,5 @@
 -- One step more of a part that an actor of a machine runs.
-use Rattle.std.proofs.Common.{◌≡◌, ◌≢◌, ◌<◌, ◌+◌, ℕ, [], ◌∷◌, ◌++◌, length, sym, subst, ap, ◌∙◌, arith}
+use Rattle.std.proofs.Common.{◌≡◌, ◌≢◌, ◌<◌, ℕ, [], ◌∷◌, ◌++◌, length, sym, subst, ap, ◌∙◌}
 use Rattle.std.proofs.lemmas.List.{get_or-set_same, get_or-set_other}
 use Rattle.nm_base.specs.Geometry.{Geometry}
 use Rattle.nm_action.specs.declared.action.Action.{Action}
@@ -8,13 +8,13 @@ use Rattle.nm_action.specs.declared.turn.Step.{Step}
 use Rattle.nm_action.specs.declared.turn.Step.TheVariants.{Do}
 use Rattle.nm_action.specs.Own.{Own}
 use Rattle.nm_view.specs.Views.{View}
-use Rattle.nm_view.specs.Opening.{opening, IsActor}
+use Rattle.nm_view.specs.Opening.{opening}
 use Rattle.nm_permit.specs.Permitted.{Allowed}
 use Rattle.nm_event.specs.After.{after_of, view_after}
 use Rattle.nm_event.specs.Fitting.{Fits}
 use Rattle.nm_part.specs.Parts.{IsAsked, IsPartStep, IsHeard}
 use Rattle.nm_part.proofs.OwnLemmas.{view-push}
-use Rattle.nm_core.specs.State.{State, view_of, reply_to, step, actor_count}
+use Rattle.nm_core.specs.State.{State, view_of, reply_to, step}
 use Rattle.nm_actor_rows.specs.Following.{IsFollowing, IsMade}
 
 -- the view of an actor that made a step

@@ -12,7 +12,7 @@ use Rattle.nm_view.specs.Views.{View}
 use Rattle.nm_event.specs.Fitting.{Fits}
 use Rattle.nm_action.specs.Own.{Own}
 use Rattle.nm_event.specs.After.{view_after}
-use Rattle.nm_part.specs.Parts.{IsBegun, IsBegunWith, HasBegin, IsHeard, IsPartStep}
+use Rattle.nm_part.specs.Parts.{IsBegunWith, HasBegin, IsHeard, IsPartStep}
 use Rattle.nm_actor_rows.specs.Nested.{looked_view, MayNest, IsNested, LeavesNested, IsLooking, IsInside, EndsInside}
 use Rattle.nm_part.proofs.Inside.{asked-inside}
 

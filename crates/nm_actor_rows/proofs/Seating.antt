@@ -1,6 +1,6 @@
 -- Seats of the smallest board.
 use Rattle.std.proofs.Common.{◌≡◌, ◌≢◌, ℕ, zero, suc, refl, arith}
-use Rattle.nm_actor.specs.Boards.{Seat, not_sat, sitting, with_entry}
+use Rattle.nm_actor.specs.Boards.{not_sat, sitting, with_entry}
 use Rattle.nm_actor_rows.specs.Alone.{lone_seats}
 
 -- no other than actor 1 sits, where it sat first

@@ -1,3 +1,4 @@
 pub mod Alone
 pub mod Nested
 pub mod Following
+pub mod Running

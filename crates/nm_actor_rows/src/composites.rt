@@ -8,22 +8,23 @@ use nm_compose::{Act, Composite, Or};
 use nm_event::{Action, Reply, Step};
 use nm_part::Part;
 use nm_survey::{Survey, SurveyMade};
+use std::alloc::Global;
 use std::test::Fail;
 
 /// One virtual page, and tiers of 4 and of 8 frames.
-fn geometry(rt: &HostRuntime) -> Result<Geometry, Fail>
+pub(crate) fn geometry(alloc: Global) -> Result<Geometry, Fail>
     ensures { IfOk result IsGeometry }
 {
     let vpage = VPage {
         page: 0,
         writable: true,
     };
-    Ok(Geometry::new(rt.alloc(), 4, &[4, 8], 1, &[Some(vpage)])?)
+    Ok(Geometry::new(alloc, 4, &[4, 8], 1, &[Some(vpage)])?)
 }
 
 #[test]
 fn a_survey_locks_looks_and_unlocks(rt: HostRuntime) -> Result<(), Fail> {
-    let g = geometry(&rt)?;
+    let g = geometry(rt.alloc())?;
     let mut part: Or<Act, Composite<Survey, Act>> = Or::Other(Composite::new(Survey::new(&g, 0)));
     let Step::Do(Action::Lock { page: 0 }) = part.first() else {
         panic!(rt; "no lock")
@@ -40,7 +41,7 @@ fn a_survey_locks_looks_and_unlocks(rt: HostRuntime) -> Result<(), Fail> {
 
 #[test]
 fn a_survey_of_a_busy_page_ends(rt: HostRuntime) -> Result<(), Fail> {
-    let g = geometry(&rt)?;
+    let g = geometry(rt.alloc())?;
     let mut part = Composite::new(Survey::new(&g, 0));
     let Step::Do(Action::Lock { page: 0 }) = part.first() else {
         panic!(rt; "no lock")

@@ -1,5 +1,5 @@
 -- The lock law in pieces: each is kept where what it reads is as before.
-use Rattle.std.proofs.Common.{◌≡◌, ◌↔◌, ℕ, ◌+◌, Option, Some, None, IsSome, IfSome, refl, sym, ap, subst, ◌∙◌}
+use Rattle.std.proofs.Common.{◌≡◌, ◌↔◌, ℕ, ◌+◌, Option, Some, None, IsSome, refl, sym, ap, subst, ◌∙◌}
 use Rattle.std.specs.Prelude.{option_map}
 use Rattle.nm_base.specs.Geometry.{Geometry}
 use Rattle.nm_view.specs.Lists.{find, first}

@@ -1,23 +1,25 @@
-//! Parts that are run by an actor of a machine, step by step as a table says. Each reply is tested to fit.
+//! Actors of a machine, and parts that are run by one, step by step as a table says. Each reply is tested to fit.
 
-ghost use Rattle.std.specs.Prelude.{◌≡◌, ◌≤◌, [], slice_index, IsTrue};
+ghost use Rattle.std.specs.Prelude.{◌≡◌, ◌≤◌, ℕ, [], slice_index, IsTrue};
+ghost use Rattle.nm_base.specs.Geometry.{Geometry};
 ghost use Rattle.nm_base.specs.Ranges.{IsTier};
-ghost use Rattle.nm_view.specs.Opening.{IsActor};
+ghost use Rattle.nm_view.specs.Opening.{IsActor, opening};
 ghost use Rattle.nm_permit.specs.Permitted.{Allowed, InRange};
-ghost use Rattle.nm_event.specs.Fitting.{Fits, IsScanOf};
+ghost use Rattle.nm_event.specs.Fitting.{Fits, IsScanOf, IsTableReply};
 ghost use Rattle.nm_core.specs.State.{view_of};
 ghost use Rattle.nm_actor_rows.specs.Following.{IsMade};
 
+use nm_actor::Actor;
 use nm_base::Geometry;
 use nm_core::State;
-use nm_event::{Action, ActorView, Reply, Step, allowed};
+use nm_event::{Action, ActorView, Heard, Reply, Step, Turn, allowed};
 use nm_part::Part;
 use std::process::Abort;
 
 /// A line of a table.
 #[derive(Clone, Copy, Debug)]
 pub(super) enum Line {
-    /// The part gives this action, and hears this reply.
+    /// The part, or the actor, gives this action, and hears this reply.
     Gives(Action, Reply),
     /// Another actor makes this action.
     Other(u32, Action),
@@ -62,12 +64,24 @@ fn scan_fits(g: &Geometry, view: &ActorView, tier: u32, word: u64) -> bool
     word < 256
 }
 
-/// Whether a reply fits an action of a shootdown or a pool task. Others are not looked at.
+/// Whether a table word is absent, and so fits where the view has no operation.
+fn absent_fits(view: &ActorView, word: u64) -> bool
+    ensures { IsTrue result
+        → (g : Geometry) (vpage : ℕ) → IsTableReply g view.now vpage word }
+{
+    if !has_no_op(view) {
+        return false;
+    }
+    word == 0
+}
+
+/// Whether a reply fits a Look, or an action of a shootdown or a pool task. Others are not looked at.
 fn fits(g: &Geometry, view: &ActorView, action: Action, reply: Reply) -> bool
     requires { InRange g.now action }
     ensures { IsTrue result → Fits g.now view.now action reply }
 {
     match (action, reply) {
+        (Action::Look { .. }, Reply::Word(word)) => absent_fits(view, word),
         (Action::Bump, Reply::Word(word)) => word <= 8,
         (Action::SeeAck { .. }, Reply::Word(_)) => true,
         (Action::TakeTurn { .. }, Reply::Done) => true,
@@ -145,4 +159,42 @@ pub(super) fn play<P: Part>(
         panic!(rt; "not over")
     };
     outcome
+}
+
+/// Runs an actor of a machine to its end, as a table says. Conditions: it is this actor of this machine, it has given no turn
+/// yet, and in its view nothing was done.
+pub(super) fn act<A: Actor>(
+    rt: &impl Abort,
+    state: &mut State,
+    number: u32,
+    actor: &mut A,
+    lines: &[Line],
+)
+    requires exists { IsActor state.old.geometry number }
+    requires geometry { A.geometry (A.made actor.old) ≡ state.old.geometry }
+    requires number { A.number (A.made actor.old) ≡ number }
+    requires new { A.is_new actor.old }
+    requires view { view_of state.old number ≡ opening state.old.geometry number }
+{
+    let mut turn = actor.next(Heard::Start);
+    for line in lines {
+        match *line {
+            Line::Other(other, action) => {
+                let made = intrude(state, number, other, action);
+                assert!(rt; made, "{line:?}");
+            }
+            Line::Gives(action, reply) => {
+                let Turn::Do(given) = turn else {
+                    panic!(rt; "no action where {action:?}")
+                };
+                assert_eq!(rt; given, action);
+                let made = make(state, number, given, reply);
+                if !made {
+                    panic!(rt; "another reply than {reply:?}");
+                }
+                turn = actor.next(Heard::Answer(reply));
+            }
+        }
+    }
+    assert_eq!(rt; turn, Turn::End);
 }

@@ -1,4 +1,4 @@
-use Rattle.std.proofs.Common.{◌≡◌, ◌∙◌, refl, subst, arith, rules}
+use Rattle.std.proofs.Common.{◌∙◌, subst, rules}
 use Rattle.nm_base.specs.Geometry.{Geometry}
 use Rattle.nm_core.specs.State.{view_of}
 use Rattle.nm_actor_rows.specs.Following.{IsMade}

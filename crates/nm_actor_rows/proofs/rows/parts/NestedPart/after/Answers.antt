@@ -1,4 +1,4 @@
-use Rattle.nm_actor_rows.proofs.Nesting.{nested-more, nested-begins, looking-begins, inside-heard}
+use Rattle.nm_actor_rows.proofs.Nesting.{nested-more, nested-begins}
 use Rattle.nm_actor_rows.proofs.rows.parts.NestedPart.after.Goals as goal
 
 pub returns-then-self-clause-step : goal.returns-then-self-clause-step

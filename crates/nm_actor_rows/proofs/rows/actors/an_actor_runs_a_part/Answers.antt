@@ -1,0 +1,5 @@
+use Rattle.nm_actor_rows.proofs.Begins.{may-bump-first}
+use Rattle.nm_actor_rows.proofs.rows.actors.an_actor_runs_a_part.Goals as goal
+
+pub run-requires-clause-begin : goal.run-requires-clause-begin
+run-requires-clause-begin w c = λ g limits. may-bump-first g 1
