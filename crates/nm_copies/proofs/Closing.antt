@@ -27,7 +27,7 @@ use Rattle.nm_world.specs.Notions.{IsStanding, IsOwed, Owes, IsBehind, IsClean}
 use Rattle.nm_world.specs.ShapeLaw.{ShapeLaw}
 use Rattle.nm_world.specs.LockLaw.{LockLaw}
 use Rattle.nm_world.specs.CacheLaw.{CacheLaw, IsEntrySound}
-use Rattle.nm_world.specs.FrameLaw.{FrameLaw, IsMapping, IsWordOf, Claims, names_of}
+use Rattle.nm_world.specs.FrameLaw.{FrameLaw, MapsToHome, IsWordOf, Claims, names_of}
 use Rattle.nm_world.specs.FrameLaw.Claim.{AtHome, By}
 use Rattle.nm_world.specs.ShadowLaw.{ShadowLaw}
 use Rattle.nm_world.specs.Bounds.{HasBounds}

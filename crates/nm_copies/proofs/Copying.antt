@@ -17,7 +17,7 @@ use Rattle.nm_event.specs.After.{after_of, loaded}
 use Rattle.nm_world.specs.Worlds.{World, moved, viewing, written}
 use Rattle.nm_world.specs.Parts.{copier_of}
 use Rattle.nm_world.specs.Sights.{Sight, sight_of, sight_at}
-use Rattle.nm_world.specs.Notions.{IsClean, IsOut, value_of}
+use Rattle.nm_world.specs.Notions.{IsClean, IsOut, page_value}
 use Rattle.nm_world.specs.CopyLaw.{CopyLaw, CopySight, copy_sight, OpCopies}
 use Rattle.nm_world.specs.Laws.{IsReady}
 use Rattle.nm_world.proofs.Writing.{edit_sets}
@@ -40,7 +40,7 @@ not_zero : (n : ℕ) → n ≢ 0 → (n == 0) ≡ false
 not_zero n some = by_flag (n == 0) (λ zero. some (eqb-true n 0 zero))
 
 -- the value of a page with a home is the word of its home
-pub value_home : (home : ℕ → ℕ) (mem : ℕ → ℕ → ℕ) (b i : ℕ) → home b ≢ 0 → value_of home mem b i ≡ mem (home b - 1) i
+pub value_home : (home : ℕ → ℕ) (mem : ℕ → ℕ → ℕ) (b i : ℕ) → home b ≢ 0 → page_value home mem b i ≡ mem (home b - 1) i
 value_home home mem b i some = value_if (home b == 0) (mem (home b - 1) i) (not_zero (home b) some)
 
 -- where words may be copied, the first flush ended; where no virtual page is named then, the page is out of the table
@@ -58,7 +58,7 @@ some_number : (n x : ℕ) → Some n ≡ Some x → n ≡ x
 some_number n x is = cc
 
 -- after a CopyLoad of word n, which is the page's
-load_own : (g : Geometry) (k : CopySight) (a b n : ℕ) (o : Op) → OpCopies g k a b (copier_of g o) → is_early o.phase (is_flush_ended g o) ≡ false → (names_one o.phase o.cleared o.moved ≡ false → IsOut g k.pte b) → (names_one o.phase o.cleared o.moved ≡ false → IsClean g k.entry b) → n ≡ value_of k.home k.mem b o.copied → OpCopies g k a b (copier_of g (loaded n o))
+load_own : (g : Geometry) (k : CopySight) (a b n : ℕ) (o : Op) → OpCopies g k a b (copier_of g o) → is_early o.phase (is_flush_ended g o) ≡ false → (names_one o.phase o.cleared o.moved ≡ false → IsOut g k.pte b) → (names_one o.phase o.cleared o.moved ≡ false → IsClean g k.entry b) → n ≡ page_value k.home k.mem b o.copied → OpCopies g k a b (copier_of g (loaded n o))
 load_own g k a b n o h late out clean value = record {
   early = λ early. let both : true ≡ false = sym early ∙ late in absurd cc;
   last = λ x is index u. let same : n ≡ x = some_number n x is in sym same ∙ value;
@@ -74,7 +74,7 @@ known_word None P h = absurd h
 known_word (Some h) P is = (h, (refl, is))
 
 -- the frame that an operation knows as home holds the words of its page
-load_value : (g : Geometry) (m : Sight) (view : View) (b i : ℕ) (o : Op) → op_on view b ≡ Some o → IsInformed g m b o → MayCopyLoad g i o → m.mem (home_frame view b) i ≡ value_of m.home m.mem b o.copied
+load_value : (g : Geometry) (m : Sight) (view : View) (b i : ℕ) (o : Op) → op_on view b ≡ Some o → IsInformed g m b o → MayCopyLoad g i o → m.mem (home_frame view b) i ≡ page_value m.home m.mem b o.copied
 load_value g m view b i o here informed may =
     let home = known_word o.home (λ h. h ≢ 0) may.home in
     let stands : home.0 ≡ m.home b = informed.home home.0 home.1.0 in

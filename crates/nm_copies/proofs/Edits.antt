@@ -7,7 +7,7 @@ use Rattle.nm_view.specs.declared.view.Fill.TheVariants.{Zeroed}
 use Rattle.nm_view.specs.Views.{Op}
 use Rattle.nm_view.proofs.Items.{some_same, all_head, all_tail, more, none_left}
 use Rattle.nm_world.specs.Parts.{copier_of}
-use Rattle.nm_world.specs.Sights.{Sight, Sets, Writes}
+use Rattle.nm_world.specs.Sights.{Sight, Sets, WritesOne}
 use Rattle.nm_world.specs.Notions.{fill_page}
 use Rattle.nm_world.specs.CopyLaw.{CopySight, copy_sight, OpCopies, CopyLaw}
 use Rattle.nm_world.proofs.Moves.{each_op}
@@ -37,7 +37,7 @@ leaves_page g k after a b s pte from = record {
 }
 
 -- the table word of one page is written: those of another stay
-pub other_page : (g : Geometry) (pte after : ℕ → ℕ) (v x b j : ℕ) → Writes pte after v x → backing_page g v ≡ Some b → j ≢ b → (u : ℕ) → backing_page g u ≡ Some j → after u ≡ pte u
+pub other_page : (g : Geometry) (pte after : ℕ → ℕ) (v x b j : ℕ) → WritesOne pte after v x → backing_page g v ≡ Some b → j ≢ b → (u : ℕ) → backing_page g u ≡ Some j → after u ≡ pte u
 other_page g pte after v x b j writes of other u own = writes.rest u (λ same. other (some_same j b (sym own ∙ ap (backing_page g) same ∙ of)))
 
 -- one operation is edited: its copies are true, and those of operations on other pages are left

@@ -22,8 +22,8 @@ use Rattle.nm_event.specs.After.{homed_at, let_go, owning}
 use Rattle.nm_event.specs.Fitting.{Agrees}
 use Rattle.nm_world.specs.Worlds.{moved}
 use Rattle.nm_world.specs.Parts.{copier_of}
-use Rattle.nm_world.specs.Sights.{Sight, Sets, Writes}
-use Rattle.nm_world.specs.Notions.{IsClean, IsOut, value_of, fill_page}
+use Rattle.nm_world.specs.Sights.{Sight, Sets, WritesOne}
+use Rattle.nm_world.specs.Notions.{IsClean, IsOut, page_value, fill_page}
 use Rattle.nm_world.specs.CopyLaw.{CopyLaw, copy_sight, HasCopies, IsUnspoilt, OpCopies}
 use Rattle.nm_world.proofs.Choose.{choose}
 use Rattle.nm_copies.specs.Facts.{HasHolders, HasNamed, HasMapped, HasHomes, HasStanding, IsInformed}
@@ -82,7 +82,7 @@ FillsOrOld m after a b = (c f : ℕ) (x : Fill) → after.fill c f ≡ Some x �
 pub record IsReadyHome (g : Geometry) (m : Sight) (b f : ℕ) (o : Op) : Type 0 where
   pub out : IsOut g m.pte b
   pub clean : IsClean g m.entry b
-  pub same : (i : ℕ) → IsIndex g i → m.mem f i ≡ value_of m.home m.mem b i
+  pub same : (i : ℕ) → IsIndex g i → m.mem f i ≡ page_value m.home m.mem b i
   pub taken : names_one o.phase o.cleared o.moved ≡ true → names_one o.phase o.cleared true ≡ false → All (λ p. is_dirty p.1 ≡ false) o.taken
 
 -- a page without a home has neither words nor entries
@@ -104,7 +104,7 @@ unnamed_phase Taken false moved held naming after = absurd (let both : false ≡
 pub ready_demanded : (g : Geometry) (m : Sight) (a b f : ℕ) (o : Op) (x : Fill) → m.op a b ≡ Some o → m.fill a f ≡ Some x → IsHomeDemanded g o x → IsInformed g m b o → HasMapped g m → HasHomes g m → (o.phase ≡ Held → o.cleared ≡ false) → (o.cleared ≡ true → o.phase ≡ Taken → o.taken ≢ []) → CopyLaw g m → IsReadyHome g m b f o
 ready_demanded g m a b f o x here owned may informed mapped homes held some h =
     let none : m.home b ≡ 0 = sym (informed.home 0 may.home) in
-    let zero : (i : ℕ) → value_of m.home m.mem b i ≡ 0 = λ i. rw none refl in
+    let zero : (i : ℕ) → page_value m.home m.mem b i ≡ 0 = λ i. rw none refl in
     record {
       out = homeless_out g m b none mapped;
       clean = homeless_clean g m b none homes;
@@ -186,15 +186,15 @@ zeroed_equal : (b n : ℕ) → Zeroed n ≡ Equal b → ⊥
 zeroed_equal b n is = cc
 
 -- the old home has the words that the page had
-old_home : (m : Sight) (b k i : ℕ) → IsLetGo b (Some (m.home b)) k (Equal b) → m.mem k i ≡ value_of m.home m.mem b i
+old_home : (m : Sight) (b k i : ℕ) → IsLetGo b (Some (m.home b)) k (Equal b) → m.mem k i ≡ page_value m.home m.mem b i
 old_home m b k i old =
     let word : m.home b ≡ old.word = some_same (m.home b) old.word old.known in
     let frame : k ≡ m.home b - 1 = omega (arith, word, old.frame) in
     ap (λ n. m.mem n i) frame ∙ sym (value_home m.home m.mem b i (λ none. old.some (sym word ∙ none)))
 
-home_own : (g : Geometry) (m after : Sight) (a b f : ℕ) (o : Op) → Writes m.home after.home b (home_word f) → ((v : ℕ) → after.pte v ≡ m.pte v) → ((h i : ℕ) → after.mem h i ≡ m.mem h i) → ((c v : ℕ) (e : CacheEntry) → after.entry c v ≡ Some e → m.entry c v ≡ Some e) → FillsOrOld m after a b → IsReadyHome g m b f o → OpCopies g (copy_sight m) a b (copier_of g o) → OpCopies g (copy_sight after) a b (copier_of g (homed_at f o))
+home_own : (g : Geometry) (m after : Sight) (a b f : ℕ) (o : Op) → WritesOne m.home after.home b (home_word f) → ((v : ℕ) → after.pte v ≡ m.pte v) → ((h i : ℕ) → after.mem h i ≡ m.mem h i) → ((c v : ℕ) (e : CacheEntry) → after.entry c v ≡ Some e → m.entry c v ≡ Some e) → FillsOrOld m after a b → IsReadyHome g m b f o → OpCopies g (copy_sight m) a b (copier_of g o) → OpCopies g (copy_sight after) a b (copier_of g (homed_at f o))
 home_own g m after a b f o writes pte mem entry fills ready h =
-    let value : (i : ℕ) → IsIndex g i → value_of after.home after.mem b i ≡ value_of m.home m.mem b i = λ i index.
+    let value : (i : ℕ) → IsIndex g i → page_value after.home after.mem b i ≡ page_value m.home m.mem b i = λ i index.
     value_home after.home after.mem b i (λ none. (omega (arith, none, writes.here))) ∙ mem (after.home b - 1) i
     ∙ ap (λ n. m.mem n i) (let frame : after.home b - 1 ≡ f = omega (arith, writes.here) in frame) ∙ ready.same i index in
     let copy : (k n : ℕ) → after.fill a k ≡ Some (Copied b n) → m.fill a k ≡ Some (Copied b n) = λ k n is. elim (fills a k (Copied b n) is) [
@@ -229,7 +229,7 @@ home_own g m after a b f o writes pte mem entry fills ready h =
     }
 
 -- what of another page is left
-home_leaves : (g : Geometry) (m after : Sight) (a b f c j : ℕ) → j ≢ b → Writes m.home after.home b (home_word f) → ((v : ℕ) → after.pte v ≡ m.pte v) → ((h i : ℕ) → after.mem h i ≡ m.mem h i) → ((c v : ℕ) (e : CacheEntry) → after.entry c v ≡ Some e → m.entry c v ≡ Some e) → FillsOrOld m after a b → Leaves g (copy_sight m) (copy_sight after) c j
+home_leaves : (g : Geometry) (m after : Sight) (a b f c j : ℕ) → j ≢ b → WritesOne m.home after.home b (home_word f) → ((v : ℕ) → after.pte v ≡ m.pte v) → ((h i : ℕ) → after.mem h i ≡ m.mem h i) → ((c v : ℕ) (e : CacheEntry) → after.entry c v ≡ Some e → m.entry c v ≡ Some e) → FillsOrOld m after a b → Leaves g (copy_sight m) (copy_sight after) c j
 home_leaves g m after a b f c j other writes pte mem entry fills = record {
   fill = λ h x is of. elim (fills c h x is) [ inl was ↦ was | inr old ↦ absurd (other (some_same j b (sym of ∙ ap fill_page old.1.is))) ];
   words = λ h i x is of. mem h i;
@@ -242,7 +242,7 @@ home_leaves g m after a b f c j other writes pte mem entry fills = record {
   twin_clean = λ u. clean_stays g (copy_sight m) (copy_sight after) j entry;
 }
 
-pub law_homed : (g : Geometry) (m after : Sight) (a b f : ℕ) (o : Op) → HasHolders m.op → Sets m.op after.op a b (Some (homed_at f o)) → m.op a b ≡ Some o → Writes m.home after.home b (home_word f) → ((v : ℕ) → after.pte v ≡ m.pte v) → ((h i : ℕ) → after.mem h i ≡ m.mem h i) → ((c v : ℕ) (e : CacheEntry) → after.entry c v ≡ Some e → m.entry c v ≡ Some e) → FillsOrOld m after a b → IsReadyHome g m b f o → CopyLaw g m → CopyLaw g after
+pub law_homed : (g : Geometry) (m after : Sight) (a b f : ℕ) (o : Op) → HasHolders m.op → Sets m.op after.op a b (Some (homed_at f o)) → m.op a b ≡ Some o → WritesOne m.home after.home b (home_word f) → ((v : ℕ) → after.pte v ≡ m.pte v) → ((h i : ℕ) → after.mem h i ≡ m.mem h i) → ((c v : ℕ) (e : CacheEntry) → after.entry c v ≡ Some e → m.entry c v ≡ Some e) → FillsOrOld m after a b → IsReadyHome g m b f o → CopyLaw g m → CopyLaw g after
 law_homed g m after a b f o holders sets here writes pte mem entry fills ready h =
     law_edited g m after a b o (homed_at f o) holders sets here
     (λ c k n is i lt. mem k i ∙ elim (fills c k (Zeroed n) is) [ inl was ↦ h.zeroed c k n was i lt | inr old ↦ absurd (zeroed_equal b n old.1.is) ])

@@ -17,7 +17,7 @@ use Rattle.nm_event.specs.After.{after_of, mapped_at, granted_at, has_some, spoi
 use Rattle.nm_view.specs.Lists.{erase, first}
 use Rattle.nm_world.specs.Worlds.{World, moved, viewing, written, pte_at}
 use Rattle.nm_world.specs.Parts.{Copier, copier_of}
-use Rattle.nm_world.specs.Sights.{Sight, Sets, Writes, sight_of, sight_at}
+use Rattle.nm_world.specs.Sights.{Sight, Sets, WritesOne, sight_of, sight_at}
 use Rattle.nm_world.specs.Notions.{IsClean, IsUndirtied, fill_page}
 use Rattle.nm_world.specs.CopyLaw.{CopyLaw, CopySight, copy_sight, IsUnspoilt, OpCopies}
 use Rattle.nm_world.specs.Laws.{IsReady}
@@ -51,7 +51,7 @@ spoilt_step : (g : Geometry) (m : World) (a v x b : ℕ) (o : Op) (f : Op → Op
 spoilt_step g m a v x b o f new holders of here sets cache owned unloaded dirty h =
     let before : Sight = sight_of g m in
     let after : Sight = sight_at g (written (words.Pte v) x m.word) (viewing a new m.view) in
-    let writes : Writes before.pte after.pte v x = word_writes before.pte v x in
+    let writes : WritesOne before.pte after.pte v x = word_writes before.pte v x in
     let s = keeps_frames g m a v x new cache in
     let mine : (k : ℕ) → after.fill a k ≡ fill_of new k = λ k. ap (λ w. fill_of w k) (own_view a new m.view) in
     law_table g before after a b o (f o) holders sets here s
@@ -86,14 +86,14 @@ copies-map g m a v word holders r h =
     let new : View = after_of g (m.view a) (Map v word) Done in
     let on = on_page g (m.view a) v (MayMap g v word) r.allowed.permitted in
     let after : Sight = sight_at g (written (words.Pte v) word m.word) (viewing a new m.view) in
-    let writes : Writes (sight_of g m).pte after.pte v word = word_writes (sight_of g m).pte v word in
+    let writes : WritesOne (sight_of g m).pte after.pte v word = word_writes (sight_of g m).pte v word in
     spoilt_step g m a v word on.page on.op (mapped_at v word) new holders on.of on.here
     (edit_sets a on.page (mapped_at v word) on.op new m.view (λ o. refl) (edit_is g v on.page (mapped_at v word) (m.view a).ops on.of) on.here)
     refl (spoiled_is g v on.page (m.view a) on.of) refl
     (λ naming late u. absurd (map_dirty g after.pte v word on.page on.op writes.here on.of on.may naming late (u.table naming))) h
 
 -- a grant leaves dirty what was dirty
-undirtied_granted : (g : Geometry) (pte after : ℕ → ℕ) (v b : ℕ) → Writes pte after v (granted_word (pte v)) → IsUndirtied g after b → IsUndirtied g pte b
+undirtied_granted : (g : Geometry) (pte after : ℕ → ℕ) (v b : ℕ) → WritesOne pte after v (granted_word (pte v)) → IsUndirtied g after b → IsUndirtied g pte b
 undirtied_granted g pte after v b writes dry u of =
     elim (cases_eq u v) [
       | inl same ↦
@@ -109,7 +109,7 @@ copies-grant g m a v holders r h =
     let new : View = after_of g (m.view a) (Grant v) (Word n) in
     let on = on_page g (m.view a) v (MayGrant v) r.allowed.permitted in
     let after : Sight = sight_at g (written (words.Pte v) x m.word) (viewing a new m.view) in
-    let writes : Writes (sight_of g m).pte after.pte v x = word_writes (sight_of g m).pte v x in
+    let writes : WritesOne (sight_of g m).pte after.pte v x = word_writes (sight_of g m).pte v x in
     spoilt_step g m a v x on.page on.op (granted_at v n) new holders on.of on.here
     (edit_sets a on.page (granted_at v n) on.op new m.view (λ o. refl) (edit_is g v on.page (granted_at v n) (m.view a).ops on.of) on.here)
     refl (spoiled_is g v on.page (m.view a) on.of) refl

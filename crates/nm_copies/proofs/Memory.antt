@@ -16,7 +16,7 @@ use Rattle.nm_permit.specs.Permitted.{IsCachedDirty}
 use Rattle.nm_world.specs.Worlds.{World, moved, viewing, written}
 use Rattle.nm_world.specs.Parts.{Copier, copier_of}
 use Rattle.nm_world.specs.Sights.{Sight, Sets, sight_of, sight_at}
-use Rattle.nm_world.specs.Notions.{IsClean, value_of}
+use Rattle.nm_world.specs.Notions.{IsClean, page_value}
 use Rattle.nm_world.specs.CopyLaw.{CopyLaw, CopySight, copy_sight, HasCopies, IsUnspoilt, OpCopies}
 use Rattle.nm_world.specs.Laws.{IsReady}
 use Rattle.nm_world.proofs.Writing.{mem_sets}
@@ -28,7 +28,7 @@ use Rattle.nm_copies.proofs.Fills.{there}
 use Rattle.nm_copies.proofs.Copying.{value_home}
 
 -- a page whose home is not the frame that was written has its words
-pub value_apart : (home : ℕ → ℕ) (mem after : ℕ → ℕ → ℕ) (b f i : ℕ) → home b ≢ home_word f → ((h j : ℕ) → h ≢ f → after h j ≡ mem h j) → value_of home after b i ≡ value_of home mem b i
+pub value_apart : (home : ℕ → ℕ) (mem after : ℕ → ℕ → ℕ) (b f i : ℕ) → home b ≢ home_word f → ((h j : ℕ) → h ≢ f → after h j ≡ mem h j) → page_value home after b i ≡ page_value home mem b i
 value_apart home mem after b f i apart same =
     elim (cases_eq (home b) 0) [
       | inl zero ↦ rw zero refl
@@ -75,7 +75,7 @@ store_leaves : (g : Geometry) (m after : Sight) (a b f : ℕ) → StoreLeaves (c
 store_leaves g m after a b f s apart owned = record {
   fill = λ h x is of. sym (s.fill a h) ∙ is;
   words = λ h i x is of. s.mem h i (owned a h x (sym (s.fill a h) ∙ is));
-  value = λ i. let home : value_of after.home after.mem b i ≡ value_of m.home after.mem b i = rw (s.home b) refl in home ∙ value_apart m.home m.mem after.mem b f i apart s.mem;
+  value = λ i. let home : page_value after.home after.mem b i ≡ page_value m.home after.mem b i = rw (s.home b) refl in home ∙ value_apart m.home m.mem after.mem b f i apart s.mem;
   undirtied = λ h v of. rw (sym (s.pte v)) (h v of);
   cached = λ u. clean_stays g (copy_sight m) (copy_sight after) b s.entry;
   out = λ h v of. s.pte v ∙ h v of;

@@ -9,7 +9,7 @@ use Rattle.nm_view.specs.Views.{Op}
 use Rattle.nm_view.proofs.Items.{not_none, some_same}
 use Rattle.nm_world.specs.Parts.{Copier, copier_of}
 use Rattle.nm_world.specs.Sights.{Sight}
-use Rattle.nm_world.specs.Notions.{IsOut, IsReadOnly, IsUndirtied, IsClean, value_of, fill_page}
+use Rattle.nm_world.specs.Notions.{IsOut, IsReadOnly, IsUndirtied, IsClean, page_value, fill_page}
 use Rattle.nm_world.specs.CopyLaw.{CopySight, copy_sight, HasCopies, IsUnspoilt, IsTwin, OpCopies, CopyLaw}
 
 -- what actor a's copies of page b rest on stands after a step: each fill that tells of b was there before, with these words,
@@ -17,7 +17,7 @@ use Rattle.nm_world.specs.CopyLaw.{CopySight, copy_sight, HasCopies, IsUnspoilt,
 pub record Leaves (g : Geometry) (k after : CopySight) (a b : ℕ) : Type 0 where
   pub fill : (f : ℕ) (x : Fill) → after.fill a f ≡ Some x → fill_page x ≡ Some b → k.fill a f ≡ Some x
   pub words : (f i : ℕ) (x : Fill) → after.fill a f ≡ Some x → fill_page x ≡ Some b → after.mem f i ≡ k.mem f i
-  pub value : (i : ℕ) → value_of after.home after.mem b i ≡ value_of k.home k.mem b i
+  pub value : (i : ℕ) → page_value after.home after.mem b i ≡ page_value k.home k.mem b i
   pub undirtied : IsUndirtied g after.pte b → IsUndirtied g k.pte b
   pub cached : IsUndirtied g after.pte b → IsClean g k.entry b → IsClean g after.entry b
   pub out : IsOut g k.pte b → IsOut g after.pte b
@@ -65,7 +65,7 @@ pub record Tames (g : Geometry) (k after : CopySight) : Type 0 where
   pub twin_clean : (b : ℕ) → IsReadOnly g k.pte b → IsClean g k.entry b → IsClean g after.entry b
 
 -- a page has its words where its home and the words of frames stay
-pub value_same : (k after : CopySight) (b i : ℕ) → after.home b ≡ k.home b → ((f i : ℕ) → after.mem f i ≡ k.mem f i) → value_of after.home after.mem b i ≡ value_of k.home k.mem b i
+pub value_same : (k after : CopySight) (b i : ℕ) → after.home b ≡ k.home b → ((f i : ℕ) → after.mem f i ≡ k.mem f i) → page_value after.home after.mem b i ≡ page_value k.home k.mem b i
 value_same k after b i home mem = rw (home, mem (k.home b - 1) i) refl
 
 pub tame_leaves : (g : Geometry) (k after : CopySight) → Tames g k after → (a b : ℕ) → Leaves g k after a b

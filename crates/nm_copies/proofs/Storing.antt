@@ -21,7 +21,7 @@ use Rattle.nm_event.specs.After.{after_of, copied_one, filled}
 use Rattle.nm_world.specs.Worlds.{World, moved, viewing, written}
 use Rattle.nm_world.specs.Parts.{Copier, copier_of}
 use Rattle.nm_world.specs.Sights.{Sight, Sets, sight_of, sight_at}
-use Rattle.nm_world.specs.Notions.{value_of, fill_page}
+use Rattle.nm_world.specs.Notions.{page_value, fill_page}
 use Rattle.nm_world.specs.CopyLaw.{CopyLaw, copy_sight, HasCopies, IsUnspoilt, IsTwin, OpCopies}
 use Rattle.nm_world.specs.Laws.{IsReady}
 use Rattle.nm_world.proofs.Writing.{item_sets, edit_sets, mem_sets}
@@ -78,9 +78,9 @@ others_kept : (m after : Sight) (a f i x : ℕ) (was fill : Fill) → Fills m af
 others_kept m after a f i x was fill s roles c h y apart is j = s.mem.others h j (others_apart m after a f i x was fill s roles c h y apart is)
 
 -- every page has its words, as an owned frame is no home
-value_kept : (m after : Sight) (a f i x b j : ℕ) (was fill : Fill) → Fills m after a f i x was fill → HasRoles m → value_of after.home after.mem b j ≡ value_of m.home m.mem b j
+value_kept : (m after : Sight) (a f i x b j : ℕ) (was fill : Fill) → Fills m after a f i x was fill → HasRoles m → page_value after.home after.mem b j ≡ page_value m.home m.mem b j
 value_kept m after a f i x b j was fill s roles =
-    let home : value_of after.home after.mem b j ≡ value_of m.home after.mem b j = rw (s.home b) refl in
+    let home : page_value after.home after.mem b j ≡ page_value m.home after.mem b j = rw (s.home b) refl in
     home ∙ value_apart m.home m.mem after.mem b f j (roles.owned a b f was s.owned) (λ h k other. s.mem.others h k other)
 
 -- what a fill that tells of another page than the new fill says was said before, of words that stay
@@ -137,7 +137,7 @@ law_zeroed g m after a f i x was s op roles may zero h = record {
 -- The loaded word is written.
 
 -- the first words of the frame were copied
-copied_first : (g : Geometry) (m : Sight) (a b f i j : ℕ) (was : Fill) (o : Copier) → m.fill a f ≡ Some was → IsCopiedTo b i was → OpCopies g (copy_sight m) a b o → IsUnspoilt g m.pte b o.naming o.taken → IsIndex g j → j < i → m.mem f j ≡ value_of m.home m.mem b j
+copied_first : (g : Geometry) (m : Sight) (a b f i j : ℕ) (was : Fill) (o : Copier) → m.fill a f ≡ Some was → IsCopiedTo b i was → OpCopies g (copy_sight m) a b o → IsUnspoilt g m.pte b o.naming o.taken → IsIndex g j → j < i → m.mem f j ≡ page_value m.home m.mem b j
 copied_first g m a b f i j Raw o is may h u index lt = absurd (omega (arith, may, lt))
 copied_first g m a b f i j (Zeroed n) o is may h u index lt = absurd may
 copied_first g m a b f i j (Copied c n) o is may h u index lt = h.copied f n (is ∙ ap (λ k. Some (Copied k n)) may.page_is) u j index (omega (arith, may.count_is, lt))
@@ -157,12 +157,12 @@ stored_own : (g : Geometry) (m after : Sight) (a b f i x : ℕ) (was : Fill) (o 
 stored_own g m after a b f i x was o s roles may loaded index h =
     let fill : Fill = Copied b (i + 1) in
     let has : HasCopies m.fill a b o.last = inl (rw loaded.last cc) in
-    let value : (j : ℕ) → value_of after.home after.mem b j ≡ value_of m.home m.mem b j = λ j. value_kept m after a f i x b j was fill s roles in
+    let value : (j : ℕ) → page_value after.home after.mem b j ≡ page_value m.home m.mem b j = λ j. value_kept m after a f i x b j was fill s roles in
     let before : IsUnspoilt g after.pte b (copier_of g o).naming o.taken → IsUnspoilt g m.pte b (copier_of g o).naming o.taken = λ u. record { table = λ n v of. rw (sym (s.pte v)) (u.table n v of); taken = u.taken } in
-    let at : (j : ℕ) → j ≡ i → IsUnspoilt g m.pte b (copier_of g o).naming o.taken → x ≡ value_of m.home m.mem b j = λ j same u. (
+    let at : (j : ℕ) → j ≡ i → IsUnspoilt g m.pte b (copier_of g o).naming o.taken → x ≡ page_value m.home m.mem b j = λ j same u. (
     let next : o.copied ≡ j = sym (same ∙ loaded.next) in
     let range : IsIndex g o.copied = subst (IsIndex g) loaded.next index in
-    h.last x loaded.last range u ∙ ap (value_of m.home m.mem b) next) in
+    h.last x loaded.last range u ∙ ap (page_value m.home m.mem b) next) in
     let entry : (c v : ℕ) (e : CacheEntry) → after.entry c v ≡ Some e → m.entry c v ≡ Some e = λ c v e is. sym (s.entry c v) ∙ is in
     record {
       early = λ early. absurd (h.early early has);

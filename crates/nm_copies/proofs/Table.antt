@@ -18,7 +18,7 @@ use Rattle.nm_permit.specs.Permitted.{MayClear, MayUnmap, IsTakingPhase}
 use Rattle.nm_event.specs.After.{after_of, cleared_at, taken_at, edit_under}
 use Rattle.nm_world.specs.Worlds.{World, moved, viewing, written, pte_at}
 use Rattle.nm_world.specs.Parts.{Copier, copier_of}
-use Rattle.nm_world.specs.Sights.{Sight, Writes, sight_of, sight_at}
+use Rattle.nm_world.specs.Sights.{Sight, WritesOne, sight_of, sight_at}
 use Rattle.nm_world.specs.Notions.{IsOut, IsReadOnly}
 use Rattle.nm_world.specs.CopyLaw.{CopyLaw, CopySight, copy_sight, HasCopies, IsUnspoilt, IsTwin, OpCopies}
 use Rattle.nm_world.specs.Laws.{IsReady}
@@ -52,7 +52,7 @@ twin_kept g k after b f s only h = record {
 }
 
 -- a written word without the right to write, where there was none, gives none
-written_only : (g : Geometry) (pte after : ℕ → ℕ) (v x b : ℕ) → Writes pte after v x → (is_writable (pte v) ≡ false → is_writable x ≡ false) → IsReadOnly g pte b → IsReadOnly g after b
+written_only : (g : Geometry) (pte after : ℕ → ℕ) (v x b : ℕ) → WritesOne pte after v x → (is_writable (pte v) ≡ false → is_writable x ≡ false) → IsReadOnly g pte b → IsReadOnly g after b
 written_only g pte after v x b writes step only u of =
     elim (cases_eq u v) [
       | inl same ↦ ap (λ n. is_writable (after n)) same ∙ ap is_writable writes.here ∙ step (ap (λ n. is_writable (pte n)) (sym same) ∙ only u of)
@@ -103,7 +103,7 @@ copies-clear_dirty g m a v holders r h =
     let on = on_page g (m.view a) v (MayClear g v) r.allowed.permitted in
     let before : Sight = sight_of g m in
     let after : Sight = sight_at g (written (words.Pte v) x m.word) (viewing a new m.view) in
-    let writes : Writes before.pte after.pte v x = word_writes before.pte v x in
+    let writes : WritesOne before.pte after.pte v x = word_writes before.pte v x in
     let s = keeps_frames g m a v x new refl in
     law_table g before after a on.page on.op (cleared_at v on.op) holders
     (edit_sets a on.page (cleared_at v) on.op new m.view (λ o. refl) (edit_is g v on.page (cleared_at v) (m.view a).ops on.of) on.here)
@@ -116,7 +116,7 @@ copies-clear_dirty g m a v holders r h =
 -- Unmap.
 
 -- where the word that goes is not dirty, the page was unspoilt before if it is so after
-unspoilt_unmapped : (g : Geometry) (pte after : ℕ → ℕ) (b v n : ℕ) (taken : List (ℕ × ℕ)) → Writes pte after v 0 → pte v ≡ n → IsUnspoilt g after b true (taken ++ (v, n) ∷ []) → IsUnspoilt g pte b true taken
+unspoilt_unmapped : (g : Geometry) (pte after : ℕ → ℕ) (b v n : ℕ) (taken : List (ℕ × ℕ)) → WritesOne pte after v 0 → pte v ≡ n → IsUnspoilt g after b true (taken ++ (v, n) ∷ []) → IsUnspoilt g pte b true taken
 unspoilt_unmapped g pte after b v n taken writes was u =
     let all = u.taken refl in
     let last : is_dirty n ≡ false = all_last (λ p. is_dirty p.1 ≡ false) taken (v, n) all in
@@ -128,7 +128,7 @@ unspoilt_unmapped g pte after b v n taken writes was u =
       taken = λ _. all_front (λ p. is_dirty p.1 ≡ false) taken (v, n) all;
     }
 
-written_out : (g : Geometry) (pte after : ℕ → ℕ) (v b : ℕ) → Writes pte after v 0 → IsOut g pte b → IsOut g after b
+written_out : (g : Geometry) (pte after : ℕ → ℕ) (v b : ℕ) → WritesOne pte after v 0 → IsOut g pte b → IsOut g after b
 written_out g pte after v b writes out u of =
     elim (cases_eq u v) [ inl same ↦ ap after same ∙ writes.here | inr other ↦ writes.rest u other ∙ out u of ]
 
@@ -136,7 +136,7 @@ written_out g pte after v b writes out u of =
 record UnmapLeaves (g : Geometry) (k after : CopySight) (a b v n : ℕ) : Type 0 where
   frames : KeepsFrames k after
   fill : (f : ℕ) (x : Fill) → after.fill a f ≡ Some x → k.fill a f ≡ Some x
-  writes : Writes k.pte after.pte v 0
+  writes : WritesOne k.pte after.pte v 0
   was : k.pte v ≡ n
 
 -- the twins of the page stay so
@@ -214,7 +214,7 @@ copies-unmap g m a v holders stages r h =
     let on = on_page g (m.view a) v (MayUnmap g v) r.allowed.permitted in
     let before : Sight = sight_of g m in
     let after : Sight = sight_at g (written (words.Pte v) 0 m.word) (viewing a new m.view) in
-    let writes : Writes before.pte after.pte v 0 = word_writes before.pte v 0 in
+    let writes : WritesOne before.pte after.pte v 0 = word_writes before.pte v 0 in
     let s = keeps_frames g m a v 0 new refl in
     law_table g before after a on.page on.op (taken_at v n on.op) holders
     (edit_sets a on.page (taken_at v n) on.op new m.view (λ o. refl) (edit_is g v on.page (taken_at v n) (m.view a).ops on.of) on.here)

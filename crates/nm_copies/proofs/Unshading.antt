@@ -18,7 +18,7 @@ use Rattle.nm_event.specs.After.{after_of, shaded, owning, unshaded, unshading, 
 use Rattle.nm_world.specs.Worlds.{World, moved, viewing, written}
 use Rattle.nm_world.specs.Parts.{copier_of}
 use Rattle.nm_world.specs.Sights.{Sight, Sets, sight_of, sight_at}
-use Rattle.nm_world.specs.Notions.{value_of, fill_page}
+use Rattle.nm_world.specs.Notions.{page_value, fill_page}
 use Rattle.nm_world.specs.CopyLaw.{CopyLaw, CopySight, copy_sight, HasCopies, IsUnspoilt, IsTwin, OpCopies}
 use Rattle.nm_world.specs.Laws.{IsReady}
 use Rattle.nm_world.proofs.Writing.{edit_sets, fill_put}
@@ -92,7 +92,7 @@ unshade_own g m after a b s o keeps fills twin h =
       | inr owns ↦ inr (record { frame = owns.frame; count = owns.count; is = copy owns.frame owns.count owns.is })
     ] in
     let before : IsUnspoilt g after.pte b (copier_of g o).naming o.taken → IsUnspoilt g m.pte b (copier_of g o).naming o.taken = λ u. record { table = λ n v of. rw (sym (keeps.pte v)) (u.table n v of); taken = u.taken } in
-    let value : (i : ℕ) → value_of after.home after.mem b i ≡ value_of m.home m.mem b i = λ i. value_same k new b i (keeps.home b) keeps.mem in
+    let value : (i : ℕ) → page_value after.home after.mem b i ≡ page_value m.home m.mem b i = λ i. value_same k new b i (keeps.home b) keeps.mem in
     record {
       early = λ early copies. h.early early (has copies);
       last = λ x is index u. h.last x is index (before u) ∙ sym (value o.copied);
