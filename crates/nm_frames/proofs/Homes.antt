@@ -3,7 +3,7 @@ use Rattle.std.proofs.Common.{◌≡◌, ◌≢◌, ℕ, ◌-◌, ◌==◌, ◌&
 use Rattle.std.specs.Prelude.{option_map}
 use Rattle.std.proofs.lemmas.Bool.{cases_eq}
 use Rattle.nm_base.specs.Geometry.{Geometry}
-use Rattle.nm_base.specs.HomeWord.{home_word}
+use Rattle.nm_base.specs.HomeWord.{home_word, IsHomeWord}
 use Rattle.nm_base.specs.PageWord.{frame_of}
 use Rattle.nm_base.specs.Ranges.{IsFrame}
 use Rattle.nm_action.specs.declared.action.Reply.TheVariants.{Done}
@@ -28,7 +28,7 @@ use Rattle.nm_world.specs.Sights.{Sight, WritesOne, Sets, sight_of, sight_at}
 use Rattle.nm_world.specs.Notions.{IsOut, HasOne}
 use Rattle.nm_world.specs.LockLaw.{LockLaw, IsTrueOp}
 use Rattle.nm_world.specs.CopyLaw.{CopyLaw}
-use Rattle.nm_world.specs.FrameLaw.{Claim, Bit, AtHome, AtShadow, By, Claims, Names, names_of, NamesAsShadow, AreRoles, IsWordOf, FrameLaw}
+use Rattle.nm_world.specs.FrameLaw.{Claim, Bit, AtHome, AtShadow, By, Claims, Names, names_of, NamesAsShadow, AreRoles, IsWordOf, MapsToHome, FrameLaw}
 use Rattle.nm_world.specs.Bounds.{HasBounds}
 use Rattle.nm_world.specs.Laws.{IsReady}
 use Rattle.nm_world.proofs.Options.{some_and}
@@ -257,6 +257,38 @@ let_go_none b h owned none = rw none refl
 let_go_some : (b h : ℕ) (owned : List Owned) → h ≢ 0 → let_go b (Some h) owned ≡ put owned_frame (record { frame = h - 1; fill = Equal b }) owned
 let_go_some b h owned some = choose (λ xs. xs ≡ put owned_frame (record { frame = h - 1; fill = Equal b }) owned) h 0 owned (put owned_frame (record { frame = h - 1; fill = Equal b }) owned) (λ none. absurd (some none)) (λ _. refl)
 
+-- the roles after frame f became the home of page b, and the old home, if any, came to the actor
+home_roles : (g : Geometry) (m : World) (a b f h : ℕ) (new : View) → new.owned ≡ let_go b (Some h) (erase owned_frame f (m.view a).owned) → Once owned_frame (m.view a).owned → h ≡ home_at m b → IsHomeWord g h → IsSome (fill_of (m.view a) f) → IsFrame g f → AreRoles g (names_of (sight_of g m)) → AreRoles g (names_of (sight_at g (written (words.Home b) (home_word f) m.word) (viewing a new m.view)))
+home_roles g m a b f h new owned once stands range some frame roles =
+    let n : Names = names_of (sight_of g m) in
+    let after : Names = names_of (sight_at g (written (words.Home b) (home_word f) m.word) (viewing a new m.view)) in
+    let rest : List Owned = erase owned_frame f (m.view a).owned in
+    let writes : WritesOne (home_at m) after.home b (home_word f) = word_writes (home_at m) b (home_word f) in
+    elim (cases_eq h 0) [
+      | inl none ↦ enters g n after a f b
+          (record { home = writes; fills = fill_gone a f new m.view (owned ∙ let_go_none b h rest none) once; free = λ k. refl; shadow = λ k. refl })
+          (sym stands ∙ none) some frame roles
+      | inr there ↦
+          let w : Owned = record { frame = h - 1; fill = Equal b } in
+          let was : home_at m b ≡ home_word w.frame = omega (arith, stands, there) in
+          let apart : w.frame ≢ f = λ same. by_no_home a b (one_claim g n f (By a) (AtHome b) roles frame some (was ∙ ap home_word same)) in
+          swapped g n after a f b w.frame writes (swap_sets a f w new m.view (owned ∙ let_go_some b h rest there) once apart)
+          (λ k. refl) (λ k. refl) was (omega (arith, range, there)) some frame roles
+    ]
+
+-- a table word goes on mapping: it is of another page, as page b has no home or is out of the table
+homed_word : (g : Geometry) (m : World) (b f v : ℕ) (homes : ℕ → ℕ) → WritesOne (home_at m) homes b (home_word f) → (home_at m b ≡ 0) ⊎ IsOut g (pte_at m) b → pte_at m v ≢ 0 → MapsToHome g (home_at m) (shadow_at m) v (pte_at m v) → MapsToHome g homes (shadow_at m) v (pte_at m v)
+homed_word g m b f v homes writes out is maps =
+    let other : maps.page ≢ b = λ same. elim out [
+      | inl homeless ↦ no_home (home_at m b) (frame_of (pte_at m v)) homeless (ap (home_at m) (sym same) ∙ maps.is.home)
+      | inr gone ↦ is (gone v (maps.of ∙ ap Some same))
+    ] in
+    record {
+      page = maps.page;
+      of = maps.of;
+      is = word_of_still g (home_at m) (shadow_at m) homes (shadow_at m) maps.page v (pte_at m v) (writes.rest maps.page other) refl maps.is;
+    }
+
 pub frames_set_home : (g : Geometry) (m : World) (a b f : ℕ) → LockLaw g m → CopyLaw g (sight_of g m) → HasBounds g m → IsReady g m a (SetHome b f) → FrameLaw g (sight_of g m) → FrameLaw g (sight_of g (moved g m a (SetHome b f)))
 frames_set_home g m a b f locks copies bounds r law =
     let view : View = m.view a in
@@ -269,36 +301,16 @@ frames_set_home g m a b f locks copies bounds r law =
     let shape = r.shaped.shape a r.actor in
     let shaped : IsOpShaped g o = all_find page_of b (IsOpShaped g) view.ops o shape.ops on.1.0 in
     let old = old_home g o own.0 shaped own.1.1 in
-    let h : ℕ = old.0 in
-    let stands : h ≡ home_at m b = if_at (λ x. x ≡ home_at m b) o.home h (true_op m g a b o locks on.1.0).home old.1 in
-    let owned : new.owned ≡ let_go b (Some h) (erase owned_frame f view.owned) = ap (λ found. let_go b (known_home found) (erase owned_frame f view.owned)) on.1.0 ∙ ap (λ x. let_go b x (erase owned_frame f view.owned)) old.1 in
+    let stands : old.0 ≡ home_at m b = if_at (λ x. x ≡ home_at m b) o.home old.0 (true_op m g a b o locks on.1.0).home old.1 in
+    let rest : List Owned = erase owned_frame f view.owned in
+    let owned : new.owned ≡ let_go b (Some old.0) rest = ap (λ found. let_go b (known_home found) rest) on.1.0 ∙ ap (λ x. let_go b x rest) old.1 in
     let some : IsSome (fill_of view f) = some_same_fill (Some own.0) (fill_of view f) (sym own.1.0) cc in
-    let n : Names = names_of (sight_of g m) in
     let writes : WritesOne (home_at m) after.home b (home_word f) = word_writes (home_at m) b (home_word f) in
     let out = out_or_homeless g m a b f o own.0 locks copies on.1.0 page own.1.0 own.1.1 in
     let P : ℕ → ℕ → Op → Type 0 = λ c d p. p.moved ≡ false → All (λ q. IsWordOf g after.home (shadow_at m) d q.0 q.1) p.taken in
     record {
-      roles = elim (cases_eq h 0) [
-        | inl none ↦ enters g n (names_of after) a f b
-            (record { home = writes; fills = fill_gone a f new m.view (owned ∙ let_go_none b h (erase owned_frame f view.owned) none) shape.keyed.owned_once; free = λ k. refl; shadow = λ k. refl })
-            (sym stands ∙ none) some r.allowed.range.frame law.roles
-        | inr there ↦
-            let w : Owned = record { frame = h - 1; fill = Equal b } in
-            let was : home_at m b ≡ home_word w.frame = omega (arith, stands, there) in
-            let old_frame : IsFrame g w.frame = omega (arith, bounds.homes b, was) in
-            let apart : w.frame ≢ f = λ same. by_no_home a b (one_claim g n f (By a) (AtHome b) law.roles r.allowed.range.frame some (was ∙ ap home_word same)) in
-            swapped g n (names_of after) a f b w.frame writes (swap_sets a f w new m.view (owned ∙ let_go_some b h (erase owned_frame f view.owned) there) shape.keyed.owned_once apart)
-            (λ k. refl) (λ k. refl) was old_frame some r.allowed.range.frame law.roles
-      ];
-      words = λ v is. (let maps = law.words v is in record {
-        page = maps.page;
-        of = maps.of;
-        is = word_of_still g (home_at m) (shadow_at m) after.home (shadow_at m) maps.page v (pte_at m v)
-            (writes.rest maps.page (λ same. elim out [
-              | inl homeless ↦ no_home (home_at m b) (frame_of (pte_at m v)) homeless (ap (home_at m) (sym same) ∙ maps.is.home)
-              | inr gone ↦ is (gone v (maps.of ∙ ap Some same))
-            ])) refl maps.is;
-      });
+      roles = home_roles g m a b f old.0 new owned shape.keyed.owned_once stands (subst (IsHomeWord g) (sym stands) (bounds.homes b)) some r.allowed.range.frame law.roles;
+      words = λ v is. homed_word g m b f v after.home writes out is (law.words v is);
       taken = each_op P (op_at m) (λ c d. op_on (viewing a new m.view c) d) a b (homed_at f o) (edit_sets a b (homed_at f) o new m.view (λ y. refl) refl on.1.0) (sole_op g m a b o locks on.1.0)
           (λ unmoved. absurd (not_both true refl unmoved))
           (λ c d p other is unmoved. taken_words_still g (home_at m) (shadow_at m) after.home (shadow_at m) d p.taken (writes.rest d other) (λ k. refl) (law.taken c d p is unmoved));

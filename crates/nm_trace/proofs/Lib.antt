@@ -7,3 +7,8 @@ pub mod Spelling
 pub mod Rows
 pub mod Progress
 pub mod Validity
+pub mod Whole
+pub mod Outcome
+pub mod Numbers
+pub mod Again
+pub mod ReadAgain

@@ -1,7 +1,7 @@
 -- One reference more: its page, its number, and the lines of the references before it.
-use Rattle.std.proofs.Common.{◌≡◌, ℕ, zero, suc, ◌+◌, ◌<◌, ◌≤◌, ◌==◌, ◌||◌, Bool, true, false, not, cond, nat_eq, max, List, [], ◌∷◌, ◌++◌, map, filter, length, fold, set, get_or, refl, sym, ap, subst, ◌∙◌, inl, inr, arith, add-one}
-use Rattle.std.specs.List.{AllByRecursion, list_any, position_or_len, range_with_len}
-use Rattle.std.proofs.lemmas.Bool.{cases_Bool, eqb-true, ne_eqb, eq-eqb}
+use Rattle.std.proofs.Common.{◌≡◌, ℕ, zero, suc, ◌+◌, ◌<◌, ◌==◌, ◌||◌, Bool, true, false, not, cond, nat_eq, max, List, [], ◌∷◌, ◌++◌, map, filter, length, set, get_or, refl, sym, ap, subst, ◌∙◌, inl, inr, arith}
+use Rattle.std.specs.List.{AllByRecursion, list_any, range_with_len}
+use Rattle.std.proofs.lemmas.Bool.{cases_Bool, ne_eqb, eq-eqb}
 use Rattle.std.proofs.lemmas.List.{append-nil, map-append}
 use Rattle.std.proofs.lemmas.List.Elements.{filter-append}
 use Rattle.std.proofs.lemmas.List.FromFn.{get_or-map-range_with_len}
@@ -9,7 +9,7 @@ use Rattle.std.proofs.lemmas.List.Folds.{list_any-append}
 use Rattle.indexmap.specs.IndexSet.{insert_key, insert_all}
 use Rattle.nm_script.specs.declared.script.Line.{Line}
 use Rattle.nm_trace.specs.declared.reference.Reference.{Reference}
-use Rattle.nm_trace.specs.Imports.{page_of, word_of, pages_seen, cpus_seen, page_number, access_with, frames_for, line_for, program_for, programs_for}
+use Rattle.nm_trace.specs.Imports.{referenced_page, referenced_word, pages_seen, cpus_seen, page_number, access_with, frames_for, line_for, program_for, programs_for}
 use Rattle.nm_trace.specs.Drafts.{IsPageSeen}
 
 insert_all-push : (ks xs : List ℕ) (k : ℕ) → insert_all nat_eq ks (xs ++ k ∷ []) ≡ insert_key nat_eq (insert_all nat_eq ks xs) k
@@ -17,8 +17,8 @@ insert_all-push ks [] k = refl
 insert_all-push ks (x ∷ xs) k = insert_all-push (insert_key nat_eq ks x) xs k
 
 -- the pages with one reference more
-pub pages_seen-push : (refs : List Reference) (r : Reference) → pages_seen (refs ++ r ∷ []) ≡ insert_key nat_eq (pages_seen refs) (page_of r)
-pages_seen-push refs r = ap (insert_all nat_eq []) (map-append page_of refs (r ∷ [])) ∙ insert_all-push [] (map page_of refs) (page_of r)
+pub pages_seen-push : (refs : List Reference) (r : Reference) → pages_seen (refs ++ r ∷ []) ≡ insert_key nat_eq (pages_seen refs) (referenced_page r)
+pages_seen-push refs r = ap (insert_all nat_eq []) (map-append referenced_page refs (r ∷ [])) ∙ insert_all-push [] (map referenced_page refs) (referenced_page r)
 
 -- the processors with one reference more
 pub cpus_seen-push : (refs : List Reference) (r : Reference) → cpus_seen (refs ++ r ∷ []) ≡ max (cpus_seen refs) (r.cpu + 1)
@@ -76,7 +76,7 @@ place-own ks k = elim (cases_Bool (list_any (nat_eq k) ks)) [
 -- every reference stays seen
 pub seen-more : (ks : List ℕ) (y : ℕ) (refs : List Reference) → AllByRecursion (IsPageSeen ks) refs → AllByRecursion (IsPageSeen (insert_key nat_eq ks y)) refs
 seen-more ks y [] h = tt
-seen-more ks y (r ∷ refs) h = (seen-insert ks (page_of r) y h.0, seen-more ks y refs h.1)
+seen-more ks y (r ∷ refs) h = (seen-insert ks (referenced_page r) y h.0, seen-more ks y refs h.1)
 
 pub all-push : (P : Reference → Type 0) (refs : List Reference) (r : Reference) → AllByRecursion P refs → P r → AllByRecursion P (refs ++ r ∷ [])
 all-push P [] r h p = (p, tt)
@@ -91,7 +91,7 @@ program-stays : (ks : List ℕ) (y p : ℕ) (refs : List Reference) → AllByRec
 program-stays ks y p [] h = refl
 program-stays ks y p (r ∷ refs) h =
     let new = insert_key nat_eq ks y in
-    let line : line_for new r ≡ line_for ks r = rw (place-insert ks (page_of r) y h.0) refl in
+    let line : line_for new r ≡ line_for ks r = rw (place-insert ks (referenced_page r) y h.0) refl in
     map-cond (line_for new) (r.cpu == p) r (filter (λ q. q.cpu == p) refs)
     ∙ ap (λ l. cond (r.cpu == p) (l ∷ program_for new refs p) (program_for new refs p)) line
     ∙ ap (λ ls. cond (r.cpu == p) (line_for ks r ∷ ls) ls) (program-stays ks y p refs h.1)
@@ -109,7 +109,7 @@ pub program-more : (refs : List Reference) (r : Reference) (p : ℕ) → AllByRe
 program-more refs r p h =
     let new = pages_seen (refs ++ r ∷ []) in
     program-push new refs r p
-    ∙ ap (λ l. l ++ cond (r.cpu == p) (line_for new r ∷ []) []) (ap (λ ks. program_for ks refs p) (pages_seen-push refs r) ∙ program-stays (pages_seen refs) (page_of r) p refs h)
+    ∙ ap (λ l. l ++ cond (r.cpu == p) (line_for new r ∷ []) []) (ap (λ ks. program_for ks refs p) (pages_seen-push refs r) ∙ program-stays (pages_seen refs) (referenced_page r) p refs h)
 
 -- a list by number, where one place is set and the others stay
 set-range : {X : Type 0} (f g : ℕ → X) (a n i j : ℕ) → i < n → a + i ≡ j → ((k : ℕ) → (j == k) ≡ false → g k ≡ f k) → set (map f (range_with_len a n)) i (g j) ≡ map g (range_with_len a n)
@@ -136,21 +136,21 @@ programs-more refs r before seen few e =
     rw (at, own, e) (set-range f g 0 16 r.cpu r.cpu few (omega arith) (λ k ne. program-more refs r k seen ∙ rw (ne, append-nil (f k)) refl))
 
 -- the frames that are needed with one reference more
-pub frames-more : (refs : List Reference) (r : Reference) (old new : List ℕ) (cpus : ℕ) → old ≡ pages_seen refs → new ≡ insert_key nat_eq old (page_of r) → cpus ≡ cpus_seen refs
+pub frames-more : (refs : List Reference) (r : Reference) (old new : List ℕ) (cpus : ℕ) → old ≡ pages_seen refs → new ≡ insert_key nat_eq old (referenced_page r) → cpus ≡ cpus_seen refs
     → length new + max cpus (r.cpu + 1) + 9 ≡ frames_for (refs ++ r ∷ [])
 frames-more refs r old new cpus p n c =
-    let pages : length new ≡ length (pages_seen (refs ++ r ∷ [])) = ap length (n ∙ ap (λ ks. insert_key nat_eq ks (page_of r)) p ∙ sym (pages_seen-push refs r)) in
+    let pages : length new ≡ length (pages_seen (refs ++ r ∷ [])) = ap length (n ∙ ap (λ ks. insert_key nat_eq ks (referenced_page r)) p ∙ sym (pages_seen-push refs r)) in
     omega (arith, pages, c, cpus_seen-push refs r)
 
 -- the line of one reference more
-pub line-own : (refs : List Reference) (r : Reference) (old : List ℕ) (v : ℕ) (line : Line) → old ≡ pages_seen refs → v ≡ page_number old (page_of r) → line ≡ access_with v (word_of r) r.value
+pub line-own : (refs : List Reference) (r : Reference) (old : List ℕ) (v : ℕ) (line : Line) → old ≡ pages_seen refs → v ≡ page_number old (referenced_page r) → line ≡ access_with v (referenced_word r) r.value
     → line ≡ line_for (pages_seen (refs ++ r ∷ [])) r
 line-own refs r old v line p e l =
-    l ∙ ap (λ n. access_with n (word_of r) r.value) (e ∙ ap (λ ks. page_number ks (page_of r)) p ∙ sym (place-own (pages_seen refs) (page_of r)) ∙ ap (λ ks. page_number ks (page_of r)) (sym (pages_seen-push refs r)))
+    l ∙ ap (λ n. access_with n (referenced_word r) r.value) (e ∙ ap (λ ks. page_number ks (referenced_page r)) p ∙ sym (place-own (pages_seen refs) (referenced_page r)) ∙ ap (λ ks. page_number ks (referenced_page r)) (sym (pages_seen-push refs r)))
 
 -- every reference is seen with one more
 pub seen-push : (refs : List Reference) (r : Reference) → AllByRecursion (IsPageSeen (pages_seen refs)) refs → AllByRecursion (IsPageSeen (pages_seen (refs ++ r ∷ []))) (refs ++ r ∷ [])
 seen-push refs r h =
-    let ks = insert_key nat_eq (pages_seen refs) (page_of r) in
+    let ks = insert_key nat_eq (pages_seen refs) (referenced_page r) in
     subst (λ new. AllByRecursion (IsPageSeen new) (refs ++ r ∷ [])) (sym (pages_seen-push refs r))
-        (all-push (IsPageSeen ks) refs r (seen-more (pages_seen refs) (page_of r) refs h) (seen-new (pages_seen refs) (page_of r)))
+    (all-push (IsPageSeen ks) refs r (seen-more (pages_seen refs) (referenced_page r) refs h) (seen-new (pages_seen refs) (referenced_page r)))

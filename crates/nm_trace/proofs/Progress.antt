@@ -1,9 +1,7 @@
 -- What was read of a text so far.
-use Rattle.std.proofs.Common.{◌≡◌, ◌≢◌, ◌⊎◌, ◌+◌, ◌≤◌, ◌<◌, ℕ, List, [], ◌∷◌, ◌++◌, length, map, Option, Some, None, refl, sym, ap, subst, ◌∙◌, inl, inr, arith}
-use Rattle.std.specs.List.{AllByRecursion}
+use Rattle.std.proofs.Common.{◌≡◌, ◌≢◌, ◌⊎◌, ◌+◌, ◌≤◌, ℕ, List, [], ◌∷◌, ◌++◌, length, Option, Some, refl, sym, ap, subst, ◌∙◌, inl, inr, arith}
 use Rattle.std.proofs.lemmas.List.{map-append, length-map}
-use Rattle.csv.specs.Machine.{next_record}
-use Rattle.csv.specs.Reading.{Reached, default_config, strip_bom}
+use Rattle.csv.specs.Reading.{Reached, default_config}
 use Rattle.csv.specs.declared.parser.State.{State}
 use Rattle.csv.specs.declared.parser.State.TheVariants as st
 use Rattle.nm_trace.specs.declared.draft.Draft.{Draft}
@@ -12,7 +10,7 @@ use Rattle.nm_trace.specs.declared.fault.TraceRefusal.{TraceRefusal}
 use Rattle.nm_trace.specs.declared.fault.TraceRefusal.TheVariants as refusals
 use Rattle.nm_trace.specs.declared.reference.Reference.{Reference}
 use Rattle.nm_trace.specs.References.{IsReference, record_of, header}
-use Rattle.nm_trace.specs.Imports.{AreReferences, IsTraceOf, IsFirstTraceFault, IsTraceRefusal, HasRecords, BeginsWith, frames_for, trace_rows}
+use Rattle.nm_trace.specs.Imports.{AreReferences, IsTraceOf, IsFirstTraceFault, IsTraceRefusal, HasRecords, BeginsWith, trace_rows}
 use Rattle.nm_trace.specs.Drafts.{IsDraftOf, TakesReference, IsRowRefusal}
 use Rattle.nm_trace.proofs.Pages.{all-push}
 
@@ -51,10 +49,12 @@ told-more frames n old new rows row (inl (none, held)) count first later =
 told-more frames n old new rows row (inr (refs, is, are, held)) count first later =
     let more : n ≢ 1 = λ one. omega (arith, one, count, ap length is, length-rows refs) in
     let t = later more refs held in
-    inr (refs ++ t.reference ∷ []
-      , ap (λ rs. rs ++ row ∷ []) is ∙ ap (λ r. trace_rows refs ++ r ∷ []) t.spelled ∙ ap (λ rs. header ∷ rs) (sym (map-append record_of refs (t.reference ∷ [])))
-      , record { each = all-push IsReference refs t.reference are.each t.is; room = λ some. t.room }
-      , t.held)
+    inr (
+      refs ++ t.reference ∷ [],
+      ap (λ rs. rs ++ row ∷ []) is ∙ ap (λ r. trace_rows refs ++ r ∷ []) t.spelled ∙ ap (λ rs. header ∷ rs) (sym (map-append record_of refs (t.reference ∷ []))),
+      record { each = all-push IsReference refs t.reference are.each t.is; room = λ some. t.room },
+      t.held,
+    )
 
 refusal-told : (bytes : List ℕ) (fast slow n : ℕ) (refs : List Reference) (row : List (List ℕ)) (e : TraceRefusal) → AreReferences (fast + slow) refs → n ≡ length refs + 2
     → BeginsWith bytes (trace_rows refs ++ row ∷ []) → IsRowRefusal (fast + slow) refs row n e → IsTraceRefusal bytes fast slow e

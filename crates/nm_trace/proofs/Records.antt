@@ -1,5 +1,5 @@
 -- A record of four fields.
-use Rattle.std.proofs.Common.{◌≡◌, ◌≢◌, ◌<◌, ℕ, zero, suc, List, [], ◌∷◌, length, Some, None, Option, sym, ap, ◌∙◌, refl, arith, Bor, option_map}
+use Rattle.std.proofs.Common.{◌≡◌, ◌≢◌, ◌<◌, ℕ, zero, suc, List, [], ◌∷◌, length, Some, None, Option, ap, refl, arith, option_map}
 use Rattle.csv.specs.Records.{field_at}
 use Rattle.nm_trace.specs.Records.{fields_in, value_in}
 

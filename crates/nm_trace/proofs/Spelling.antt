@@ -1,5 +1,5 @@
 -- A record that is read as a reference is the record of it.
-use Rattle.std.proofs.Common.{◌≡◌, ◌<◌, ◌≤◌, ◌^◌, ◌%◌, ◌==◌, ◌&&◌, ℕ, Bool, true, false, cond, nat_lt, List, [], ◌∷◌, Option, Some, None, IfSome, Result, Ok, Err, IfOk, option_map, option_and_then, codes, refl, sym, ap, subst, ◌∙◌, arith}
+use Rattle.std.proofs.Common.{◌≡◌, ◌<◌, ◌^◌, ◌%◌, ◌==◌, ◌&&◌, ℕ, Bool, true, false, cond, nat_lt, List, [], ◌∷◌, Option, Some, None, IfSome, Result, Ok, Err, IfOk, option_map, option_and_then, codes, refl, sym, ap, subst, ◌∙◌, arith}
 use Rattle.std.specs.Fmt.{decimal}
 use Rattle.std.specs.Str.{bytes_eq}
 use Rattle.std.proofs.lemmas.Bool.{eqb-true, ltb-true}
@@ -10,7 +10,7 @@ use Rattle.nm_trace.specs.declared.fault.TraceFault.{TraceFault}
 use Rattle.nm_trace.specs.declared.fault.TraceFault.TheVariants as faults
 use Rattle.nm_trace.specs.declared.reference.Reference.{Reference}
 use Rattle.nm_trace.specs.References.{IsReference, kind_field, value_field, record_of}
-use Rattle.nm_trace.specs.Records.{NumberFields, value_in, fields_in, number_at, numbers_in, ranged_reference, ranged_numbers, reference_of, reference_in}
+use Rattle.nm_trace.specs.Records.{NumberFields, value_in, fields_in, number_at, numbers_in, ranged_numbers, reference_of, reference_in}
 
 -- the kind and the value of a record with this value that is to be a number
 abbrev kind_text : Option (List ℕ) → List ℕ
@@ -105,13 +105,14 @@ numbers-ok row f None r a b e = cc e
 numbers-ok row f (Some s) r a b e =
     let ranged = ranged-case (nat_lt s.cpu 16) (s.address % 8 == 0) s r refl refl e in
     let is = numbers-back f s b in
-    subst (λ (t : Reference). (row ≡ record_of t) × IsReference t) ranged.0
-        ( fields-back row f a ∙ ap (λ x. x ∷ kind_text f.2 ∷ f.1 ∷ value_text f.2 ∷ []) is.cpu_is
+    subst (λ (t : Reference). (row ≡ record_of t) × IsReference t) ranged.0 (
+      fields-back row f a ∙ ap (λ x. x ∷ kind_text f.2 ∷ f.1 ∷ value_text f.2 ∷ []) is.cpu_is
           ∙ ap (λ x. decimal s.cpu ∷ kind_text f.2 ∷ x ∷ value_text f.2 ∷ []) is.address_is
           ∙ ap (λ x. decimal s.cpu ∷ kind_text x ∷ decimal s.address ∷ value_text x ∷ []) is.value_is
           ∙ ap (λ x. decimal s.cpu ∷ x ∷ decimal s.address ∷ value_text (option_map decimal s.value) ∷ []) (kind-same s.value)
-          ∙ ap (λ x. decimal s.cpu ∷ kind_field s.value ∷ decimal s.address ∷ x ∷ []) (value-same s.value)
-        , record { cpu = omega (arith, ranged.1); address = is.address_fits; aligned = ranged.2; value = is.value_fits })
+          ∙ ap (λ x. decimal s.cpu ∷ kind_field s.value ∷ decimal s.address ∷ x ∷ []) (value-same s.value),
+      record { cpu = omega (arith, ranged.1); address = is.address_fits; aligned = ranged.2; value = is.value_fits },
+    )
 
 fields-ok : (row : List (List ℕ)) (o : Option NumberFields) (r : Reference) → fields_in row ≡ o → reference_of o ≡ Ok r → (row ≡ record_of r) × IsReference r
 fields-ok row None r a e = cc e

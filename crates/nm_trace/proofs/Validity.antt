@@ -1,10 +1,10 @@
 -- The script of references is one that a text can say.
-use Rattle.std.proofs.Common.{◌≡◌, ◌≢◌, ℕ, zero, suc, ◌+◌, ◌/◌, ◌%◌, ◌^◌, ◌<◌, ◌≤◌, ◌==◌, max, not, Bool, true, false, List, [], ◌∷◌, length, map, filter, get_or, cond, nat_eq, Option, Some, None, IsSome, IsSomeAnd, IsTrue, IfSome, refl, sym, ap, subst, ◌∙◌, inl, inr, arith, lit≤}
+use Rattle.std.proofs.Common.{◌≡◌, ◌≢◌, ℕ, zero, suc, ◌+◌, ◌^◌, ◌<◌, ◌≤◌, ◌==◌, Bool, true, false, List, [], ◌∷◌, length, map, filter, get_or, cond, nat_eq, Option, Some, None, IsSome, IsSomeAnd, IsTrue, IfSome, refl, sym, ap, subst, ◌∙◌, inl, inr, arith, lit≤}
 use Rattle.std.specs.List.{AllByRecursion, range_with_len, list_any}
 use Rattle.std.proofs.lemmas.Bool.{cases_Bool}
 use Rattle.std.proofs.lemmas.List.FromFn.{get_or-map-range_with_len, length-map-range_with_len}
 use Rattle.nm_base.specs.declared.geometry.VPage.{VPage}
-use Rattle.nm_base.specs.Geometry.{Geometry, IsGeometry}
+use Rattle.nm_base.specs.Geometry.{Geometry}
 use Rattle.nm_tiers.specs.declared.nodes.Node.{Node}
 use Rattle.nm_script.specs.declared.limits.TheConstants.{MOST_TURNS}
 use Rattle.nm_script.specs.declared.script.Line.{Line}
@@ -13,7 +13,7 @@ use Rattle.nm_script.specs.Plain.{Script}
 use Rattle.nm_script.specs.Script.{IsScript, IsAccess, IsTrimmed}
 use Rattle.nm_trace.specs.declared.reference.Reference.{Reference}
 use Rattle.nm_trace.specs.References.{IsReference}
-use Rattle.nm_trace.specs.Imports.{AreReferences, page_of, word_of, pages_seen, cpus_seen, page_number, access_with, line_for, program_for, programs_for, own_page, script_for, frames_for}
+use Rattle.nm_trace.specs.Imports.{referenced_page, referenced_word, pages_seen, cpus_seen, page_number, access_with, line_for, program_for, programs_for, own_page, script_for}
 use Rattle.nm_trace.specs.Drafts.{IsPageSeen}
 use Rattle.nm_trace.proofs.Geometries.{AreSizes, geometry_for, geometry-is}
 
@@ -35,7 +35,7 @@ some-seen (x ∷ ks) k h = omega arith
 
 pub some-pages : (refs : List Reference) → refs ≢ [] → AllByRecursion (IsPageSeen (pages_seen refs)) refs → 1 ≤ length (pages_seen refs)
 some-pages [] some h = absurd (some refl)
-some-pages (r ∷ refs) some h = some-seen (pages_seen (r ∷ refs)) (page_of r) h.0
+some-pages (r ∷ refs) some h = some-seen (pages_seen (r ∷ refs)) (referenced_page r) h.0
 
 -- the number of a page that was seen is one of those of the pages
 place-lt : (ks : List ℕ) (k : ℕ) → list_any (nat_eq k) ks ≡ true → page_number ks k < length ks
@@ -72,7 +72,7 @@ module _ (fast slow : ℕ) (refs : List Reference) where
   program-fits : (p : ℕ) (rs : List Reference) → AllByRecursion IsReference rs → AllByRecursion (IsPageSeen (pages_seen refs)) rs → AllByRecursion (IsAccess (geometry_of fast slow refs)) (program_for (pages_seen refs) rs p)
   program-fits p [] each seen = tt
   program-fits p (r ∷ rs) each seen =
-      lines-kept (r.cpu == p) r (filter (λ q. q.cpu == p) rs) (access (page_number (pages_seen refs) (page_of r)) (word_of r) r.value (place-lt (pages_seen refs) (page_of r) seen.0) (omega arith) each.0.value) (program-fits p rs each.1 seen.1)
+      lines-kept (r.cpu == p) r (filter (λ q. q.cpu == p) rs) (access (page_number (pages_seen refs) (referenced_page r)) (referenced_word r) r.value (place-lt (pages_seen refs) (referenced_page r) seen.0) (omega arith) each.0.value) (program-fits p rs each.1 seen.1)
 
   programs-fit : (a n : ℕ) → AllByRecursion IsReference refs → AllByRecursion (IsPageSeen (pages_seen refs)) refs → AllByRecursion (λ program. AllByRecursion (IsAccess (geometry_of fast slow refs)) program) (map (program_for (pages_seen refs) refs) (range_with_len a n))
   programs-fit a zero each seen = tt

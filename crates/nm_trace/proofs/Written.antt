@@ -28,10 +28,10 @@ programs-more items before text after ps i d h e f =
     let a = references_from 0 (map items (take i ps)) in
     let b = flat_map (references_by i) (items (get_or ps i d)) in
     let whole : references_from 0 (map items (take (i + 1) ps)) ≡ a ++ b =
-        ap (references_from 0) (sym (take-map items (i + 1) ps)) ∙ ap (λ n. references_from 0 (take n rows)) next
-        ∙ references_from-take 0 rows i i (items d) short (omega arith)
-        ∙ ap (λ t. references_from 0 t ++ flat_map (references_by i) (get_or rows i (items d))) (take-map items i ps)
-        ∙ ap (λ r. a ++ flat_map (references_by i) r) row in
+    ap (references_from 0) (sym (take-map items (i + 1) ps)) ∙ ap (λ n. references_from 0 (take n rows)) next
+    ∙ references_from-take 0 rows i i (items d) short (omega arith)
+    ∙ ap (λ t. references_from 0 t ++ flat_map (references_by i) (get_or rows i (items d))) (take-map items i ps)
+    ∙ ap (λ r. a ++ flat_map (references_by i) r) row in
     f ∙ ap (λ t. t ++ flat_map reference_text b) e ∙ append_assoc before (flat_map reference_text a) (flat_map reference_text b)
     ∙ ap (λ t. before ++ t) (sym (flat_map-append reference_text a b)) ∙ ap (λ t. before ++ flat_map reference_text t) (sym whole)
 

@@ -1,5 +1,5 @@
 -- What is kept of the references that were read so far.
-use Rattle.std.specs.Prelude.{◌≡◌, ◌≤◌, ◌<◌, ℕ, nat_eq, true, List, [], ◌∷◌, ◌++◌, length, map}
+use Rattle.std.specs.Prelude.{◌≡◌, ◌≤◌, ◌<◌, ℕ, nat_eq, true, List, [], ◌∷◌, ◌++◌, map}
 use Rattle.std.specs.List.{AllByRecursion, list_any}
 use Rattle.nm_trace.specs.declared.draft.Draft.{Draft}
 use Rattle.nm_trace.specs.declared.draft.Untaken.{Untaken}
@@ -8,11 +8,11 @@ use Rattle.nm_trace.specs.declared.reference.Reference.{Reference}
 use Rattle.nm_trace.specs.declared.fault.TraceRefusal.{TraceRefusal}
 use Rattle.nm_trace.specs.declared.fault.TraceRefusal.TheVariants as refusals
 use Rattle.nm_trace.specs.References.{IsReference, record_of}
-use Rattle.nm_trace.specs.Imports.{IsRowFault, page_of, pages_seen, cpus_seen, programs_for, frames_for}
+use Rattle.nm_trace.specs.Imports.{IsRowFault, referenced_page, pages_seen, cpus_seen, programs_for, frames_for}
 
 -- the page of a reference is among these
 abbrev pub IsPageSeen : List ℕ → Reference → Type 0
-IsPageSeen pages r = list_any (nat_eq (page_of r)) pages ≡ true
+IsPageSeen pages r = list_any (nat_eq (referenced_page r)) pages ≡ true
 
 -- the draft holds the pages, the processors and the programs of these references; there is a program for each of
 -- 16 processors

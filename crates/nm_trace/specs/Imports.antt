@@ -1,7 +1,6 @@
 -- The script of a trace, and the first fault of a text that has none.
 use Rattle.std.specs.Prelude.{◌≡◌, ◌≢◌, ℕ, ◌+◌, ◌/◌, ◌%◌, ◌<◌, ◌≤◌, ◌==◌, ◌⊎◌, max, nat_eq, true, List, [], ◌∷◌, ◌++◌, length, map, filter, Option, Some, None, Ok, Err}
 use Rattle.std.specs.List.{AllByRecursion, range_with_len, position_or_len}
-use Rattle.csv.specs.Machine.{next_record}
 use Rattle.csv.specs.Reading.{AreRecords, Reached, default_config, strip_bom}
 use Rattle.csv.specs.declared.parser.State.{State}
 use Rattle.csv.specs.declared.parser.State.TheVariants as st
@@ -25,15 +24,15 @@ use Rattle.nm_trace.specs.Records.{reference_in}
 -- ---- the script of references
 
 -- an address lies in a page of 4,096 bytes, at a word of 8
-abbrev pub page_of : Reference → ℕ
-page_of r = r.address / 4096
+abbrev pub referenced_page : Reference → ℕ
+referenced_page r = r.address / 4096
 
-abbrev pub word_of : Reference → ℕ
-word_of r = r.address % 4096 / 8
+abbrev pub referenced_word : Reference → ℕ
+referenced_word r = r.address % 4096 / 8
 
 -- the pages of the references, each once, in the order in which they are first seen
 abbrev pub pages_seen : List Reference → List ℕ
-pages_seen refs = insert_all nat_eq [] (map page_of refs)
+pages_seen refs = insert_all nat_eq [] (map referenced_page refs)
 
 -- the number of a page is its place among these
 abbrev pub page_number : List ℕ → ℕ → ℕ
@@ -51,7 +50,7 @@ access_with v w (Some x) = Store v w x
 
 -- the line of a reference, among these pages
 abbrev pub line_for : List ℕ → Reference → Line
-line_for pages r = access_with (page_number pages (page_of r)) (word_of r) r.value
+line_for pages r = access_with (page_number pages (referenced_page r)) (referenced_word r) r.value
 
 -- the lines of a processor: those of its references, in their order
 abbrev pub program_for : List ℕ → List Reference → ℕ → List Line

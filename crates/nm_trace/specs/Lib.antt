@@ -3,3 +3,5 @@ pub mod Records
 pub mod Traces
 pub mod Imports
 pub mod Drafts
+pub mod Replies
+pub mod Laws

@@ -3,7 +3,7 @@
 ghost use Rattle.std.specs.Prelude.{◌≡◌, ◌+◌, ◌≤◌, ◌<◌, ◌++◌, ◌∷◌, [], ℕ, List, length, map, vec_len, nat_eq, slice_set, slice_index_or, IfOk, OnOk, IfErr};
 ghost use Rattle.std.specs.List.{range_with_len, AllByRecursion};
 ghost use Rattle.nm_trace.specs.References.{IsReference};
-ghost use Rattle.nm_trace.specs.Imports.{page_of, word_of, page_number, line_for, access_with, frames_for, own_page, script_for, pages_seen};
+ghost use Rattle.nm_trace.specs.Imports.{referenced_page, referenced_word, page_number, line_for, access_with, frames_for, own_page, script_for, pages_seen};
 ghost use Rattle.nm_trace.specs.Drafts.{IsDraftOf, IsNotTaken};
 ghost use Rattle.nm_base.specs.Geometry.{IsGeometry, made};
 ghost use Rattle.indexmap.specs.IndexSet.{insert_key};
@@ -118,7 +118,7 @@ fn number_of(pages: &mut IndexSet<u64>, page: u64) -> Result<usize, Untaken>
 
 /// The line of a reference to a page of this number.
 fn line_of(v: u32, reference: Reference) -> Line
-    ensures { result ≡ access_with v (word_of reference) reference.value }
+    ensures { result ≡ access_with v (referenced_word reference) reference.value }
 {
     let w = (reference.address % PAGE_BYTES / WORD_BYTES) as u32;
     match reference.value {
@@ -141,7 +141,13 @@ fn push_line(programs: &mut Vec<Vec<Line>>, cpu: usize, line: Line) -> Result<()
 }
 
 /// The geometry for this many processors and pages.
-fn make_geometry(alloc: Global, fast: u32, slow: u32, cpus: u32, pages: u32) -> Result<Geometry, AllocError>
+fn make_geometry(
+    alloc: Global,
+    fast: u32,
+    slow: u32,
+    cpus: u32,
+    pages: u32,
+) -> Result<Geometry, AllocError>
     requires fast { 1 ≤ fast }
     requires slow { 1 ≤ slow }
     requires sum { fast + slow ≤ 4096 }

@@ -1,10 +1,11 @@
 //! The script of a trace.
 
-ghost use Rattle.std.specs.Prelude.{◌≡◌, ◌≢◌, ◌+◌, ◌-◌, ◌≤◌, ◌<◌, ◌^◌, [], List, length, IfOk, IfErr, OnOk};
+ghost use Rattle.std.specs.Prelude.{◌≡◌, ◌≢◌, ◌+◌, ◌-◌, ◌≤◌, ◌<◌, ◌^◌, [], List, length, Ok, Err, IfOk, IfErr, OnOk};
 ghost use Rattle.csv.specs.Records.{fields_of};
 ghost use Rattle.nm_script.specs.Script.{IsScript};
 ghost use Rattle.nm_trace.specs.References.{header};
-ghost use Rattle.nm_trace.specs.Imports.{IsImport, IsTraceOf, IsTraceRefusal};
+ghost use Rattle.nm_trace.specs.Imports.{IsImport, IsTraceOf, IsTraceRefusal, IsFirstTraceFault};
+ghost use Rattle.nm_trace.specs.Replies.{GivesImport};
 ghost use Rattle.nm_trace.specs.Drafts.{IsDraftOf, TakesReference, IsRowRefusal};
 ghost use Rattle.nm_trace.specs.declared.reference.Reference.{Reference};
 
@@ -23,6 +24,24 @@ const MOST_BYTES: usize = 16_777_216;
 /// `At` comes exactly where the text is no trace, or its script is too long, with the first fault and its record.
 /// `Memory` comes where there is none for the script.
 pub fn import(alloc: Global, bytes: &[u8], fast: u32, slow: u32) -> Result<Script, TraceRefusal>
+    requires fast { 1 ≤ fast }
+    requires slow { 1 ≤ slow }
+    requires sum { fast + slow ≤ 4096 }
+    requires short { length bytes.now < 2 ^ 32 - 1 }
+    // The script is that of a trace of the bytes.
+    ensures found { IfOk result (IsImport bytes.now fast slow) }
+    // The script of a trace is given, unless memory runs out.
+    ensures only { (s : _) → IsImport bytes.now fast slow s → GivesImport result (Ok s) }
+    // A refusal is the first fault, and a first fault is refused so, unless memory runs out.
+    ensures fault { IfErr result (IsTraceRefusal bytes.now fast slow) }
+    ensures first { (f : _) (n : _) → IsFirstTraceFault bytes.now fast slow f n → GivesImport result (Err (f, n)) }
+    ensures script { IfOk result IsScript }
+{
+    read_script(alloc, bytes, fast, slow)
+}
+
+/// The script of a trace, or its first fault.
+fn read_script(alloc: Global, bytes: &[u8], fast: u32, slow: u32) -> Result<Script, TraceRefusal>
     requires fast { 1 ≤ fast }
     requires slow { 1 ≤ slow }
     requires sum { fast + slow ≤ 4096 }
@@ -91,7 +110,12 @@ fn read_records(alloc: Global, bytes: &[u8], fast: u32, slow: u32) -> Result<Dra
 }
 
 /// Takes the record of this number: the first is the header.
-fn take_record(draft: &mut Draft, fields: &ByteRecord, row: u32, frames: u32) -> Result<(), TraceRefusal>
+fn take_record(
+    draft: &mut Draft,
+    fields: &ByteRecord,
+    row: u32,
+    frames: u32,
+) -> Result<(), TraceRefusal>
     requires draft { (refs : List Reference) × IsDraftOf draft.old refs }
     requires few { frames ≤ 4096 }
     ensures header { row ≡ 1 → OnOk result ((draft.new ≡ draft.old) × (fields_of fields.now ≡ header)) }
@@ -105,12 +129,20 @@ fn take_record(draft: &mut Draft, fields: &ByteRecord, row: u32, frames: u32) ->
     if is_header(fields) {
         Ok(())
     } else {
-        Err(TraceRefusal::At { fault: TraceFault::BadHeader, row })
+        Err(TraceRefusal::At {
+            fault: TraceFault::BadHeader,
+            row,
+        })
     }
 }
 
 /// Takes the reference of the record of this number.
-fn take_reference(draft: &mut Draft, fields: &ByteRecord, row: u32, frames: u32) -> Result<(), TraceRefusal>
+fn take_reference(
+    draft: &mut Draft,
+    fields: &ByteRecord,
+    row: u32,
+    frames: u32,
+) -> Result<(), TraceRefusal>
     requires draft { (refs : List Reference) × IsDraftOf draft.old refs }
     requires few { frames ≤ 4096 }
     ensures taken { (refs : List Reference) → IsDraftOf draft.old refs → OnOk result (TakesReference draft.new (fields_of fields.now) frames refs) }
@@ -123,6 +155,9 @@ fn take_reference(draft: &mut Draft, fields: &ByteRecord, row: u32, frames: u32)
     match draft.take(reference, frames) {
         Ok(()) => Ok(()),
         Err(Untaken::Memory) => Err(TraceRefusal::Memory),
-        Err(Untaken::TooManyPages) => Err(TraceRefusal::At { fault: TraceFault::TooManyPages, row }),
+        Err(Untaken::TooManyPages) => Err(TraceRefusal::At {
+            fault: TraceFault::TooManyPages,
+            row,
+        }),
     }
 }

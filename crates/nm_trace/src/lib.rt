@@ -4,11 +4,13 @@
 mod draft;
 mod fault;
 mod importing;
+mod laws;
 mod reading;
 mod reference;
 mod writing;
 
 pub use fault::{TraceFault, TraceRefusal};
 pub use importing::import;
+pub use laws::{page_numbers, read_again};
 pub use reference::Reference;
 pub use writing::to_trace;

@@ -1,6 +1,5 @@
 -- Each row tells the draft one reference more, but for the header.
-use Rattle.std.proofs.Common.{Bor, ◌≡◌, ◌+◌, ◌<◌, List, ℕ, [], ◌∷◌, ◌++◌, length, Some, refl, sym, ap, ◌∙◌, inl, inr, rules, arith, length-append}
-use Rattle.csv.specs.Machine.{next_record}
+use Rattle.std.proofs.Common.{Bor, ◌≡◌, ◌+◌, List, ℕ, [], ◌∷◌, ◌++◌, length, Some, refl, sym, ◌∙◌, inl, inr, rules, arith, length-append}
 use Rattle.csv.specs.Reading.{Reached, default_config, strip_bom}
 use Rattle.csv.specs.Records.{fields_of}
 use Rattle.csv.specs.declared.parser.State.TheVariants as st
@@ -73,8 +72,8 @@ returns-in_err-take_record-clause-fault c =
     let m = rows-more (λ (s : Bor (List ℕ)). Some s.now) c.loop-item.item-iterator.rdr c.next.new.self.rdr fields default_config st.StartRecord (strip_bom c.args.bytes.now) read.rest read.rows inv.config read.source_is read.reached s.0 in
     let next : c.loop-item.row + 1 ≡ length read.rows + 1 = omega (arith, read.count) in
     let h : IsTraceRefusal c.args.bytes.now c.args.fast c.args.slow c.in_err-take_record.field-0.0 =
-        fault-told c.args.bytes.now c.args.fast c.args.slow (c.loop-item.row + 1) c.loop-item.draft read.rows fields c.in_err-take_record.field-0.0 read.told next
-            (c.next.new.self.rdr.state, m.0, m.2) c.in_err-take_record.ensures.no_header c.in_err-take_record.ensures.untaken in
+    fault-told c.args.bytes.now c.args.fast c.args.slow (c.loop-item.row + 1) c.loop-item.draft read.rows fields c.in_err-take_record.field-0.0 read.told next
+    (c.next.new.self.rdr.state, m.0, m.2) c.in_err-take_record.ensures.no_header c.in_err-take_record.ensures.untaken in
     search (rules, h)
 
 pub returns-then-row-eq0-clause-fault : goal.returns-then-row-eq0-clause-fault

@@ -19,4 +19,4 @@ returns-in_err-d-clause-none c = rw c.from_residual-in_err-d.ensures (λ four. f
 pub returns-clause-some : goal.returns-clause-some
 returns-clause-some c =
     four_fields (fields_of c.args.fields.now) c.in_ok-a.a.now c.in_ok-b.b.now c.in_ok-c.c.now c.in_ok-d.d.now (omega (arith, c.if-len-ne4.false, c.len.ensures))
-        c.in_ok-a.ensures.value c.in_ok-b.ensures.value c.in_ok-c.ensures.value c.in_ok-d.ensures.value
+    c.in_ok-a.ensures.value c.in_ok-b.ensures.value c.in_ok-c.ensures.value c.in_ok-d.ensures.value

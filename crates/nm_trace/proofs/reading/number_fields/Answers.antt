@@ -10,9 +10,9 @@ returns-in_err-cpu-clause-none c = rw c.from_residual.ensures (fields_in-none (f
 pub returns-in_err-value-clause-none : goal.returns-in_err-value-clause-none
 returns-in_err-value-clause-none c =
     rw c.from_residual-in_err-value.ensures
-        (fields_in-four (fields_of c.args.fields.now) c.in_ok-cpu.cpu.now c.in_ok-cpu.kind.now c.in_ok-cpu.address.now c.in_ok-cpu.value.now None c.in_ok-cpu.ensures.some (sym c.in_err-value.ensures))
+    (fields_in-four (fields_of c.args.fields.now) c.in_ok-cpu.cpu.now c.in_ok-cpu.kind.now c.in_ok-cpu.address.now c.in_ok-cpu.value.now None c.in_ok-cpu.ensures.some (sym c.in_err-value.ensures))
 
 pub returns-clause-some : goal.returns-clause-some
 returns-clause-some c =
     fields_in-four (fields_of c.args.fields.now) c.in_ok-cpu.cpu.now c.in_ok-cpu.kind.now c.in_ok-cpu.address.now c.in_ok-cpu.value.now (Some (option_map (λ s. s.now) c.in_ok-value.value))
-        c.in_ok-cpu.ensures.some (sym c.in_ok-value.ensures)
+    c.in_ok-cpu.ensures.some (sym c.in_ok-value.ensures)

@@ -1,0 +1,4 @@
+//! The rows.
+
+mod imports;
+mod traces;
