@@ -1,2 +1,4 @@
 pub mod Joined
 pub mod EachRun
+pub mod Tests
+pub mod OneRole
