@@ -1,4 +1,5 @@
 pub mod Joined
 pub mod EachRun
+pub mod Legal
 pub mod Tests
 pub mod OneRole
