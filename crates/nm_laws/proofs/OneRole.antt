@@ -1,22 +1,20 @@
 -- That every frame passes one of the four tests, in the state after each run.
-use Rattle.std.proofs.Common.{◌≡◌, ℕ, ◌+◌, ◌<◌, ◌==◌, if◌then◌else◌, Bool, List, [], ◌∷◌, length, refl, sym, ap, subst, ◌∙◌, inl, inr}
+use Rattle.std.proofs.Common.{◌≡◌, ℕ, ◌+◌, ◌<◌, ◌==◌, if◌then◌else◌, Bool, List, length, refl, sym, ap, subst, ◌∙◌, inl, inr}
 use Rattle.std.proofs.lemmas.Bool.{true≢false, cases_Bool, eq-eqb, ne_eqb}
 use Rattle.nm_base.specs.Geometry.{Geometry, IsGeometry}
 use Rattle.nm_action.specs.declared.action.Event.{Event}
 use Rattle.nm_words.specs.Words.{HasSizes}
-use Rattle.nm_core.specs.Kept.{IsKept}
 use Rattle.nm_core.specs.EndWords as ends
 use Rattle.nm_core.specs.Roles as state
-use Rattle.nm_core.specs.Runs.{IsRun, IsRunFrom, after_event, state_from, state_after}
-use Rattle.nm_core.specs.State.{State, start}
-use Rattle.nm_core.proofs.Starts.{IsKept-start}
+use Rattle.nm_core.specs.Runs.{IsRun, state_after}
+use Rattle.nm_core.specs.State.{State}
 use Rattle.nm_report.specs.Filters.{HasOneRoleEach, CountsFilters}
 use Rattle.nm_report.proofs.Filtered.{counts-filters}
 use Rattle.nm_world.specs.FrameLaw.{Claim, Names, HasRole, AreRoles}
 use Rattle.nm_world.specs.FrameLaw.Claim.{Bit, AtHome, AtShadow, By}
 use Rattle.nm_world.specs.Laws.{AreAll}
 use Rattle.nm_world.specs.Seen.{world_of}
-use Rattle.nm_laws.proofs.EachRun.{kept_after, all_in_run}
+use Rattle.nm_laws.proofs.EachRun.{IsLawful, lawful_run}
 use Rattle.nm_laws.proofs.Tests.{kind_of, FindsKind, names_in, finds_bit, finds_home, finds_shadow, finds_view}
 
 -- a test is passed exactly where the claim is of its kind
@@ -55,24 +53,17 @@ one_test s sizes roles f frame =
 
 -- ---- runs
 
-kept_from : (s : State) (events : List Event) → IsKept s → IsRunFrom s events → IsKept (state_from s events)
-kept_from s [] k run = k
-kept_from s (e ∷ events) k run = kept_from (after_event s e) events (kept_after s e.actor e.action k run.0.actor run.0.allowed) run.1
-
-machine_from : (s : State) (events : List Event) → (state_from s events).geometry ≡ s.geometry
-machine_from s [] = refl
-machine_from s (e ∷ events) = machine_from (after_event s e) events
-
 -- in the state after a run every frame passes one test
 pub one_role_in_run : (g : Geometry) (events : List Event) → IsGeometry g → IsRun g events → HasOneRoleEach (state_after g events)
 one_role_in_run g events is run =
     let s : State = state_after g events in
     let All : Geometry → Type 0 = λ n. AreAll n (world_of s) in
-    let all : AreAll s.geometry (world_of s) = subst All (sym (machine_from (start g) events)) (all_in_run g events is run) in
-    one_test s (kept_from (start g) events (IsKept-start g is) run).sizes all.frames.roles
+    let lawful : IsLawful g s = lawful_run g events is run in
+    let all : AreAll s.geometry (world_of s) = subst All (sym lawful.machine) lawful.all in
+    one_test s lawful.kept.sizes all.frames.roles
 
 -- and so the counts at its end are those of the tests
 pub counts_in_run : (g : Geometry) (events : List Event) (end : ends.EndWords) (tier : ℕ) → IsGeometry g → IsRun g events → ends.IsEndOf (state_after g events) end → tier < length g.tiers → CountsFilters (state_after g events) end tier
 counts_in_run g events end tier is run ends there =
     let In : Geometry → Type 0 = λ n. tier < length n.tiers in
-    counts-filters (state_after g events) end tier ends (one_role_in_run g events is run) (subst In (sym (machine_from (start g) events)) there)
+    counts-filters (state_after g events) end tier ends (one_role_in_run g events is run) (subst In (sym (lawful_run g events is run).machine) there)
