@@ -3,8 +3,7 @@
 ghost use Rattle.std.specs.Prelude.{ℕ, List};
 ghost use Rattle.nm_base.specs.Geometry.{Geometry, IsGeometry};
 ghost use Rattle.nm_action.specs.declared.action.Event.{Event};
-ghost use Rattle.nm_flat.specs.Memory.{IsLegal};
-ghost use Rattle.nm_core.specs.Runs.{IsStep, IsRun, accesses_of, state_after};
+ghost use Rattle.nm_core.specs.Runs.{IsStep, IsRun, state_after};
 ghost use Rattle.nm_core.specs.State.{view_of};
 ghost use Rattle.nm_event.specs.Fitting.{Fits};
 ghost use Rattle.nm_world.specs.Laws.{AreAll};
@@ -20,10 +19,4 @@ pub fn each_state_of_a_run_is_lawful()
 pub fn each_reply_of_a_run_fits()
     ensures { (g : Geometry) (events : List Event) (e : Event) → IsGeometry g → IsRun g events
         → IsStep (state_after g events) e → Fits g (view_of (state_after g events) e.actor) e.action e.reply }
-{}
-
-/// The accesses of each run are those of a flat memory: each load gives, and each add gave, what the stores and adds before
-/// it left there, whichever frames held the page and whatever the processors cached.
-pub fn the_accesses_of_a_run_are_legal()
-    ensures { (g : Geometry) (events : List Event) → IsGeometry g → IsRun g events → IsLegal g (accesses_of events) }
 {}
