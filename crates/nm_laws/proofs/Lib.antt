@@ -2,3 +2,4 @@ pub mod Joined
 pub mod EachRun
 pub mod Tests
 pub mod OneRole
+pub mod Following

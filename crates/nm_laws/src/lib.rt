@@ -2,7 +2,9 @@
 #![tactic(auto)]
 
 pub mod roles;
+pub mod lists;
 pub mod runs;
 pub mod steps;
 
+pub use lists::{RunEnd, run_list};
 pub use steps::{all_laws, cache_law, copy_law, frame_law, lock_law, shadow_law};
