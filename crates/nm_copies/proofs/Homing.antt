@@ -29,7 +29,7 @@ known_fill P None h = absurd h
 known_fill P (Some x) h = (x, (refl, h))
 
 -- each of the new homes is ready
-ready_home : (g : Geometry) (m : World) (a b f : ℕ) (o : Op) (x : Fill) → CopyFacts g (sight_of g m) → IsReady g m a (SetHome b f) → op_on (m.view a) b ≡ Some o → fill_of (m.view a) f ≡ Some x → HasNewHome g x o → CopyLaw g (sight_of g m) → IsReadyHome g (sight_of g m) b f o
+pub ready_home : (g : Geometry) (m : World) (a b f : ℕ) (o : Op) (x : Fill) → CopyFacts g (sight_of g m) → IsReady g m a (SetHome b f) → op_on (m.view a) b ≡ Some o → fill_of (m.view a) f ≡ Some x → HasNewHome g x o → CopyLaw g (sight_of g m) → IsReadyHome g (sight_of g m) b f o
 ready_home g m a b f o x facts r here owned may h =
     let s : Sight = sight_of g m in
     let informed = facts.informed.informed a b o here in

@@ -50,12 +50,12 @@ all_left s new a action k there may made all =
     subst At (sym made) (all_after s a action k there may all)
 
 -- a state of a machine that keeps what it keeps by itself, and in which all the groups hold
-record IsLawful (g : Geometry) (s : State) : Type 0 where
-  machine : s.geometry ≡ g
-  kept : IsKept s
-  all : AreAll g (world_of s)
+pub record IsLawful (g : Geometry) (s : State) : Type 0 where
+  pub machine : s.geometry ≡ g
+  pub kept : IsKept s
+  pub all : AreAll g (world_of s)
 
-lawful_after : (g : Geometry) (s : State) (e : Event) → IsLawful g s → IsStep s e → IsLawful g (after_event s e)
+pub lawful_after : (g : Geometry) (s : State) (e : Event) → IsLawful g s → IsStep s e → IsLawful g (after_event s e)
 lawful_after g s e h made =
     let All : Geometry → Type 0 = λ n. AreAll n (world_of s) in
     let After : Geometry → Type 0 = λ n. AreAll n (world_of (after_event s e)) in
@@ -69,15 +69,18 @@ lawful_from : (g : Geometry) (s : State) (events : List Event) → IsLawful g s 
 lawful_from g s [] h run = h
 lawful_from g s (e ∷ events) h run = lawful_from g (after_event s e) events (lawful_after g s e h run.0) run.1
 
+pub lawful_start : (g : Geometry) → IsGeometry g → IsLawful g (start g)
+lawful_start g is = record { machine = refl; kept = IsKept-start g is; all = AreAll-start g is }
+
 lawful_run : (g : Geometry) (events : List Event) → IsGeometry g → IsRun g events → IsLawful g (state_after g events)
-lawful_run g events is run = lawful_from g (start g) events (record { machine = refl; kept = IsKept-start g is; all = AreAll-start g is }) run
+lawful_run g events is run = lawful_from g (start g) events (lawful_start g is) run
 
 -- all the groups hold in the state after a run
 pub all_in_run : (g : Geometry) (events : List Event) → IsGeometry g → IsRun g events → AreAll g (world_of (state_after g events))
 all_in_run g events is run = (lawful_run g events is run).all
 
 -- the reply of a step of a state is that of its world
-reply_same : (s : State) (a : ℕ) (action : Action) → IsKept s → IsActor s.geometry a → Allowed s.geometry (view_of s a) action → reply_in s.geometry (world_of s) a action ≡ reply_to s a action
+pub reply_same : (s : State) (a : ℕ) (action : Action) → IsKept s → IsActor s.geometry a → Allowed s.geometry (view_of s a) action → reply_in s.geometry (world_of s) a action ≡ reply_to s a action
 reply_same s a action k there may =
     let place : IsPlace s.geometry (place_found s a action) = place_there s a action k (within s a k there) may in
     ap (λ n. reply_of (change_made s a action) n) (seen_word-place s.geometry s.words (place_found s a action) place)

@@ -23,7 +23,7 @@ use Rattle.nm_frames.specs.Facts.{HasFrameFacts, HasShadowFacts}
 use Rattle.nm_frames.proofs.Steps.{frames_step, shadows_step}
 
 -- where all the groups hold, a permitted action can be made
-ready_of : (g : Geometry) (m : World) (a : ℕ) (action : Action) → IsGeometry g → AreAll g m → IsActor g a → Allowed g (m.view a) action → IsReady g m a action
+pub ready_of : (g : Geometry) (m : World) (a : ℕ) (action : Action) → IsGeometry g → AreAll g m → IsActor g a → Allowed g (m.view a) action → IsReady g m a action
 ready_of g m a action is all there may = record { shaped = all.shape; actor = there; allowed = may; fits = Fits-reply_in g m a action is all there may }
 
 frame_facts : (g : Geometry) (m : World) → IsGeometry g → AreAll g m → HasFrameFacts g m

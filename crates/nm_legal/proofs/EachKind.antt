@@ -29,6 +29,7 @@ use Rattle.nm_world.proofs.Options.{some_and}
 use Rattle.nm_world.proofs.Writing.{mem_sets, word_writes}
 use Rattle.nm_copies.specs.Facts.{CopyFacts}
 use Rattle.nm_copies.proofs.Quiet.{rewritten}
+use Rattle.nm_copies.proofs.Homing.{ready_home}
 use Rattle.nm_copies.proofs.Homes.{IsReadyHome, ready_demanded, ready_committed, ready_moved}
 use Rattle.nm_copies.proofs.Memory.{value_apart}
 use Rattle.nm_legal.specs.Linked.{IsLinked, FollowsMemory}
@@ -96,20 +97,7 @@ copied_linked g m a f i x y memory facts owned h c j index =
     value_apart (home_at m) (mem_at m) (λ k n. written (words.Mem f i) x m.word (words.Mem k n)) c f j
     (facts.roles.owned a c f y owned) (λ k n other. sets.others k n other) ∙ h c j index
 
--- each of the new homes has the words of the page
-ready_home : (g : Geometry) (m : World) (a b f : ℕ) (o : Op) (x : Fill) → CopyFacts g (sight_of g m) → IsReady g m a (SetHome b f) → op_on (m.view a) b ≡ Some o → fill_of (m.view a) f ≡ Some x → HasNewHome g x o → CopyLaw g (sight_of g m) → IsReadyHome g (sight_of g m) b f o
-ready_home g m a b f o x facts r here owned may h =
-    let s : Sight = sight_of g m in
-    let informed = facts.informed.informed a b o here in
-    let shaped : IsOpShaped g o = all_find page_of b (IsOpShaped g) (m.view a).ops o (r.shaped.shape a r.actor).ops here in
-    elim may [
-      | inl demanded ↦ ready_demanded g s a b f o x here owned demanded informed facts.mapped facts.homes (facts.stages.held a b o here) shaped.some h
-      | inr more ↦ elim more [
-        | inl committed ↦ ready_committed g s a b f o x here owned committed informed facts.named facts.standing h
-        | inr away ↦ ready_moved g s a b f o x here owned away informed facts.standing h
-      ]
-    ]
-
+-- a new home has the words of its page
 homed_linked : (g : Geometry) (m : World) (a b f : ℕ) (memory : Memory) → CopyFacts g (sight_of g m) → CopyLaw g (sight_of g m) → IsReady g m a (SetHome b f) → IsLinked g m memory → (c j : ℕ) → IsIndex g j → page_value (λ d. written (words.Home b) (home_word f) m.word (words.Home d)) (mem_at m) c j ≡ memory c j
 homed_linked g m a b f memory facts copies r h c j index =
     let on = some_and (op_on (m.view a) b) (MaySetHome g (fill_of (m.view a) f)) r.allowed.permitted in
