@@ -1,8 +1,8 @@
 //! That each permitted step keeps the laws, and so each run: the groups, each kept in a crate of its own, put together.
 #![tactic(auto)]
 
-pub mod roles;
 pub mod lists;
+pub mod roles;
 pub mod runs;
 pub mod steps;
 

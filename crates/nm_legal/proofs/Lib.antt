@@ -1,0 +1,3 @@
+pub mod Pages
+pub mod EachKind
+pub mod EachRun
