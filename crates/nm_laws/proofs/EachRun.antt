@@ -72,7 +72,7 @@ lawful_from g s (e ∷ events) h run = lawful_from g (after_event s e) events (l
 pub lawful_start : (g : Geometry) → IsGeometry g → IsLawful g (start g)
 lawful_start g is = record { machine = refl; kept = IsKept-start g is; all = AreAll-start g is }
 
-lawful_run : (g : Geometry) (events : List Event) → IsGeometry g → IsRun g events → IsLawful g (state_after g events)
+pub lawful_run : (g : Geometry) (events : List Event) → IsGeometry g → IsRun g events → IsLawful g (state_after g events)
 lawful_run g events is run = lawful_from g (start g) events (lawful_start g is) run
 
 -- all the groups hold in the state after a run

@@ -1,2 +1,5 @@
 pub mod Joined
 pub mod EachRun
+pub mod Tests
+pub mod OneRole
+pub mod Following
