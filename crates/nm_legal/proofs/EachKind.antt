@@ -1,5 +1,5 @@
 -- The link is kept by each kind of action, and each access tells what the flat memory has.
-use Rattle.std.proofs.Common.{◌≡◌, ℕ, ◌+◌, ◌%◌, ◌^◌, IsTrue, Option, Some, None, IsSome, IsSomeAnd, refl, sym, ap, ◌∙◌, inl, inr}
+use Rattle.std.proofs.Common.{◌≡◌, ℕ, ◌+◌, ◌%◌, ◌^◌, IsTrue, Option, Some, None, IsSome, IsSomeAnd, refl, sym, ap, ◌∙◌}
 use Rattle.std.specs.Prelude.{unwrap_or}
 use Rattle.nm_base.specs.Geometry.{Geometry, backing_page}
 use Rattle.nm_base.specs.HomeWord.{home_word}
@@ -11,18 +11,16 @@ use Rattle.nm_action.specs.declared.action.Action.TheVariants.{Load, Store, Add,
 use Rattle.nm_view.specs.declared.view.CacheEntry.{CacheEntry}
 use Rattle.nm_view.specs.declared.view.Fill.{Fill}
 use Rattle.nm_view.specs.Lists.{find}
-use Rattle.nm_view.specs.Views.{Op, View}
-use Rattle.nm_view.specs.Operations.{page_of, cached_page, fill_of, op_on}
-use Rattle.nm_view.proofs.Items.{all_find}
+use Rattle.nm_view.specs.Views.{View}
+use Rattle.nm_view.specs.Operations.{cached_page, fill_of, op_on}
 use Rattle.nm_words.specs.declared.names.Where.{Where}
 use Rattle.nm_words.specs.declared.names.Where.TheVariants as words
 use Rattle.nm_permit.specs.Permitted.{MayCopyStore, MaySetHome, HasNewHome, IsZeroedTo, IsCopiedTo}
 use Rattle.nm_step.specs.Table.{cached_frame, entry_frame, home_frame}
-use Rattle.nm_shape.specs.Shape.{IsOpShaped}
 use Rattle.nm_core.specs.Runs.{access_by}
 use Rattle.nm_world.specs.Worlds.{World, moved, written, reply_in, home_at, mem_at}
 use Rattle.nm_world.specs.Notions.{page_value}
-use Rattle.nm_world.specs.Sights.{Sight, Sets, sight_of}
+use Rattle.nm_world.specs.Sights.{Sets, sight_of}
 use Rattle.nm_world.specs.CopyLaw.{CopyLaw}
 use Rattle.nm_world.specs.Laws.{IsReady}
 use Rattle.nm_world.proofs.Options.{some_and}
@@ -30,7 +28,7 @@ use Rattle.nm_world.proofs.Writing.{mem_sets, word_writes}
 use Rattle.nm_copies.specs.Facts.{CopyFacts}
 use Rattle.nm_copies.proofs.Quiet.{rewritten}
 use Rattle.nm_copies.proofs.Homing.{ready_home}
-use Rattle.nm_copies.proofs.Homes.{IsReadyHome, ready_demanded, ready_committed, ready_moved}
+use Rattle.nm_copies.proofs.Homes.{IsReadyHome}
 use Rattle.nm_copies.proofs.Memory.{value_apart}
 use Rattle.nm_legal.specs.Linked.{IsLinked, FollowsMemory}
 use Rattle.nm_legal.proofs.Pages.{value_at, value_left, value_stored, value_homed}

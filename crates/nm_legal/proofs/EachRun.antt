@@ -1,5 +1,5 @@
 -- The accesses of each run are legal, and the state after it is linked to the memory that they leave.
-use Rattle.std.proofs.Common.{◌≡◌, ◌<◌, List, [], ◌∷◌, Option, Some, None, length, refl, sym, ap, subst, ◌∙◌, arith}
+use Rattle.std.proofs.Common.{◌≡◌, List, [], ◌∷◌, Option, Some, None, refl, sym, subst, ◌∙◌}
 use Rattle.std.specs.List.{cons_option}
 use Rattle.std.proofs.lemmas.List.{get_or-replicate}
 use Rattle.std.proofs.lemmas.List.Elements.{All-nil, All-cons}
@@ -9,43 +9,33 @@ use Rattle.nm_flat.specs.Memory.{Memory, IsPlaced, AllPlaced, empty_memory, memo
 use Rattle.nm_action.specs.declared.action.Event.{Event}
 use Rattle.nm_action.specs.declared.action.Reply.{Reply}
 use Rattle.nm_words.specs.declared.names.Where.TheVariants as words
-use Rattle.nm_words.specs.Names.{IsPlace}
 use Rattle.nm_words.specs.Words.{opening_words}
-use Rattle.nm_step.specs.Table.{reply_of}
 use Rattle.nm_core.specs.Kept.{IsKept}
 use Rattle.nm_core.specs.Runs.{IsStep, IsRun, IsRunFrom, access_by, access_of, accesses_of, after_event, state_from, state_after}
-use Rattle.nm_core.specs.State.{State, place_found, change_made, start}
+use Rattle.nm_core.specs.State.{State, start}
 use Rattle.nm_core.proofs.Starts.{IsKept-start}
-use Rattle.nm_core.proofs.Steps.{place_there}
 use Rattle.nm_world.specs.Worlds.{World, home_at, mem_at, moved, reply_in}
 use Rattle.nm_world.specs.Notions.{page_value}
 use Rattle.nm_world.specs.Laws.{AreAll, IsReady}
 use Rattle.nm_world.specs.Seen.{world_of}
-use Rattle.nm_world.proofs.Bridge.{seen_of, seen_word-place, world_of-step}
+use Rattle.nm_world.proofs.Bridge.{seen_of, world_of-step}
 use Rattle.nm_world.proofs.Opening.{AreAll-start}
-use Rattle.nm_fits.proofs.EachReply.{Fits-reply_in}
 use Rattle.nm_copies.proofs.Closing.{facts_hold}
-use Rattle.nm_laws.proofs.EachRun.{kept_after, all_after}
+use Rattle.nm_laws.proofs.EachRun.{kept_after, all_after, reply_same}
+use Rattle.nm_laws.proofs.Joined.{ready_of}
 use Rattle.nm_legal.specs.Linked.{IsLinked, FollowsMemory}
 use Rattle.nm_legal.proofs.EachKind.{each_follows}
-
--- the reply of a step of a state is that of its world
-reply_same : (s : State) (e : Event) → IsKept s → IsStep s e → reply_in s.geometry (world_of s) e.actor e.action ≡ e.reply
-reply_same s e k made =
-    let within : e.actor < length s.views = omega (arith, made.actor, k.actors) in
-    let place : IsPlace s.geometry (place_found s e.actor e.action) = place_there s e.actor e.action k within made.allowed in
-    ap (λ n. reply_of (change_made s e.actor e.action) n) (seen_word-place s.geometry s.words (place_found s e.actor e.action) place) ∙ sym made.reply
 
 -- a step of a lawful state that is linked to a memory follows it
 pub event_follows : (s : State) (e : Event) (memory : Memory) → IsKept s → AreAll s.geometry (world_of s) → IsLinked s.geometry (world_of s) memory → IsStep s e → FollowsMemory s.geometry (world_of (after_event s e)) memory (access_of e)
 event_follows s e memory k all linked made =
     let g : Geometry = s.geometry in
     let m : World = world_of s in
-    let ready : IsReady g m e.actor e.action = record { shaped = all.shape; actor = made.actor; allowed = made.allowed; fits = Fits-reply_in g m e.actor e.action k.geometry all made.actor made.allowed } in
+    let ready : IsReady g m e.actor e.action = ready_of g m e.actor e.action k.geometry all made.actor made.allowed in
     let step : FollowsMemory g (moved g m e.actor e.action) memory (access_by e.actor e.action (reply_in g m e.actor e.action)) = each_follows g m e.actor e.action memory (facts_hold g m k.geometry all) all.copies ready linked in
     let In : World → Type 0 = λ w. FollowsMemory g w memory (access_by e.actor e.action (reply_in g m e.actor e.action)) in
     let By : Reply → Type 0 = λ r. FollowsMemory g (world_of (after_event s e)) memory (access_by e.actor e.action r) in
-    subst By (reply_same s e k made) (subst In (sym (world_of-step s e.actor e.action k made.actor made.allowed)) step)
+    subst By (reply_same s e.actor e.action k made.actor made.allowed ∙ sym made.reply) (subst In (sym (world_of-step s e.actor e.action k made.actor made.allowed)) step)
 
 -- a list of accesses lies in mapped pages and is legal from a memory on, and a world is linked to the memory that it leaves
 record Ends (g : Geometry) (after : World) (memory : Memory) (list : List Access) : Type 0 where
