@@ -1,5 +1,4 @@
-pub mod Joined
-pub mod EachRun
 pub mod Tests
 pub mod OneRole
+pub mod Holding
 pub mod Following

@@ -14,7 +14,7 @@ use Rattle.nm_world.specs.FrameLaw.{Claim, Names, HasRole, AreRoles}
 use Rattle.nm_world.specs.FrameLaw.Claim.{Bit, AtHome, AtShadow, By}
 use Rattle.nm_world.specs.Laws.{AreAll}
 use Rattle.nm_world.specs.Seen.{world_of}
-use Rattle.nm_laws.proofs.EachRun.{IsLawful, lawful_run}
+use Rattle.nm_runs.proofs.EachRun.{IsLawful, lawful_run}
 use Rattle.nm_laws.proofs.Tests.{kind_of, FindsKind, names_in, finds_bit, finds_home, finds_shadow, finds_view}
 
 -- a test is passed exactly where the claim is of its kind

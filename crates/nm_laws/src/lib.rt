@@ -1,9 +1,10 @@
-//! That each permitted step keeps the laws, and so each run: the groups, each kept in a crate of its own, put together.
+//! The facts of every run and of every permitted step: the five facts, the roles of frames, any list of events followed as far
+//! as it is a run, and one step with the laws after it.
 #![tactic(auto)]
 
+pub mod facts;
 pub mod lists;
 pub mod roles;
-pub mod runs;
 pub mod steps;
 
 pub use lists::{RunEnd, run_list};

@@ -1,4 +1,4 @@
-//! Any list of events, followed from the opening state: where it stops to be a run, and the laws as far as it is one.
+//! Any list of events, followed from the opening state: where it stops to be a run, and what holds as far as it is one.
 
 ghost use Rattle.std.specs.Prelude.{◌≡◌, ◌<◌, ◌^◌, ◌↔◌, ◌++◌, ℕ, IsTrue, List, length};
 ghost use Rattle.nm_action.specs.declared.action.Event.{Event};
@@ -7,6 +7,7 @@ ghost use Rattle.nm_core.specs.Runs.{IsStep, IsRun, after_event, state_after};
 ghost use Rattle.nm_core.specs.State.{State, start};
 ghost use Rattle.nm_world.specs.Laws.{AreAll};
 ghost use Rattle.nm_world.specs.Seen.{world_of};
+ghost use Rattle.nm_laws.specs.Facts.{HoldsOfRun};
 ghost use Rattle.nm_laws.specs.Lists.{IsFirstFailure};
 
 use nm_action::Event;
@@ -37,8 +38,10 @@ fn is_made(state: &mut State, event: Event) -> bool
 
 /// Follows a list of events from the opening state. `Whole` comes exactly where the list is a run, and carries the
 /// state after it. `Fails` comes exactly where some event is no step, and carries the number of the first: its actor
-/// does not exist, its action is not permitted, or its reply is not the step's. The state is given up then. All the
-/// groups hold in each state as far as the list is a run. It takes no memory.
+/// does not exist, its action is not permitted, or its reply is not the step's. The state is given up then. As
+/// far as the list is a run all the groups hold, and so do the five facts: of each front of the list that is a run the accesses
+/// are those of a flat memory, the transactions obey their law, and in the state after it shadows are true, the roles of frames
+/// are a partition, and locks and turns are held as the views say. It takes no memory.
 pub fn run_list(mut state: State, events: &[Event]) -> RunEnd
     requires opens { state ≡ start state.geometry }
     requires few { length events.now < 2 ^ 32 }
@@ -47,6 +50,8 @@ pub fn run_list(mut state: State, events: &[Event]) -> RunEnd
     ensures fails { (i : ℕ) → (result ≡ RunEnd.Fails i) ↔ IsFirstFailure state.geometry events.now i }
     ensures lawful { (front rest : List Event) → events.now ≡ front ++ rest → IsRun state.geometry front
         → AreAll state.geometry (world_of (state_after state.geometry front)) }
+    ensures facts { (front rest : List Event) → events.now ≡ front ++ rest → IsRun state.geometry front
+        → HoldsOfRun state.geometry front }
 {
     let actors = state.geometry().cpus + 2;
     let mut number = 0;

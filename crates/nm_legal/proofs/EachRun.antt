@@ -21,8 +21,8 @@ use Rattle.nm_world.specs.Seen.{world_of}
 use Rattle.nm_world.proofs.Bridge.{seen_of, world_of-step}
 use Rattle.nm_world.proofs.Opening.{AreAll-start}
 use Rattle.nm_copies.proofs.Closing.{facts_hold}
-use Rattle.nm_laws.proofs.EachRun.{kept_after, all_after, reply_same}
-use Rattle.nm_laws.proofs.Joined.{ready_of}
+use Rattle.nm_runs.proofs.EachRun.{kept_after, all_after, reply_same}
+use Rattle.nm_runs.proofs.Joined.{ready_of}
 use Rattle.nm_legal.specs.Linked.{IsLinked, FollowsMemory}
 use Rattle.nm_legal.proofs.EachKind.{each_follows}
 

@@ -3,7 +3,8 @@ use Rattle.std.proofs.Common.{◌≡◌, take, get_or, subst, arith, ap, ◌+◌
 use Rattle.std.proofs.lemmas.List.{take_all}
 use Rattle.nm_core.specs.Runs.{IsRun}
 use Rattle.nm_laws.specs.Lists.{IsFirstFailure}
-use Rattle.nm_laws.proofs.EachRun.{all_in_run}
+use Rattle.nm_runs.proofs.EachRun.{all_in_run}
+use Rattle.nm_laws.proofs.Holding.{facts_in_run}
 use Rattle.nm_laws.proofs.Following.{no_event, next_fails, no_actor, fails_whole, fails_fails, whole_fails, state-more, run-more, geometry-reached}
 use Rattle.nm_laws.proofs.lists.run_list.Goals.{then-event-actors-via-then-event-actors, then-event-actors-via-else-event-actors+then-not-is_made}
 use Rattle.nm_laws.proofs.lists.run_list.Goals as goal
@@ -66,3 +67,9 @@ returns-clause-lawful c = λ front rest is run. all_in_run c.args.state.geometry
 
 pub returns-then-event-actors-clause-lawful : goal.returns-then-event-actors-clause-lawful
 returns-then-event-actors-clause-lawful c = λ front rest is run. all_in_run c.args.state.geometry front c.geometry.ensures.kept.geometry run
+
+pub returns-clause-facts : goal.returns-clause-facts
+returns-clause-facts c = λ front rest is run. facts_in_run c.args.state.geometry front c.geometry.ensures.kept.geometry run
+
+pub returns-then-event-actors-clause-facts : goal.returns-then-event-actors-clause-facts
+returns-then-event-actors-clause-facts c = λ front rest is run. facts_in_run c.args.state.geometry front c.geometry.ensures.kept.geometry run

@@ -1,5 +1,5 @@
 -- The step leaves all the groups.
-use Rattle.nm_laws.proofs.EachRun.{all_left}
+use Rattle.nm_runs.proofs.EachRun.{all_left}
 use Rattle.nm_laws.proofs.steps.all_laws.Goals as goal
 
 pub returns-clause-law : goal.returns-clause-law

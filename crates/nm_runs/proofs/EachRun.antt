@@ -23,7 +23,7 @@ use Rattle.nm_world.proofs.Bounds.{HasBounds-world_of}
 use Rattle.nm_world.proofs.Bridge.{seen_word-place, world_of-step}
 use Rattle.nm_world.proofs.Opening.{AreAll-start}
 use Rattle.nm_fits.proofs.EachReply.{Fits-reply_in}
-use Rattle.nm_laws.proofs.Joined.{all_moved}
+use Rattle.nm_runs.proofs.Joined.{all_moved}
 
 -- a number of an actor is one of a view
 within : (s : State) (a : ℕ) → IsKept s → IsActor s.geometry a → a < length s.views

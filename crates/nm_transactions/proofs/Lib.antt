@@ -1,0 +1,11 @@
+pub mod Lists
+pub mod Flushes
+pub mod Tables
+pub mod Courses
+pub mod Open
+pub mod Begun
+pub mod Stores
+pub mod Own
+pub mod Steps
+pub mod Ended
+pub mod EachRun
