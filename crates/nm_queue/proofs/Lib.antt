@@ -1,0 +1,5 @@
+pub mod Fifo
+pub mod Numbers
+pub mod Keeping
+pub mod Joining
+pub mod Alone
