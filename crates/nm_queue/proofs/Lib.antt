@@ -3,3 +3,4 @@ pub mod Numbers
 pub mod Keeping
 pub mod Joining
 pub mod Alone
+pub mod Counts

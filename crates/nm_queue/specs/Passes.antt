@@ -44,6 +44,10 @@ pub record PassState : Type 0 where
 abbrev pub pass_numbers : Known → List ℕ
 pass_numbers k = k.number ∷ map (λ j. j.number) k.joined
 
+-- what the pass and those that were joined into it put and took, a list for each
+abbrev pub pass_lists : Known → List (List LaneMove)
+pass_lists k = k.moves ∷ map (λ j. j.moves) k.joined
+
 -- every other pass was joined into this one
 abbrev pub IsAlone : Known → Type 0
 IsAlone k = k.made ≡ Some (suc (length k.joined))
