@@ -8,7 +8,7 @@ use Rattle.std.proofs.lemmas.List.Sums.{sum_by-cons, sum_by-append}
 use Rattle.nm_actor.specs.Lanes.{LaneMove, put, took, Held}
 use Rattle.nm_actor.specs.Boards.{is_put, is_took, puts_of, takes_of, IsRest}
 use Rattle.nm_queue.specs.Histories.{PassMove, History, moves_by, page_put, page_taken, pages_put, pages_taken, pages_left, IsFifo}
-use Rattle.nm_queue.specs.Passes.{Known, JoinedPass, pass_numbers, pass_lists, IsWhole}
+use Rattle.nm_queue.specs.Passes.{Known, JoinedPass, pass_numbers, pass_lists, IsWholeHistory}
 use Rattle.nm_queue.proofs.Fifo.{leaves-left, fifo_now}
 use Rattle.nm_queue.proofs.Numbers.{times}
 
@@ -81,7 +81,7 @@ over_joined p h (j ∷ js) are =
     ∙ sym (sum_by-cons (λ q. count_by p (moves_by q h)) j.number (map (λ x. x.number) js))
 
 -- a count over the lists of a pass that is alone is the count over the whole history
-over_lists : (p : LaneMove → Bool) (k : Known) → IsWhole k → sum_by (λ moves. count_by p moves) (pass_lists k) ≡ count_by p (map (λ m. m.move) k.seen)
+over_lists : (p : LaneMove → Bool) (k : Known) → IsWholeHistory k → sum_by (λ moves. count_by p moves) (pass_lists k) ≡ count_by p (map (λ m. m.move) k.seen)
 over_lists p k whole =
     sum_by-cons (λ moves. count_by p moves) k.moves (map (λ j. j.moves) k.joined)
     ∙ ap (λ moves. count_by p moves + sum_by (λ moves. count_by p moves) (map (λ (j : JoinedPass). j.moves) k.joined)) (sym whole.own)
@@ -106,7 +106,7 @@ taken_copies page (m ∷ h) = by m.move (taken_copies page h)
     by (took b) again = sum_by-cons (λ x. cond {A = ℕ} (x == page) 1 0) b (pages_taken h) ∙ ap (λ x. cond {A = ℕ} (b == page) 1 0 + x) again ∙ sym (sum_by-cons (λ x. cond {A = ℕ} (is_took page x) 1 0) (took b) (map (λ x. x.move) h))
 
 -- what the queue holds is what these lists put and did not take
-pub whole_rest : (capacity : ℕ) (k : Known) → IsWhole k → IsRest capacity (pass_lists k) (record { capacity = capacity; pages = pages_left k.seen })
+pub whole_rest : (capacity : ℕ) (k : Known) → IsWholeHistory k → IsRest capacity (pass_lists k) (record { capacity = capacity; pages = pages_left k.seen })
 whole_rest capacity k whole = record {
   limit = refl;
   pages = λ page.

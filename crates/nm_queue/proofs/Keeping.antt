@@ -10,7 +10,7 @@ use Rattle.crossbeam_queue.specs.Fifo.{Pushes, Pops, Learns}
 use Rattle.crossbeam_queue.proofs.Lists.{at_set, set_here}
 use Rattle.nm_actor.specs.Lanes.{LaneMove, put, took}
 use Rattle.nm_queue.specs.Histories.{History, moves_by, pages_taken, pages_left, IsFifo}
-use Rattle.nm_queue.specs.Passes.{Known, JoinedPass, pass_numbers, IsAlone, IsMoment, pages_at, with_move, IsPut, IsTaken}
+use Rattle.nm_queue.specs.Passes.{Known, JoinedPass, pass_numbers, IsAlone, IsMoment, pages_at, with_move, PutThen, TookThen}
 use Rattle.nm_queue.specs.Rules.{Knows, Relates, SawPages}
 use Rattle.nm_queue.proofs.Fifo.{by_pass, Leaves, leaves-left, left-leaves, first_out, leaves_put, leaves_took, fifo_more, fifo_now, moves_by-own, moves_by-other}
 use Rattle.nm_queue.proofs.Numbers.{times, counted, all_there}
@@ -113,7 +113,7 @@ module _ (pages pages' : List ℕ) (views : List Known) (pass : ℕ) (k : Known)
         latest = record { pass = pass; known = moved; at = set_here views pass moved here; live = live; seen = sym seen };
       }
 
-pub puts : (n pass : ℕ) (k : Known) (x : ℕ) → k.live ≡ true → Pushes Relates n pass k x (IsPut n x k)
+pub puts : (n pass : ℕ) (k : Known) (x : ℕ) → k.live ≡ true → Pushes Relates n pass k x (PutThen n x k)
 puts n pass k x live pages views room h at =
     let mine = h.known pass k at live in
     let now = moment_now pages views pass k h at live in
@@ -124,7 +124,7 @@ puts n pass k x live pages views room h at =
       record { between = mine.seen.rest; moment = now; room = let l = ap length held in omega arith; is = refl },
     )
 
-pub takes : (pass : ℕ) (k : Known) → k.live ≡ true → Pops Relates pass k (λ x w. IsTaken x k w)
+pub takes : (pass : ℕ) (k : Known) → k.live ≡ true → Pops Relates pass k (λ x w. TookThen x k w)
 takes pass k live x pages views h at =
     let mine = h.known pass k at live in
     let now = moment_now (x ∷ pages) views pass k h at live in

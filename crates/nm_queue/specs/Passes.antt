@@ -92,14 +92,14 @@ with_move move between k = record k {
 }
 
 -- a page was put, at a moment at which the queue had room
-pub record IsPut (capacity page : ℕ) (old new : Known) : Type 0 where
+pub record PutThen (capacity page : ℕ) (old new : Known) : Type 0 where
   pub between : History
   pub moment : IsMoment old between
   pub room : length (pages_at old between) < capacity
   pub is : new ≡ with_move (put page) between old
 
 -- a page was taken, the first that the queue held
-pub record IsTaken (page : ℕ) (old new : Known) : Type 0 where
+pub record TookThen (page : ℕ) (old new : Known) : Type 0 where
   pub between : History
   pub moment : IsMoment old between
   pub first : slice_get (pages_at old between) 0 ≡ Some page
@@ -113,7 +113,7 @@ pub record HeldThen (n : ℕ) (k : Known) : Type 0 where
 
 -- a put went into the queue
 pub record IsPushed (capacity page : ℕ) (old new : PassState) : Type 0 where
-  pub known : IsPut capacity page old.known new.known
+  pub known : PutThen capacity page old.known new.known
   pub is : new ≡ record old { known = new.known }
 
 -- a push found the queue full at a moment of the call
@@ -130,7 +130,7 @@ IsPushAnswer capacity page old new (Err _) = IsPushRefused capacity old new
 
 -- a page was taken out of the queue
 pub record IsPopped (page : ℕ) (old new : PassState) : Type 0 where
-  pub known : IsTaken page old.known new.known
+  pub known : TookThen page old.known new.known
   pub is : new ≡ record old { known = new.known }
 
 -- a pop found the queue empty at a moment of the call
@@ -165,7 +165,7 @@ with_joined other k = record k {
 
 -- what was seen is the whole history: it has the moves of the pass and of those that were joined into it, each list in its
 -- order, and each move stands in one of these lists
-pub record IsWhole (k : Known) : Type 0 where
+pub record IsWholeHistory (k : Known) : Type 0 where
   pub fifo : IsFifo k.seen
   pub own : moves_by k.number k.seen ≡ k.moves
   pub joined : All (λ j. moves_by j.number k.seen ≡ j.moves) k.joined

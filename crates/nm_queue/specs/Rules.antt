@@ -4,7 +4,7 @@ use Rattle.std.specs.List.{All}
 use mathlib.Core.Option.{some}
 use lib.ListN.{get_elem?}
 use Rattle.nm_queue.specs.Histories.{History, moves_by, IsFifo, pages_left}
-use Rattle.nm_queue.specs.Passes.{Known, JoinedPass, pass_numbers, IsWhole, IsMoment, pages_at, first_pass}
+use Rattle.nm_queue.specs.Passes.{Known, JoinedPass, pass_numbers, IsWholeHistory, IsMoment, pages_at, first_pass}
 
 -- a list goes on from another
 pub record GoesOn (seen history : History) : Type 0 where
@@ -53,7 +53,7 @@ pub record Relates (pages : List ℕ) (views : List Known) : Type 0 where
 
 -- where a pass is alone, what it has seen is the whole history, and leaves the pages that the queue holds
 pub record IsWholeAt (k : Known) (pages : List ℕ) : Type 0 where
-  pub whole : IsWhole k
+  pub whole : IsWholeHistory k
   pub left : pages_left k.seen ≡ pages
 
 -- at a moment the queue held these pages

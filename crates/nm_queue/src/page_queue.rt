@@ -1,7 +1,7 @@
 //! A queue of backing pages that several threads share.
 ghost use Rattle.std.specs.Prelude.{◌≡◌, ◌≤◌, IfOk, IsSome};
 ghost use Rattle.nm_queue.specs.Histories.{pages_left};
-ghost use Rattle.nm_queue.specs.Passes.{IsAlone, IsWhole, first_pass, made_pass, after_making, with_joined, IsPushAnswer, IsPopAnswer};
+ghost use Rattle.nm_queue.specs.Passes.{IsAlone, IsWholeHistory, first_pass, made_pass, after_making, with_joined, IsPushAnswer, IsPopAnswer};
 
 use crate::rule::{Joining, Making, Ruled, RuledPass, Whole, move_first, put, take};
 use nm_action::Full;
@@ -119,7 +119,7 @@ impl PageQueue {
         requires queue { into.old.queue ≡ self.now.name }
         requires other { other.queue ≡ self.now.name }
         ensures joined { into.new ≡ record into.old { known = with_joined other.known into.old.known } }
-        ensures whole { IsAlone into.new.known → IsWhole into.new.known }
+        ensures whole { IsAlone into.new.known → IsWholeHistory into.new.known }
     {
         let QueuePass { pass, .. } = other;
         self.queue.absorb::<Joining>(&mut into.pass, pass);
@@ -131,7 +131,7 @@ impl PageQueue {
     pub fn close<T: Wait>(self, rt: &T, pass: QueuePass) -> Vec<u32>
         requires queue { pass.queue ≡ self.name }
         requires alone { IsAlone pass.known }
-        ensures whole { IsWhole pass.known }
+        ensures whole { IsWholeHistory pass.known }
         ensures left { result.items ≡ pages_left pass.known.seen }
     {
         let PageQueue { queue, mut left } = self;

@@ -2,7 +2,7 @@
 ghost use Rattle.std.specs.Prelude.{◌≡◌, ℕ, ◌+◌, ◌<◌, true, ◌++◌, length, vec_len, vec_capacity, MatchResult, MatchOption};
 ghost use Rattle.crossbeam_queue.specs.Passes.{view, IsPassOf, IsSamePass, ruled_capacity};
 ghost use Rattle.nm_queue.specs.Histories.{pages_left};
-ghost use Rattle.nm_queue.specs.Passes.{IsPut, IsTaken, HeldThen, IsAlone};
+ghost use Rattle.nm_queue.specs.Passes.{PutThen, TookThen, HeldThen, IsAlone};
 
 use crossbeam_queue::protocol::{Join, Lesson, Outcome, Protocol, Split};
 use crossbeam_queue::{Pass, RuledArrayQueue};
@@ -49,9 +49,9 @@ pub struct Puts<J> {
 }
 
 impl<J: Room> Outcome<u32, Knowledge> for Puts<J> {
-    ghost use Rattle.nm_queue.specs.Passes.{IsPut};
+    ghost use Rattle.nm_queue.specs.Passes.{PutThen};
 
-    ghost then = { λ old page new. IsPut J.capacity page old new };
+    ghost then = { λ old page new. PutThen J.capacity page old new };
 }
 
 impl<J: Room> Lesson<u32, Knowledge> for Puts<J> {
@@ -64,9 +64,9 @@ impl<J: Room> Lesson<u32, Knowledge> for Puts<J> {
 pub struct Takes;
 
 impl Outcome<u32, Knowledge> for Takes {
-    ghost use Rattle.nm_queue.specs.Passes.{IsTaken};
+    ghost use Rattle.nm_queue.specs.Passes.{TookThen};
 
-    ghost then = { λ old page new. IsTaken page old new };
+    ghost then = { λ old page new. TookThen page old new };
 }
 
 impl Lesson<u32, Knowledge> for Takes {
@@ -125,7 +125,7 @@ pub fn put<J: Room, T: Wait>(
     requires live { (view pass.old).live ≡ true }
     requires room { ruled_capacity queue.now ≡ J.capacity }
     ensures queue { IsSamePass pass.old pass.new }
-    ensures answer { MatchResult result (λ _. IsPut J.capacity page (view pass.old) (view pass.new)) (λ _. (view pass.new ≡ view pass.old) × HeldThen J.capacity (view pass.old)) }
+    ensures answer { MatchResult result (λ _. PutThen J.capacity page (view pass.old) (view pass.new)) (λ _. (view pass.new ≡ view pass.old) × HeldThen J.capacity (view pass.old)) }
 {
     queue.push_as::<Puts<J>, T>(rt, pass, page)
 }
@@ -135,7 +135,7 @@ pub fn take<T: Wait>(rt: &T, queue: &Ruled, pass: &mut RuledPass) -> Option<u32>
     requires queue { IsPassOf queue.now pass.old }
     requires live { (view pass.old).live ≡ true }
     ensures queue { IsSamePass pass.old pass.new }
-    ensures answer { MatchOption result ((view pass.new ≡ view pass.old) × HeldThen 0 (view pass.old)) (λ page. IsTaken page (view pass.old) (view pass.new)) }
+    ensures answer { MatchOption result ((view pass.new ≡ view pass.old) × HeldThen 0 (view pass.old)) (λ page. TookThen page (view pass.old) (view pass.new)) }
 {
     queue.pop_as::<Takes, T>(rt, pass)
 }

@@ -3,9 +3,9 @@ use Rattle.std.proofs.Common.{ℕ, ap, ◌∙◌, Option, Some, None}
 use Rattle.std.specs.Prelude.{Result, Ok, Err}
 use Rattle.nm_action.specs.declared.turn.Full.{Full}
 use Rattle.nm_queue.specs.Passes.{Known, PassState, IsPushAnswer, IsPopAnswer}
-use Rattle.nm_queue_rows.specs.Passes.{IsKept}
+use Rattle.nm_queue_rows.specs.Passes.{KeepsPasses}
 
-pub pushed_kept : (capacity page : ℕ) (old new : PassState) (r : Result Unit Full) → IsPushAnswer capacity page old new r → IsKept old new
+pub pushed_kept : (capacity page : ℕ) (old new : PassState) (r : Result Unit Full) → IsPushAnswer capacity page old new r → KeepsPasses old new
 pushed_kept capacity page old new (Ok _) is = record {
   queue = ap (λ (p : PassState). p.queue) is.is;
   made = ap (λ (k : Known). k.made) is.known.is;
@@ -17,7 +17,7 @@ pushed_kept capacity page old new (Err _) is = record {
   joined = ap (λ (p : PassState). p.known.joined) is.is;
 }
 
-pub popped_kept : (old new : PassState) (r : Option ℕ) → IsPopAnswer old new r → IsKept old new
+pub popped_kept : (old new : PassState) (r : Option ℕ) → IsPopAnswer old new r → KeepsPasses old new
 popped_kept old new (Some page) is = record {
   queue = ap (λ (p : PassState). p.queue) is.is;
   made = ap (λ (k : Known). k.made) is.known.is;
@@ -29,5 +29,5 @@ popped_kept old new None is = record {
   joined = ap (λ (p : PassState). p.known.joined) is.is;
 }
 
-pub kept_twice : (a b c : PassState) → IsKept a b → IsKept b c → IsKept a c
+pub kept_twice : (a b c : PassState) → KeepsPasses a b → KeepsPasses b c → KeepsPasses a c
 kept_twice a b c ab bc = record { queue = bc.queue ∙ ab.queue; made = bc.made ∙ ab.made; joined = bc.joined ∙ ab.joined }

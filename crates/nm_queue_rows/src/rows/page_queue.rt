@@ -1,6 +1,6 @@
 //! A queue with one pass, which answers exactly.
 ghost use Rattle.std.specs.Prelude.{◌≡◌};
-ghost use Rattle.nm_queue_rows.specs.Passes.{IsKept};
+ghost use Rattle.nm_queue_rows.specs.Passes.{KeepsPasses};
 
 use Row::{Pop, Push};
 use nm_action::Full;
@@ -19,7 +19,7 @@ enum Row {
 #[tactic(auto, using(crate::proofs::Kept::pushed_kept, crate::proofs::Kept::popped_kept, crate::proofs::Kept::kept_twice))]
 fn play<R: Abort + Wait>(rt: &R, queue: &PageQueue, pass: &mut QueuePass, rows: &[Row])
     requires { pass.old.queue ≡ queue.now.name }
-    ensures { IsKept pass.old pass.new }
+    ensures { KeepsPasses pass.old pass.new }
 {
     for row in rows {
         match *row {

@@ -1,6 +1,6 @@
 //! A queue that two threads share, each by a pass of its own.
 ghost use Rattle.std.specs.Prelude.{◌≡◌, ◌<◌, ◌+◌, ◌^◌, length};
-ghost use Rattle.nm_queue_rows.specs.Passes.{IsKept};
+ghost use Rattle.nm_queue_rows.specs.Passes.{KeepsPasses};
 
 use nm_queue::{PageQueue, QueuePass};
 use std::sync::Wait;
@@ -12,7 +12,7 @@ use std::thread::join;
 #[tactic(auto, using(crate::proofs::Kept::pushed_kept, crate::proofs::Kept::kept_twice))]
 fn send_one<R: Wait>(rt: &R, queue: &PageQueue, pass: &mut QueuePass, page: u32)
     requires { pass.old.queue ≡ queue.now.name }
-    ensures { IsKept pass.old pass.new }
+    ensures { KeepsPasses pass.old pass.new }
 {
     for _ in rt.forever() {
         if queue.push(rt, pass, page).is_ok() {
@@ -26,7 +26,7 @@ fn send_one<R: Wait>(rt: &R, queue: &PageQueue, pass: &mut QueuePass, page: u32)
 #[tactic(auto, using(crate::proofs::Kept::popped_kept, crate::proofs::Kept::kept_twice))]
 fn receive_one<R: Wait>(rt: &R, queue: &PageQueue, pass: &mut QueuePass) -> u32
     requires { pass.old.queue ≡ queue.now.name }
-    ensures { IsKept pass.old pass.new }
+    ensures { KeepsPasses pass.old pass.new }
 {
     for _ in rt.forever() {
         if let Some(page) = queue.pop(rt, pass) {
@@ -42,7 +42,7 @@ fn receive_one<R: Wait>(rt: &R, queue: &PageQueue, pass: &mut QueuePass) -> u32
 fn send<R: Wait>(rt: &R, queue: &PageQueue, mut pass: QueuePass, from: u32, count: u32) -> QueuePass
     requires queue { pass.queue ≡ queue.now.name }
     requires count { from + count < 2 ^ 32 }
-    ensures { IsKept pass result }
+    ensures { KeepsPasses pass result }
 {
     for page in from..from + count {
         send_one(rt, queue, &mut pass, page);
@@ -59,7 +59,7 @@ fn receive<R: Wait>(
     mut into: Vec<u32>,
 ) -> (QueuePass, Vec<u32>)
     requires { pass.queue ≡ queue.now.name }
-    ensures { IsKept pass result.0 }
+    ensures { KeepsPasses pass result.0 }
 {
     for place in into.iter_mut() {
         *place = receive_one(rt, queue, &mut pass);
@@ -78,11 +78,11 @@ fn each_page_once_in_order(rt: HostRuntime) -> Result<(), Fail> {
         &rt,
         || -> QueuePass
             requires { sender.queue ≡ line.now.name }
-            ensures { IsKept sender result }
+            ensures { KeepsPasses sender result }
         { send(&rt, line, sender, 1, 500) },
         || -> (QueuePass, Vec<u32>)
             requires { receiver.queue ≡ line.now.name }
-            ensures { IsKept receiver result.0 }
+            ensures { KeepsPasses receiver result.0 }
         { receive(&rt, line, receiver, into) },
     );
     line.join(&rt, &mut first, sender);
