@@ -1,0 +1,5 @@
+//! The rows.
+
+mod page_queue;
+mod ring_port;
+mod threads;
