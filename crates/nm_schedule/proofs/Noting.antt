@@ -15,10 +15,10 @@ use Rattle.nm_schedule.specs.declared.limits.TheConstants.{MOST_ITEM_TURNS}
 use Rattle.nm_schedule.specs.declared.picker.Way.{Way}
 use Rattle.nm_schedule.specs.declared.picker.Way.TheVariants.{Stay, Next, Draw, Item}
 use Rattle.nm_schedule.specs.declared.turn.Played.{Played}
-use Rattle.nm_schedule.specs.Played.{has_ended, active_actors, turns_of}
+use Rattle.nm_schedule.specs.Played.{has_ended, active_actors, turns_by}
 use Rattle.nm_schedule.specs.Stalls.{Stalls, Yields}
 use Rattle.nm_schedule.specs.Picks.{CountIs, IsCounted, IsItemOver, IsCooperative, Picks, first_from, drawn_from}
-use Rattle.nm_schedule.specs.Standing.{Carries, IsStaying, IsSeeking, IsAtItem, IsDrawing, IsOnWay, ArePlanned, IsPick, IsSpent, HasPicked, StandsAfter, Standing, IsBumped, PicksItem, HasItem, MayGoOn, bumped_by, stalls_by, standing, items_of, item_actor, way_picks, picked_by}
+use Rattle.nm_schedule.specs.Standing.{Carries, IsStaying, IsSeeking, IsAtItem, IsDrawing, IsOnWay, ArePlanned, IsPick, IsSpent, HasPicked, StandsAfter, Standing, IsBumped, PicksItem, HasItem, MayGoOn, bumped_by, stalls_by, standing, plan_of, item_actor, way_picks, picked_by}
 use Rattle.nm_schedule.proofs.Snoc.{length-snoc, cons-same}
 use Rattle.nm_schedule.proofs.Actives.{IsActive, all-active, first-of, drawn-of, ended-same, ended-push, is-among, among-active, actives-same, actives-without}
 use Rattle.nm_schedule.proofs.Counting.{count-more, count-same, count-most}
@@ -340,22 +340,22 @@ or-so : (a b : Bool) (A B : Type 0) → (a ≡ true → A) → (A → a ≡ true
 or-so true b A B f g h = ((λ t. inl (f refl)), (λ t. refl))
 or-so false b A B f g h = ((λ t. inr (h.0 t)), (λ t. elim t [ inl x ↦ (let e = g x in cc e) | inr y ↦ h.1 y ]))
 
-pub yields-so : (bumped : Option ℕ) (before : List Played) (p : Played) → IsBumped bumped (turns_of p.actor before) → IsTrue (p.ended || stalls_by bumped p.turn p.heard) ↔ Yields before p
-yields-so bumped before p h = or-so p.ended (stalls_by bumped p.turn p.heard) (IsTrue p.ended) (Stalls (turns_of p.actor before) p.turn p.heard) (λ e. e) (λ e. e) (stalls-so bumped (turns_of p.actor before) p.turn p.heard h)
+pub yields-so : (bumped : Option ℕ) (before : List Played) (p : Played) → IsBumped bumped (turns_by p.actor before) → IsTrue (p.ended || stalls_by bumped p.turn p.heard) ↔ Yields before p
+yields-so bumped before p h = or-so p.ended (stalls_by bumped p.turn p.heard) (IsTrue p.ended) (Stalls (turns_by p.actor before) p.turn p.heard) (λ e. e) (λ e. e) (stalls-so bumped (turns_by p.actor before) p.turn p.heard h)
 
 pub bumped-after-turn : (actors : ℕ) (before : List Played) (p : Played) (bumped : List (Option ℕ)) → length bumped ≡ actors → p.actor < actors
-    → ((actor : ℕ) → actor < actors → IsBumped (get_or bumped actor None) (turns_of actor before))
-    → (actor : ℕ) → actor < actors → IsBumped (get_or (set bumped p.actor (bumped_by (get_or bumped p.actor None) p.turn p.heard)) actor None) (turns_of actor (before ++ p ∷ []))
+    → ((actor : ℕ) → actor < actors → IsBumped (get_or bumped actor None) (turns_by actor before))
+    → (actor : ℕ) → actor < actors → IsBumped (get_or (set bumped p.actor (bumped_by (get_or bumped p.actor None) p.turn p.heard)) actor None) (turns_by actor (before ++ p ∷ []))
 bumped-after-turn actors before p bumped size there h actor lt =
     let word = bumped_by (get_or bumped p.actor None) p.turn p.heard in
-    let B : Option ℕ → Type 0 = λ b. IsBumped b (turns_of actor (before ++ p ∷ [])) in
+    let B : Option ℕ → Type 0 = λ b. IsBumped b (turns_by actor (before ++ p ∷ [])) in
     elim (cases_eq actor p.actor) [
       | inl e ↦ (
-          let Q : ℕ → Type 0 = λ a. IsBumped (get_or (set bumped p.actor word) a None) (turns_of a (before ++ p ∷ [])) in
+          let Q : ℕ → Type 0 = λ a. IsBumped (get_or (set bumped p.actor word) a None) (turns_by a (before ++ p ∷ [])) in
           let T : Turns → Type 0 = λ t. IsBumped word t in
-          let W : Option ℕ → Type 0 = λ b. IsBumped b (turns_of p.actor (before ++ p ∷ [])) in
+          let W : Option ℕ → Type 0 = λ b. IsBumped b (turns_by p.actor (before ++ p ∷ [])) in
           subst Q (sym e) (subst W (sym (get_or-set_same bumped p.actor word None (omega (arith, size, there))))
-          (subst T (sym (turns-own before p)) (bumped-step (get_or bumped p.actor None) (turns_of p.actor before) p.turn p.heard (h p.actor there)))))
+          (subst T (sym (turns-own before p)) (bumped-step (get_or bumped p.actor None) (turns_by p.actor before) p.turn p.heard (h p.actor there)))))
       | inr n ↦ (
           let T : Turns → Type 0 = λ t. IsBumped (get_or bumped actor None) t in
           subst B (sym (get_or-set_other bumped p.actor actor word None n)) (subst T (sym (turns-other before p actor n)) (h actor lt)))
@@ -370,7 +370,7 @@ pub stands-more : (schedule : Schedule) (actors : ℕ) (before : List Played) (p
     → StandsAfter schedule actors (standing after bumped' items way') (before ++ p ∷ [])
 stands-more schedule actors before p active after bumped bumped' items way way' s there is bump on =
     let N : List (Option ℕ) → Type 0 = λ l. length l ≡ actors in
-    let B : List (Option ℕ) → Type 0 = λ l. (actor : ℕ) → actor < actors → IsBumped (get_or l actor None) (turns_of actor (before ++ p ∷ [])) in
+    let B : List (Option ℕ) → Type 0 = λ l. (actor : ℕ) → actor < actors → IsBumped (get_or l actor None) (turns_by actor (before ++ p ∷ [])) in
     record {
       few = s.few;
       active = active-after actors before p active after p.ended refl s.active is;
@@ -420,7 +420,7 @@ planned-all : (cpus : ℕ) (items : List PlanItem) → AllByRecursion (IsPlanIte
 planned-all cpus [] h = tt
 planned-all cpus (i ∷ items) h = (omega (arith, h.0.0), planned-all cpus items h.1)
 
-pub planned : (cpus : ℕ) (schedule : Schedule) → IsSchedule cpus schedule → ArePlanned (cpus + 2) (items_of schedule)
+pub planned : (cpus : ℕ) (schedule : Schedule) → IsSchedule cpus schedule → ArePlanned (cpus + 2) (plan_of schedule)
 planned cpus (Serial t) h = All-nil (λ (i : PlanItem). i.actor < cpus + 2)
 planned cpus (Shuffle n t) h = All-nil (λ (i : PlanItem). i.actor < cpus + 2)
 planned cpus (Plan t items) h = All-from_recursion (λ (i : PlanItem). i.actor < cpus + 2) items (planned-all cpus items h.1)
@@ -439,9 +439,9 @@ draw-first schedule n x turns e h =
     let P : Schedule → Type 0 = λ s. IsDrawing s x [] in
     subst P (sym e) (h ∙ drawn-first n)
 
-pub plan-first : (schedule : Schedule) (actors turns : ℕ) (items all : List PlanItem) → schedule ≡ Plan turns all → items ≡ items_of schedule → Carries schedule actors items 0 []
+pub plan-first : (schedule : Schedule) (actors turns : ℕ) (items all : List PlanItem) → schedule ≡ Plan turns all → items ≡ plan_of schedule → Carries schedule actors items 0 []
 plan-first schedule actors turns items all e h =
-    let P : Schedule → Type 0 = λ s. Carries s actors (items_of s) 0 [] in
+    let P : Schedule → Type 0 = λ s. Carries s actors (plan_of s) 0 [] in
     let Q : List PlanItem → Type 0 = λ l. Carries schedule actors l 0 [] in
     subst Q (sym h) (subst P (sym e) (λ more actor k. k))
 
@@ -455,7 +455,7 @@ pub all-first : (actors : ℕ) (active : List ℕ) → active ≡ range_with_len
 all-first actors active is = is ∙ sym (actives-first actors (range_with_len 0 actors))
 
 pub stands-first : (schedule : Schedule) (cpus : ℕ) (active : List ℕ) (bumped : List (Option ℕ)) (items : List PlanItem) (way : Way) → cpus ≤ 16 → IsSchedule cpus schedule
-    → active ≡ range_with_len 0 (cpus + 2) → bumped ≡ replicate (cpus + 2) None → items ≡ items_of schedule → IsOnWay schedule (cpus + 2) (items_of schedule) way []
+    → active ≡ range_with_len 0 (cpus + 2) → bumped ≡ replicate (cpus + 2) None → items ≡ plan_of schedule → IsOnWay schedule (cpus + 2) (plan_of schedule) way []
     → StandsAfter schedule (cpus + 2) (standing active bumped items way) []
 stands-first schedule cpus active bumped items way few plan is none all on =
     let N : List (Option ℕ) → Type 0 = λ l. length l ≡ cpus + 2 in
@@ -464,10 +464,10 @@ stands-first schedule cpus active bumped items way few plan is none all on =
     record {
       few = omega (arith, few);
       active = all-first (cpus + 2) active is;
-      plan = plan-same (cpus + 2) items (items_of schedule) all (planned cpus schedule plan);
+      plan = plan-same (cpus + 2) items (plan_of schedule) all (planned cpus schedule plan);
       size = subst N (sym none) (length-replicate (cpus + 2) None);
       bumped = subst B (sym none) (λ actor lt. subst O (sym (get_or-replicate (cpus + 2) actor None None lt)) (λ n f. no-flush n f));
-      way = way-same schedule (cpus + 2) (items_of schedule) items way (sym all) on;
+      way = way-same schedule (cpus + 2) (plan_of schedule) items way (sym all) on;
     }
 
 -- ---- a picker that has picked

@@ -17,19 +17,19 @@ lane_capacity g Candidates = MOST_CANDIDATES
 lane_capacity g Pending = page_count g
 
 -- a page of one lane, where that is the lane that is asked for
-abbrev pub page_in : Lane → Lane → ℕ → Option ℕ
-page_in Candidates Candidates page = Some page
-page_in Pending Pending page = Some page
-page_in _ _ page = None
+abbrev pub lane_page : Lane → Lane → ℕ → Option ℕ
+lane_page Candidates Candidates page = Some page
+lane_page Pending Pending page = Some page
+lane_page _ _ page = None
 
 -- the page that a turn put into a lane
 abbrev pub put_by : Lane → Turn → Heard → Option ℕ
-put_by lane (Put into page) PutDone = page_in lane into page
+put_by lane (Put into page) PutDone = lane_page lane into page
 put_by lane _ _ = None
 
 -- the page that a turn took from a lane
 abbrev pub took_by : Lane → Turn → Heard → Option ℕ
-took_by lane (Take from) (Took page) = page_in lane from page
+took_by lane (Take from) (Took page) = lane_page lane from page
 took_by lane _ _ = None
 
 -- the pages that were put into a lane, and those that were taken from it

@@ -21,8 +21,8 @@ abbrev pub answered_turn : Played → Turn × Heard
 answered_turn p = (p.turn, p.heard)
 
 -- the answered turns of an actor in a list of turns
-abbrev pub turns_of : ℕ → List Played → Turns
-turns_of actor played = map answered_turn (filter (is_of actor) played)
+abbrev pub turns_by : ℕ → List Played → Turns
+turns_by actor played = map answered_turn (filter (is_of actor) played)
 
 -- after it the actor has ended
 abbrev pub is_end_of : ℕ → Played → Bool
@@ -52,14 +52,14 @@ abbrev pub is_full : Heard → Bool
 is_full PutFull = true
 is_full _ = false
 
-abbrev pub page_taken : Heard → Option ℕ
-page_taken (Took page) = Some page
-page_taken _ = None
+abbrev pub took_page : Heard → Option ℕ
+took_page (Took page) = Some page
+took_page _ = None
 
 -- a turn as it stands in the order of a run: an action is told by the events
 abbrev pub act_by : Turn → Heard → SimAct
 act_by (Put lane page) heard = acts.Put lane page (is_full heard)
-act_by (Take lane) heard = acts.Take lane (page_taken heard)
+act_by (Take lane) heard = acts.Take lane (took_page heard)
 act_by _ _ = acts.Step
 
 abbrev pub sim_turn : Played → SimTurn

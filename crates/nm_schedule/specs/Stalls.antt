@@ -12,7 +12,7 @@ use Rattle.nm_action.specs.declared.turn.Heard.TheVariants.{Answer}
 use Rattle.nm_view.specs.Views.{end_word}
 use Rattle.nm_actor.specs.Turns.{Turns}
 use Rattle.nm_schedule.specs.declared.turn.Played.{Played}
-use Rattle.nm_schedule.specs.Played.{turns_of}
+use Rattle.nm_schedule.specs.Played.{turns_by}
 
 -- a turn reads an acknowledgement
 abbrev pub IsSeeAck : Turn → Type 0
@@ -49,4 +49,4 @@ Stalls turns _ _ = ⊥
 
 -- a turn after a list of turns is the last of its actor for now: the actor has ended, or the turn stalls
 abbrev pub Yields : List Played → Played → Type 0
-Yields before p = IsTrue p.ended ⊎ Stalls (turns_of p.actor before) p.turn p.heard
+Yields before p = IsTrue p.ended ⊎ Stalls (turns_by p.actor before) p.turn p.heard

@@ -18,7 +18,7 @@ use Rattle.nm_schedule.specs.declared.limits.TheConstants.{MOST_ITEM_TURNS}
 use Rattle.nm_schedule.specs.declared.picker.Way.{Way}
 use Rattle.nm_schedule.specs.declared.picker.Way.TheVariants.{Stay, Next, Draw, Item}
 use Rattle.nm_schedule.specs.declared.turn.Played.{Played}
-use Rattle.nm_schedule.specs.Played.{turns_of, active_actors, has_ended}
+use Rattle.nm_schedule.specs.Played.{turns_by, active_actors, has_ended}
 use Rattle.nm_schedule.specs.Stalls.{IsInFlush, Yields}
 use Rattle.nm_schedule.specs.Picks.{CountIs, IsOpenBelow, IsPlanned, Picks, first_from, drawn_from}
 
@@ -61,10 +61,10 @@ abbrev pub standing : List ℕ → List (Option ℕ) → List PlanItem → Way �
 standing active bumped items way = record { active = active; bumped = bumped; items = items; way = way }
 
 -- the items of a schedule, if it is a plan
-abbrev pub items_of : Schedule → List PlanItem
-items_of (Serial _) = []
-items_of (Shuffle _ _) = []
-items_of (Plan _ items) = items
+abbrev pub plan_of : Schedule → List PlanItem
+plan_of (Serial _) = []
+plan_of (Shuffle _ _) = []
+plan_of (Plan _ items) = items
 
 -- what further items pick, the first of which began after so many turns, the schedule picks, whatever turns come
 abbrev pub Carries : Schedule → ℕ → List PlanItem → ℕ → List Played → Type 0
@@ -137,7 +137,7 @@ pub record StandsAfter (schedule : Schedule) (actors : ℕ) (s : Standing) (play
   pub active : s.active ≡ active_actors actors played
   pub plan : ArePlanned actors s.items
   pub size : length s.bumped ≡ actors
-  pub bumped : (actor : ℕ) → actor < actors → IsBumped (slice_index_or s.bumped actor None) (turns_of actor played)
+  pub bumped : (actor : ℕ) → actor < actors → IsBumped (slice_index_or s.bumped actor None) (turns_by actor played)
   pub way : IsOnWay schedule actors s.items s.way played
 
 -- the actor of the first of some items (where there is none, of which nothing is claimed, 0)

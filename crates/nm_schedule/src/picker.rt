@@ -8,7 +8,7 @@ ghost use Rattle.nm_schedule.specs.declared.turn.Played.{Played};
 ghost use Rattle.nm_schedule.specs.Played.{active_actors};
 ghost use Rattle.nm_schedule.specs.Stalls.{Yields};
 ghost use Rattle.nm_schedule.specs.Picks.{IsCounted, first_from, drawn_from};
-ghost use Rattle.nm_schedule.specs.Standing.{StandsAfter, HasStood, HasPicked, IsPick, IsOnWay, IsAtItem, ArePlanned, Carries, MayGoOn, PicksItem, IsSpent, HasItem, item_actor, items_of, standing, way_picks, bumped_by, stalls_by};
+ghost use Rattle.nm_schedule.specs.Standing.{StandsAfter, HasStood, HasPicked, IsPick, IsOnWay, IsAtItem, ArePlanned, Carries, MayGoOn, PicksItem, IsSpent, HasItem, item_actor, plan_of, standing, way_picks, bumped_by, stalls_by};
 
 use crate::flush::{bumped_after, stalls};
 use crate::limits::MOST_ITEM_TURNS;
@@ -248,8 +248,8 @@ fn note_in(
 }
 
 /// The items of a schedule, if it is a plan.
-fn items_of(schedule: &Schedule) -> &[PlanItem]
-    ensures { result.now ≡ items_of schedule.now }
+fn plan_of(schedule: &Schedule) -> &[PlanItem]
+    ensures { result.now ≡ plan_of schedule.now }
 {
     match schedule {
         Schedule::Plan { items, .. } => &items.items,
@@ -261,12 +261,12 @@ fn items_of(schedule: &Schedule) -> &[PlanItem]
 fn first_way(schedule: &Schedule, active: &[u32], cpus: u32) -> Way
     requires plan { IsSchedule cpus schedule.now }
     requires active { active.now ≡ range_with_len 0 (cpus + 2) }
-    ensures { IsOnWay schedule.now (cpus + 2) (items_of schedule.now) result [] }
+    ensures { IsOnWay schedule.now (cpus + 2) (plan_of schedule.now) result [] }
 {
     match schedule {
         Schedule::Serial { .. } => Way::Next(0),
         Schedule::Shuffle { number, .. } => Way::Draw(next(*number)),
-        Schedule::Plan { .. } => way_from(items_of(schedule), active, 0),
+        Schedule::Plan { .. } => way_from(plan_of(schedule), active, 0),
     }
 }
 
@@ -295,7 +295,7 @@ impl<'a> Picker<'a> {
         Ok(Picker {
             active,
             bumped,
-            items: items_of(schedule),
+            items: plan_of(schedule),
             way,
         })
     }
