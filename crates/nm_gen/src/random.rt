@@ -74,7 +74,7 @@ fn push_line(programs: &mut Vec<Vec<Line>>, p: usize, line: Line) -> Result<(), 
 }
 
 /// The random number after `x`.
-fn next(x: u64) -> u64
+pub fn next(x: u64) -> u64
     ensures { result ≡ next_draw x }
 {
     x.wrapping_mul(6_364_136_223_846_793_005)

@@ -1,0 +1,6 @@
+pub mod Members
+pub mod Own
+pub mod Lanes
+pub mod Making
+pub mod Playing
+pub mod Starting

@@ -1,0 +1,6 @@
+pub mod Played
+pub mod Lanes
+pub mod Stalls
+pub mod Picks
+pub mod Scheduled
+pub mod Standing

@@ -1,0 +1,11 @@
+//! Schedules: which actor makes the next turn of a simulation.
+#![tactic(auto)]
+
+mod flush;
+pub mod limits;
+pub mod picker;
+pub mod turn;
+
+pub use limits::{MOST_CANDIDATES, MOST_ITEM_TURNS};
+pub use picker::Picker;
+pub use turn::{Played, SimAct, SimTurn};
