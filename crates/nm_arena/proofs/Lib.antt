@@ -1,0 +1,5 @@
+pub mod Ending
+pub mod Faced
+pub mod Flats
+pub mod Laid
+pub mod Sorts

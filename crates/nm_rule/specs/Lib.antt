@@ -1,0 +1,4 @@
+pub mod Knows
+pub mod Shows
+pub mod Steps
+pub mod Stands
