@@ -48,12 +48,11 @@ pub record IsVisiting (made : VisitsMade) (v : ℕ) (found : List ℕ) (g : Geom
   pub may : MayVisit made g view
   pub told : List (ℕ × ℕ)
   pub split : made.pages ≡ map first told ++ v ∷ at_least (v + 1) made.pages
-  pub next : at_least v made.pages ≡ v ∷ at_least (v + 1) made.pages
   pub small : v < most_vpages
   pub below : AreBelow v (map first told)
   pub once : Once first told
   pub mapped : found ≡ mapped_of told
-  pub is : now ≡ visited_view made told view
+  pub is : now ≡ visited_view made.visit made.page told view
 
 -- what is known at a place
 abbrev pub KnownAt : VisitsMade → Option ℕ → List ℕ → Geometry → View → View → Type 0

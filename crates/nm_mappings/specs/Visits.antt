@@ -1,6 +1,6 @@
 -- Something is done at each of several virtual pages of a backing page, in ascending order: they are looked at, armed or
 -- raised.
-use Rattle.std.specs.Prelude.{◌≡◌, ◌≢◌, ℕ, ◌+◌, ◌<◌, ◌≤◌, ◌==◌, not, if◌then◌else◌, List, [], ◌∷◌, ◌++◌, map, length, All, Some, IsSomeAnd}
+use Rattle.std.specs.Prelude.{◌≡◌, ℕ, ◌+◌, ◌≤◌, ◌==◌, not, if◌then◌else◌, List, [], ◌∷◌, ◌++◌, map, length, All, Some, IsSomeAnd}
 use Rattle.std.specs.List.{filter}
 use Rattle.nm_base.specs.Geometry.{Geometry, backing_page}
 use Rattle.nm_action.specs.declared.action.Action.{Action}
@@ -18,7 +18,6 @@ use Rattle.nm_compose.specs.Acts.{IsAct}
 use Rattle.nm_mappings.specs.declared.visits.Visit.{Visit}
 use Rattle.nm_mappings.specs.declared.visits.Visit.TheVariants as visits
 use Rattle.nm_mappings.specs.declared.visits.VisitsMade.{VisitsMade}
-use Rattle.nm_vpages.specs.VPages.{vpages_of}
 
 -- What they are made with.
 
@@ -84,10 +83,10 @@ raises_after visits.Arm count raises = raises
 raises_after visits.Raise count raises = raises + count
 
 -- the view after these visits: the operation on the page has changed, and raises were made
-abbrev pub visited_view : VisitsMade → List (ℕ × ℕ) → View → View
-visited_view made told view = record view {
-  ops = edit page_of made.page (visited made.visit told) view.ops;
-  raises = raises_after made.visit (length told) view.raises;
+abbrev pub visited_view : Visit → ℕ → List (ℕ × ℕ) → View → View
+visited_view visit page told view = record view {
+  ops = edit page_of page (visited visit told) view.ops;
+  raises = raises_after visit (length told) view.raises;
 }
 
 -- raises may be made: these virtual pages are wet, and there are raises enough left
@@ -114,4 +113,4 @@ pub record IsVisited (made : VisitsMade) (view : View) (found : List ℕ) (left 
   pub pages : map first told ≡ made.pages
   pub once : Once first told
   pub mapped : found ≡ mapped_of told
-  pub is : left ≡ visited_view made told view
+  pub is : left ≡ visited_view made.visit made.page told view

@@ -5,9 +5,9 @@ ghost use Rattle.nm_vpages.specs.VPages.{vpages_of, most_vpages, AreBelow};
 ghost use Rattle.nm_mappings.specs.Visits.{looks_made, arms_made, raises_made, visit_action, found_with};
 ghost use Rattle.nm_mappings.specs.Visiting.{IsNewVisits};
 
-use nm_vpages::VPageSet;
 use nm_compose::{Act, Composite, Next, Plan};
 use nm_event::{Action, Reply};
+use nm_vpages::VPageSet;
 
 /// What is done at a virtual page.
 #[derive(Clone, Copy, Debug, PartialEq, Eq)]

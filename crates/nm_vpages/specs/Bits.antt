@@ -1,5 +1,5 @@
 -- A set of numbers as the bits of words: number v is bit v % 64 of word v / 64.
-use Rattle.std.specs.Prelude.{ℕ, zero, suc, ◌+◌, ◌*◌, ◌/◌, ◌%◌, ◌==◌, if◌then◌else◌, Bool, List, [], ◌∷◌, length, slice_index}
+use Rattle.std.specs.Prelude.{◌≡◌, ℕ, zero, suc, ◌+◌, ◌*◌, ◌/◌, ◌%◌, ◌<◌, ◌≤◌, ◌==◌, if◌then◌else◌, Bool, List, [], ◌∷◌, length, slice_index}
 use Rattle.std.specs.Int.{bit_at}
 
 -- the bit of a number is set
@@ -14,3 +14,14 @@ members_from words first (suc more) = if has_bit words first then first ∷ memb
 -- the numbers whose bit is set, ascending
 unfoldable pub members : List ℕ → List ℕ
 members words = members_from words 0 (64 * length words)
+
+-- a bit of a word of 64 bits is the least, from one on, that is set
+pub record IsNextSet (word start bit : ℕ) : Type 0 where
+  pub above : start ≤ bit
+  pub within : bit < 64
+  pub set : bit_at word bit ≡ 1
+  pub least : (j : ℕ) → start ≤ j → j < bit → bit_at word j ≡ 0
+
+-- no bit of a word of 64 bits, from one on, is set
+pub record HasNoneSet (word start : ℕ) : Type 0 where
+  pub none : (j : ℕ) → start ≤ j → j < 64 → bit_at word j ≡ 0

@@ -1,5 +1,5 @@
 -- Lists of virtual pages.
-use Rattle.std.specs.Prelude.{◌≡◌, ℕ, zero, suc, ◌+◌, ◌<◌, nat_le, if◌then◌else◌, List, [], ◌∷◌, All, Option, Some, None}
+use Rattle.std.specs.Prelude.{ℕ, ◌+◌, ◌<◌, nat_le, if◌then◌else◌, List, [], ◌∷◌, All, Option}
 use Rattle.std.specs.List.{filter}
 use Rattle.nm_base.specs.Geometry.{Geometry}
 use Rattle.nm_base.specs.declared.geometry.VPage.{VPage}

@@ -1,13 +1,12 @@
 //! Sets of virtual pages.
 
-ghost use Rattle.std.specs.Prelude.{◌≡◌, ◌+◌, ◌<◌, ◌↔◌, [], ◌∷◌, ◌++◌, length, IsTrue, IfSome, IfNone, Contains};
+ghost use Rattle.std.specs.Prelude.{◌≡◌, ◌+◌, ◌<◌, ◌≤◌, ◌↔◌, [], ◌∷◌, ◌++◌, length, IsTrue, IfSome, IfNone, Contains};
+ghost use Rattle.nm_vpages.specs.Bits.{IsNextSet, HasNoneSet};
 ghost use Rattle.nm_vpages.specs.VPages.{vpages_of, at_least, most_vpages, AreBelow};
 
 use nm_base::Geometry;
 use std::marker::Model;
 
-/// How many words there are.
-const WORDS: usize = 64;
 /// How many virtual pages there may be.
 const MOST_VPAGES: u32 = 4096;
 
@@ -28,6 +27,20 @@ impl Model for VPageSet {
     ghost view = { λ s. members s.words };
 
     ghost invariant = { λ s. length s.words ≡ 64 };
+}
+
+/// The least bit of a word, from one on, that is set. None exactly where there is none. Condition: a word has that bit.
+fn next_set(word: u64, start: u32) -> Option<u32>
+    requires { start < 64 }
+    ensures some { IfSome result (IsNextSet word start) }
+    ensures none { IfNone result (HasNoneSet word start) }
+{
+    let rest = word >> start;
+    if rest == 0 {
+        None
+    } else {
+        Some(start + rest.trailing_zeros())
+    }
 }
 
 impl VPageSet {
@@ -82,11 +95,11 @@ impl VPageSet {
     {
         let mut at = from;
         while at < MOST_VPAGES {
-            let word = self.words[at as usize / 64] >> (at % 64);
-            if word != 0 {
-                return Some(at + word.trailing_zeros());
+            let start = at % 64;
+            match next_set(self.words[at as usize / 64], start) {
+                Some(bit) => return Some(at - start + bit),
+                None => at += 64 - start,
             }
-            at += 64 - at % 64;
         }
         None
     }
@@ -110,8 +123,10 @@ impl VPageSet {
 
     /// How many members there are: at most 4,096.
     pub fn len(&self) -> u32
-        ensures { result ≡ length self.now }
+        ensures count { result ≡ length self.now }
+        ensures few { result ≤ most_vpages }
     {
+        let _words = &self.words;
         let mut count = 0;
         let mut from = 0;
         while let Some(vpage) = self.next(from) {
