@@ -1,0 +1,4 @@
+pub mod Lists
+pub mod Operations
+pub mod Visiting
+pub mod Visited

@@ -1,0 +1,4 @@
+pub mod Words
+pub mod Transferring
+pub mod Moving
+pub mod Stages

@@ -1,0 +1,6 @@
+//! Sets of virtual pages.
+#![tactic(auto)]
+
+pub mod vpage_set;
+
+pub use vpage_set::VPageSet;
