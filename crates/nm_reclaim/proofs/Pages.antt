@@ -9,7 +9,7 @@ use Rattle.nm_view.proofs.Items.{all_head, all_tail, some_same}
 use Rattle.nm_view.specs.Operations.{page_of}
 use Rattle.nm_reclaim.specs.declared.sweep.ReclaimMade.{ReclaimMade}
 use Rattle.nm_reclaim.specs.Reclaims.{is_skipped, pages_from, most_freed}
-use Rattle.nm_reclaim.specs.Sweeping.{after_skip, next_page}
+use Rattle.nm_reclaim.specs.Sweeping.{after_skip, next_visited}
 
 -- no operation is on a page that is not skipped
 pub alone-fresh : (skip : Option ℕ) (page : ℕ) (ops : List Op) → All (λ o. skip ≡ Some o.page) ops → is_skipped skip page ≡ false → find page_of page ops ≡ None
@@ -82,7 +82,7 @@ next-found g asked page freed next true false f w is = cc is
 next-found g asked page freed next false true f w is = cc is
 next-found g asked page freed next false false f w is = cc is
 
-pub next-page : (g : Geometry) (asked : ReclaimMade) (page freed next : ℕ) → next_page g asked page freed ≡ Some next → IsNextPage g asked page freed next
+pub next-page : (g : Geometry) (asked : ReclaimMade) (page freed next : ℕ) → next_visited g asked page freed ≡ Some next → IsNextPage g asked page freed next
 next-page g asked page freed next is = next-found g asked page freed next (nat_lt freed (most_freed asked)) (nat_lt (after_skip asked.skip page) (page_count g)) refl refl is
 
 over-found : (g : Geometry) (asked : ReclaimMade) (page freed : ℕ) (few within : Bool) → nat_lt freed (most_freed asked) ≡ few → nat_lt (after_skip asked.skip page) (page_count g) ≡ within
@@ -92,5 +92,5 @@ over-found g asked page freed true false f w is = inr (pages-after g asked.skip 
 over-found g asked page freed false within f w is = inl f
 
 -- where none is visited next, enough are freed, or no page is left
-pub page-over : (g : Geometry) (asked : ReclaimMade) (page freed : ℕ) → next_page g asked page freed ≡ None → (nat_lt freed (most_freed asked) ≡ false) ⊎ (pages_from g asked.skip page ≡ [])
+pub page-over : (g : Geometry) (asked : ReclaimMade) (page freed : ℕ) → next_visited g asked page freed ≡ None → (nat_lt freed (most_freed asked) ≡ false) ⊎ (pages_from g asked.skip page ≡ [])
 page-over g asked page freed is = over-found g asked page freed (nat_lt freed (most_freed asked)) (nat_lt (after_skip asked.skip page) (page_count g)) refl refl is

@@ -41,37 +41,37 @@ use Rattle.nm_reclaim.specs.declared.sweep.ReclaimMade.{ReclaimMade}
 use Rattle.nm_reclaim.specs.declared.sweep.Stage.{Stage}
 use Rattle.nm_reclaim.specs.declared.sweep.Stage.TheVariants.{Locking, ReadingHome, ReadingShadow, Discarding, Freeing, PuttingBack, Unlocking}
 use Rattle.nm_reclaim.specs.declared.sweep.Sweep.{Sweep}
-use Rattle.nm_reclaim.specs.Reclaims.{is_shadow_in, pages_from, most_freed, word_in, PutsBack, Discards, Leaves, AfterLock, Visits}
+use Rattle.nm_reclaim.specs.Reclaims.{is_shadow_in, pages_from, most_freed, word_in, PutsBack, Discards, LeavesPage, VisitAfterLock, Visits}
 use Rattle.nm_reclaim.specs.Swept.{IsSwept}
-use Rattle.nm_reclaim.specs.Sweeping.{Made, End, piece_made, IsNewPiece, MayPiece, IsPiece, LeavesPiece, SweptMade, sweep_made, MaySweep, IsSweep, SweepLeaves, new_place, piece_of, piece_at, reply_in, left_at, KnownBy, VisitsFrom, IsAtPage, IsLocked, IsReadingHome, IsReadingShadow, IsDiscarding, IsFreeing, IsPuttingBack, sweep_stages, next_page, IsNextVisit}
+use Rattle.nm_reclaim.specs.Sweeping.{SweepPieceMade, SweepPieceEnd, sweep_piece_made, IsNewSweepPiece, MaySweepPiece, IsSweepPiece, LeavesSweepPiece, SweptMade, sweep_made, MaySweep, IsSweep, SweepLeaves, new_place, sweep_piece_of, sweep_piece_at, reply_of_piece, sweep_left, KnownBy, VisitsFrom, IsAtPage, IsLocked, IsReadingHome, IsReadingShadow, IsDiscarding, IsFreeing, IsPuttingBack, sweep_stages, next_visited, IsNextVisit}
 use Rattle.nm_reclaim.proofs.Pages.{IsNextPage, next-page, page-over, pages-next}
 use Rattle.nm_reclaim.proofs.Ending.{can-puts, can-leave, can-after-shadow, can-after-home, can-after-lock, can-visits}
 use Rattle.nm_reclaim.proofs.Views.{page-fresh, may-unlock, known-there, locked-done, locked-busy, home-none, home-read, home-range, shadow-kept, shadow-read, shadow-range, discarded, freeing-done, unlocked-done, put-back, owned-there, forgets-none}
 
 -- Lists of a piece.
 
-this-split : (action : Action) (g : Geometry) (left : End → Own → ℕ → Type 0) (own : Own) (outcome : ℕ) (end : End) (front back : Own) → IsPiece (This action) g front end → left end back outcome → own ≡ front ++ back
+this-split : (action : Action) (g : Geometry) (left : SweepPieceEnd → Own → ℕ → Type 0) (own : Own) (outcome : ℕ) (end : SweepPieceEnd) (front back : Own) → IsSweepPiece (This action) g front end → left end back outcome → own ≡ front ++ back
     → Follows (IsAct action g) (λ reply. left (This reply)) own outcome
 this-split action g left own outcome (This reply) front back shown rest is = record { end = reply; front = front; back = back; shown = shown; rest = rest; is = is }
 this-split action g left own outcome (Other end) front back shown rest is = absurd shown
 
 -- a list of a single action, and what is left after it
-this-follows : (action : Action) (g : Geometry) (left : End → Own → ℕ → Type 0) (own : Own) (outcome : ℕ) → Follows (IsPiece (This action) g) left own outcome → Follows (IsAct action g) (λ reply. left (This reply)) own outcome
+this-follows : (action : Action) (g : Geometry) (left : SweepPieceEnd → Own → ℕ → Type 0) (own : Own) (outcome : ℕ) → Follows (IsSweepPiece (This action) g) left own outcome → Follows (IsAct action g) (λ reply. left (This reply)) own outcome
 this-follows action g left own outcome f = this-split action g left own outcome f.end f.front f.back f.shown f.rest f.is
 
-other-split : (made : PoolMade) (g : Geometry) (left : End → Own → ℕ → Type 0) (own : Own) (outcome : ℕ) (end : End) (front back : Own) → IsPiece (Other made) g front end → left end back outcome → own ≡ front ++ back
+other-split : (made : PoolMade) (g : Geometry) (left : SweepPieceEnd → Own → ℕ → Type 0) (own : Own) (outcome : ℕ) (end : SweepPieceEnd) (front back : Own) → IsSweepPiece (Other made) g front end → left end back outcome → own ≡ front ++ back
     → Follows (IsPool g made.job) (λ end. left (Other end)) own outcome
 other-split made g left own outcome (This reply) front back shown rest is = absurd shown
 other-split made g left own outcome (Other end) front back shown rest is = record { end = end; front = front; back = back; shown = shown; rest = rest; is = is }
 
 -- a list of a pool task, and what is left after it
-other-follows : (made : PoolMade) (g : Geometry) (left : End → Own → ℕ → Type 0) (own : Own) (outcome : ℕ) → Follows (IsPiece (Other made) g) left own outcome → Follows (IsPool g made.job) (λ end. left (Other end)) own outcome
+other-follows : (made : PoolMade) (g : Geometry) (left : SweepPieceEnd → Own → ℕ → Type 0) (own : Own) (outcome : ℕ) → Follows (IsSweepPiece (Other made) g) left own outcome → Follows (IsPool g made.job) (λ end. left (Other end)) own outcome
 other-follows made g left own outcome f = other-split made g left own outcome f.end f.front f.back f.shown f.rest f.is
 
 -- Pieces that run.
 
 abbrev Runs : SweptMade → Place → (Own → ℕ → Type 0) → Geometry → View → View → Type 0
-Runs = RunsAt MayPiece IsPiece sweep_stages
+Runs = RunsAt MaySweepPiece IsSweepPiece sweep_stages
 
 abbrev pub place_of : ℕ → ℕ → Stage → Place
 place_of page freed stage = record { page = page; freed = freed; stage = stage }
@@ -84,25 +84,25 @@ runs-visit : (made : SweptMade) (page freed next : ℕ) (g : Geometry) (first no
     → Runs made (place_of next freed Locking) (VisitsFrom g made.1.asked page freed) g first now
 runs-visit made page freed next g first now may swept few n =
     let at : IsAtPage made next freed g first = record { may = may; exists = n.within; other = n.other; count = omega (arith, few, n.up) } in
-    let V : View → Type 0 = λ v. MayPiece (This (Lock next)) g v in
+    let V : View → Type 0 = λ v. MaySweepPiece (This (Lock next)) g v in
     record {
       begin = subst V (sym swept.is) (record { quiet = tt; allowed = record { range = n.within; permitted = record { fresh = page-fresh made next freed g first at; few = omega (arith, may.may.ops.few) } } });
       known = record { is = refl; known = record { at = at; few = n.few; swept = swept } };
-      can = λ own end shown. can-after-lock g made.1.asked next (reply_in end) freed (λ all. VisitsFrom g made.1.asked (next + 1) all) may.may.tier (can-next g made next first may);
+      can = λ own end shown. can-after-lock g made.1.asked next (reply_of_piece end) freed (λ all. VisitsFrom g made.1.asked (next + 1) all) may.may.tier (can-next g made next first may);
       fits = λ own outcome f. rw n.left (either-yes (nat_lt freed (most_freed made.1.asked))
-          (Follows (IsAct (Lock next) g) (λ reply. AfterLock g made.1.asked next reply freed (λ all. VisitsFrom g made.1.asked (next + 1) all)))
+          (Follows (IsAct (Lock next) g) (λ reply. VisitAfterLock g made.1.asked next reply freed (λ all. VisitsFrom g made.1.asked (next + 1) all)))
           (VisitsFrom g made.1.asked (next + 1) freed) own outcome n.few
-          (this-follows (Lock next) g (left_at made (place_of next freed Locking) g) own outcome f));
+          (this-follows (Lock next) g (sweep_left made (place_of next freed Locking) g) own outcome f));
     }
 
 -- Read of the home
 runs-home : (made : SweptMade) (page freed : ℕ) (g : Geometry) (first now : View) → IsReadingHome made page freed g first now
-    → Runs made (place_of page freed ReadingHome) (left_at made (place_of page freed Locking) g (This Done)) g first now
+    → Runs made (place_of page freed ReadingHome) (sweep_left made (place_of page freed Locking) g (This Done)) g first now
 runs-home made page freed g first now at = record {
   begin = record { quiet = tt; allowed = record { range = record { page = at.locked.at.exists; cell = refl }; permitted = known-there made page freed g first now at.op (λ o. Unit {0}) at.locked tt } };
   known = record { is = refl; known = at };
-  can = λ own end shown. can-after-home g made.1.asked page (word_in (reply_in end)) freed (λ all. VisitsFrom g made.1.asked (page + 1) all) at.locked.at.may.may.tier (can-next g made page first at.locked.at.may);
-  fits = λ own outcome f. this-follows (Read page (Home page)) g (left_at made (place_of page freed ReadingHome) g) own outcome f;
+  can = λ own end shown. can-after-home g made.1.asked page (word_in (reply_of_piece end)) freed (λ all. VisitsFrom g made.1.asked (page + 1) all) at.locked.at.may.may.tier (can-next g made page first at.locked.at.may);
+  fits = λ own outcome f. this-follows (Read page (Home page)) g (sweep_left made (place_of page freed ReadingHome) g) own outcome f;
 }
 
 home-some : (word master : ℕ) → word ≡ home_word master → (word == 0) ≡ false
@@ -110,25 +110,25 @@ home-some word master is = grind arith
 
 -- Read of the shadow word
 runs-shadow : (made : SweptMade) (page freed word master : ℕ) (g : Geometry) (first now : View) → word ≡ home_word master → IsReadingShadow made page freed master g first now
-    → Runs made (place_of page freed (ReadingShadow master)) (left_at made (place_of page freed ReadingHome) g (This (Word word))) g first now
+    → Runs made (place_of page freed (ReadingShadow master)) (sweep_left made (place_of page freed ReadingHome) g (This (Word word))) g first now
 runs-shadow made page freed word master g first now is at = record {
   begin = record { quiet = tt; allowed = record { range = record { page = at.locked.at.exists; cell = at.frame }; permitted = known-there made page freed g first now at.op (λ o. o.home ≡ Some (home_word master)) at.locked at.home } };
   known = record { is = refl; known = at };
-  can = λ own end shown. can-after-shadow g made.1.asked page master (word_in (reply_in end)) freed (λ all. VisitsFrom g made.1.asked (page + 1) all) at.locked.at.may.may.tier (can-next g made page first at.locked.at.may);
+  can = λ own end shown. can-after-shadow g made.1.asked page master (word_in (reply_of_piece end)) freed (λ all. VisitsFrom g made.1.asked (page + 1) all) at.locked.at.may.may.tier (can-next g made page first at.locked.at.may);
   fits = λ own outcome f.
       let some : (word == 0) ≡ false = home-some word master is in
       let frame : word - 1 ≡ master = omega (arith, is) in
-      rw (some, frame) (this-follows (Read page (Shadow master)) g (left_at made (place_of page freed (ReadingShadow master)) g) own outcome f);
+      rw (some, frame) (this-follows (Read page (Shadow master)) g (sweep_left made (place_of page freed (ReadingShadow master)) g) own outcome f);
 }
 
 -- the Unlock of a page that is left as it is
 runs-leave : (made : SweptMade) (page freed : ℕ) (g : Geometry) (first now : View) → IsLocked made page freed g first now
-    → Runs made (place_of page freed Unlocking) (Leaves g page freed (λ n. VisitsFrom g made.1.asked (page + 1) n)) g first now
+    → Runs made (place_of page freed Unlocking) (LeavesPage g page freed (λ n. VisitsFrom g made.1.asked (page + 1) n)) g first now
 runs-leave made page freed g first now at = record {
   begin = record { quiet = tt; allowed = record { range = at.locked.at.exists; permitted = may-unlock made page freed g first now at.op at.locked } };
   known = record { is = refl; known = at };
   can = λ own end shown. can-next g made page first at.locked.at.may freed;
-  fits = λ own outcome f. this-follows (Unlock page) g (left_at made (place_of page freed Unlocking) g) own outcome f;
+  fits = λ own outcome f. this-follows (Unlock page) g (sweep_left made (place_of page freed Unlocking) g) own outcome f;
 }
 
 -- SetShadow
@@ -144,22 +144,22 @@ runs-discard made page freed master shadow g first now exists at = record {
   };
   known = record { is = refl; known = at };
   can = λ own end shown. can-leave g page freed (λ n. PutsBack g shadow n (λ all. VisitsFrom g made.1.asked (page + 1) all)) (λ n. can-puts g shadow n (λ all. VisitsFrom g made.1.asked (page + 1) all) exists (can-next g made page first at.locked.at.may));
-  fits = λ own outcome f. this-follows (SetShadow page master None) g (left_at made (place_of page freed (Discarding master shadow)) g) own outcome f;
+  fits = λ own outcome f. this-follows (SetShadow page master None) g (sweep_left made (place_of page freed (Discarding master shadow)) g) own outcome f;
 }
 
 -- the Unlock before a frame is put back
-runs-free : (made : SweptMade) (page freed master shadow : ℕ) (end : End) (g : Geometry) (first now : View) → IsFreeing made page freed shadow g first now
-    → Runs made (place_of page freed (Freeing shadow)) (left_at made (place_of page freed (Discarding master shadow)) g end) g first now
+runs-free : (made : SweptMade) (page freed master shadow : ℕ) (end : SweepPieceEnd) (g : Geometry) (first now : View) → IsFreeing made page freed shadow g first now
+    → Runs made (place_of page freed (Freeing shadow)) (sweep_left made (place_of page freed (Discarding master shadow)) g end) g first now
 runs-free made page freed master shadow end g first now at = record {
   begin = record { quiet = tt; allowed = record { range = at.locked.at.exists; permitted = may-unlock made page freed g first now at.op at.locked } };
   known = record { is = refl; known = at };
   can = λ own end shown. can-puts g shadow freed (λ all. VisitsFrom g made.1.asked (page + 1) all) ((IsInTier-tier_of g shadow at.owned.exists).exists) (can-next g made page first at.locked.at.may);
-  fits = λ own outcome f. this-follows (Unlock page) g (left_at made (place_of page freed (Freeing shadow)) g) own outcome f;
+  fits = λ own outcome f. this-follows (Unlock page) g (sweep_left made (place_of page freed (Freeing shadow)) g) own outcome f;
 }
 
 -- the frame is put back
-runs-back : (made : SweptMade) (page freed shadow : ℕ) (end : End) (g : Geometry) (first now : View) → IsPuttingBack made page freed shadow g first now
-    → Runs made (place_of page freed (PuttingBack shadow)) (left_at made (place_of page freed (Freeing shadow)) g end) g first now
+runs-back : (made : SweptMade) (page freed shadow : ℕ) (end : SweepPieceEnd) (g : Geometry) (first now : View) → IsPuttingBack made page freed shadow g first now
+    → Runs made (place_of page freed (PuttingBack shadow)) (sweep_left made (place_of page freed (Freeing shadow)) g end) g first now
 runs-back made page freed shadow end g first now at = record {
   begin = record {
     geometry = at.at.may.may.geometry;
@@ -169,7 +169,7 @@ runs-back made page freed shadow end g first now at = record {
   };
   known = record { is = refl; known = at };
   can = λ own end shown. can-next g made page first at.at.may (freed + 1);
-  fits = λ own outcome f. other-follows (pool_made made.0 (Back shadow)) g (left_at made (place_of page freed (PuttingBack shadow)) g) own outcome f;
+  fits = λ own outcome f. other-follows (pool_made made.0 (Back shadow)) g (sweep_left made (place_of page freed (PuttingBack shadow)) g) own outcome f;
 }
 
 -- What a plan gives next.
@@ -177,7 +177,7 @@ runs-back made page freed shadow end g first now at = record {
 -- the sweep gives this piece, where this was left
 abbrev pub Gives : Sweep → Or Act PoolTask → (Own → ℕ → Type 0) → Geometry → View → View → Type 0
 Gives new piece was g first now =
-    IsNewRun piece_made IsNewPiece MayPiece IsPiece (IsPieceAt sweep_stages (sweep_made new.geometry.now new.made) new.place) (left_at (sweep_made new.geometry.now new.made) new.place) was piece g first now
+    IsNewRun sweep_piece_made IsNewSweepPiece MaySweepPiece IsSweepPiece (IsPieceAt sweep_stages (sweep_made new.geometry.now new.made) new.place) (sweep_left (sweep_made new.geometry.now new.made) new.place) was piece g first now
 
 -- it is over, where this was left
 abbrev pub IsOverWith : Sweep → (Own → ℕ → Type 0) → Geometry → View → View → ℕ → Type 0
@@ -186,22 +186,22 @@ IsOverWith new was g first now outcome = IsOver was (SweepLeaves (sweep_made new
 -- what it does next, where this was left
 abbrev pub IsNextOf : Sweep → Sweep → (Own → ℕ → Type 0) → Geometry → View → View → Next (Or Act PoolTask) ℕ → Type 0
 IsNextOf old new was g first now next =
-    IsNext piece_made IsNewPiece MayPiece IsPiece (IsPieceAt sweep_stages (sweep_made new.geometry.now new.made) new.place) (left_at (sweep_made new.geometry.now new.made) new.place) was
+    IsNext sweep_piece_made IsNewSweepPiece MaySweepPiece IsSweepPiece (IsPieceAt sweep_stages (sweep_made new.geometry.now new.made) new.place) (sweep_left (sweep_made new.geometry.now new.made) new.place) was
     (SweepLeaves (sweep_made old.geometry.now old.made)) (λ g freed. new.place.freed ≡ freed) g first now next
 
 -- as it comes to a stage at its page
 pub gives-now : (old new : Sweep) (stage : Stage) (piece : Or Act PoolTask) (was : Own → ℕ → Type 0) (g : Geometry) (first now : View)
-    → new ≡ record old { place = record old.place { stage = stage } } → piece_made piece ≡ piece_at old.geometry.now new.place → IsNewPiece piece
+    → new ≡ record old { place = record old.place { stage = stage } } → sweep_piece_made piece ≡ sweep_piece_at old.geometry.now new.place → IsNewSweepPiece piece
     → Runs (sweep_made old.geometry.now old.made) (place_of old.place.page old.place.freed stage) was g first now → Gives new piece was g first now
 gives-now old new stage piece was g first now is makes fresh run =
-    let P : Place → Type 0 = λ p. piece_made piece ≡ piece_at old.geometry.now p in
-    runs-new piece_made IsNewPiece MayPiece IsPiece sweep_stages was (sweep_made old.geometry.now old.made) (sweep_made new.geometry.now new.made) (place_of old.place.page old.place.freed stage) new.place piece g first now
+    let P : Place → Type 0 = λ p. sweep_piece_made piece ≡ sweep_piece_at old.geometry.now p in
+    runs-new sweep_piece_made IsNewSweepPiece MaySweepPiece IsSweepPiece sweep_stages was (sweep_made old.geometry.now old.made) (sweep_made new.geometry.now new.made) (place_of old.place.page old.place.freed stage) new.place piece g first now
     (ap (λ (s : Sweep). sweep_made s.geometry.now s.made) is) (ap (λ (s : Sweep). s.place) is) (subst P (ap (λ (s : Sweep). s.place) is) makes) fresh run
 
-pub over-left : (g : Geometry) (asked : ReclaimMade) (page freed : ℕ) → next_page g asked page freed ≡ None → VisitsFrom g asked page freed [] freed
+pub over-left : (g : Geometry) (asked : ReclaimMade) (page freed : ℕ) → next_visited g asked page freed ≡ None → VisitsFrom g asked page freed [] freed
 over-left g asked page freed none = elim (page-over g asked page freed none) [
   | inl enough ↦ each-exit (Visits g asked) (pages_from g asked.skip page) freed (λ all. Ends all) [] freed
-      (λ item later h. either-other (nat_lt freed (most_freed asked)) (Follows (IsAct (Lock item) g) (λ reply. AfterLock g asked item reply freed later)) (later freed) [] freed enough h) (ends-now freed)
+      (λ item later h. either-other (nat_lt freed (most_freed asked)) (Follows (IsAct (Lock item) g) (λ reply. VisitAfterLock g asked item reply freed later)) (later freed) [] freed enough h) (ends-now freed)
   | inr empty ↦ rw empty (ends-now freed)
 ]
 
@@ -210,12 +210,12 @@ pub next-visit : (page freed : ℕ) (old new : Sweep) (next : Next (Or Act PoolT
     → IsNextVisit page freed old new next → MaySweep (sweep_made old.geometry.now old.made) g first → IsSwept old.made.asked.skip first later → freed ≤ page
     → IsNextOf old new (VisitsFrom g old.made.asked page freed) g first later next
 next-visit page freed old new (Run piece) g first later v may swept few =
-    let n : IsNextPage g old.made.asked page freed v.next = next-page g old.made.asked page freed v.next (subst (λ (k : Geometry). next_page k old.made.asked page freed ≡ Some v.next) may.same v.some) in
-    runs-new piece_made IsNewPiece MayPiece IsPiece sweep_stages (VisitsFrom g old.made.asked page freed) (sweep_made old.geometry.now old.made) (sweep_made new.geometry.now new.made) (place_of v.next freed Locking) new.place piece g first later
+    let n : IsNextPage g old.made.asked page freed v.next = next-page g old.made.asked page freed v.next (subst (λ (k : Geometry). next_visited k old.made.asked page freed ≡ Some v.next) may.same v.some) in
+    runs-new sweep_piece_made IsNewSweepPiece MaySweepPiece IsSweepPiece sweep_stages (VisitsFrom g old.made.asked page freed) (sweep_made old.geometry.now old.made) (sweep_made new.geometry.now new.made) (place_of v.next freed Locking) new.place piece g first later
     (ap (λ (s : Sweep). sweep_made s.geometry.now s.made) v.new_is) (ap (λ (s : Sweep). s.place) v.new_is) v.made v.fresh
     (runs-visit (sweep_made old.geometry.now old.made) page freed v.next g first later may swept few n)
 next-visit page freed old new (Over outcome) g first later v may swept few = record {
-  shown = rw v.is (over-left g old.made.asked page freed (subst (λ (k : Geometry). next_page k old.made.asked page freed ≡ None) may.same v.none));
+  shown = rw v.is (over-left g old.made.asked page freed (subst (λ (k : Geometry). next_visited k old.made.asked page freed ≡ None) may.same v.none));
   left = swept;
   over = ap (λ (s : Sweep). s.place.freed) v.new_is ∙ sym v.is;
 }
@@ -251,7 +251,7 @@ unlock-done g now later page (Word w) a = absurd a.fits.kind
 unlock-done g now later page (Busy w) a = absurd a.fits.kind
 unlock-done g now later page (Lost w) a = absurd a.fits.kind
 
-back-left : (g : Geometry) (shadow : ℕ) (now later : View) (own : Own) (end : PoolEnd) → given.Leaves g (Back shadow) now end later → IsPool g (Back shadow) own end
+pub back-left : (g : Geometry) (shadow : ℕ) (now later : View) (own : Own) (end : PoolEnd) → given.Leaves g (Back shadow) now end later → IsPool g (Back shadow) own end
     → later ≡ record now { turn = None; scan = unscanned; owned = erase owned_frame shadow now.owned }
 back-left g shadow now later own (Got f) left shown = absurd shown.work
 back-left g shadow now later own (AtFloor n) left shown = absurd shown.work
@@ -261,36 +261,36 @@ back-left g shadow now later own ends.Back left shown = left
 -- The pieces after each stage.
 
 -- what is to be shown after a piece needs to be shown at its stage
-pub at-stage : (old : Sweep) (here : Stage) (goal : Stage → End → Type 0) (end so : End) (g : Geometry) (first now later : View) (piece : Made)
-    → old.place.stage ≡ here → end ≡ so → IsPieceAt sweep_stages (sweep_made old.geometry.now old.made) old.place g first now piece → LeavesPiece piece g now end later
-    → (KnownBy (sweep_made old.geometry.now old.made) old.place.page old.place.freed here g first now → LeavesPiece (piece_of old.geometry.now old.place.page here) g now so later → goal here so) → goal old.place.stage end
+pub at-stage : (old : Sweep) (here : Stage) (goal : Stage → SweepPieceEnd → Type 0) (end so : SweepPieceEnd) (g : Geometry) (first now later : View) (piece : SweepPieceMade)
+    → old.place.stage ≡ here → end ≡ so → IsPieceAt sweep_stages (sweep_made old.geometry.now old.made) old.place g first now piece → LeavesSweepPiece piece g now end later
+    → (KnownBy (sweep_made old.geometry.now old.made) old.place.page old.place.freed here g first now → LeavesSweepPiece (sweep_piece_of old.geometry.now old.place.page here) g now so later → goal here so) → goal old.place.stage end
 at-stage old here goal end so g first now later piece at ended known left show =
-    by-stage sweep_stages LeavesPiece (λ (place : Place) (end : End). goal place.stage end) (sweep_made old.geometry.now old.made) old.place (place_of old.place.page old.place.freed here) end so g first now later piece
+    by-stage sweep_stages LeavesSweepPiece (λ (place : Place) (end : SweepPieceEnd). goal place.stage end) (sweep_made old.geometry.now old.made) old.place (place_of old.place.page old.place.freed here) end so g first now later piece
     (ap (λ (s : Stage). place_of old.place.page old.place.freed s) at) ended known left show
 
-abbrev pub Was : Sweep → Geometry → Stage → End → Own → ℕ → Type 0
-Was old g stage end = left_at (sweep_made old.geometry.now old.made) (place_of old.place.page old.place.freed stage) g end
+abbrev pub Was : Sweep → Geometry → Stage → SweepPieceEnd → Own → ℕ → Type 0
+Was old g stage end = sweep_left (sweep_made old.geometry.now old.made) (place_of old.place.page old.place.freed stage) g end
 
 -- a Lock gives the first page
 pub begins : (old new : Sweep) (piece : Or Act PoolTask) (g : Geometry) (view : View)
-    → old.place ≡ new_place old.made → new ≡ record old { place = record old.place { stage = Locking } } → piece_made piece ≡ piece_at old.geometry.now new.place → IsNewPiece piece
+    → old.place ≡ new_place old.made → new ≡ record old { place = record old.place { stage = Locking } } → sweep_piece_made piece ≡ sweep_piece_at old.geometry.now new.place → IsNewSweepPiece piece
     → MaySweep (sweep_made old.geometry.now old.made) g view → Gives new piece (IsSweep (sweep_made old.geometry.now old.made) g) g view view
 begins old new piece g view opens is makes fresh may =
     let R : Place → Type 0 = λ p. Runs (sweep_made old.geometry.now old.made) (place_of p.page p.freed Locking) (IsSweep (sweep_made old.geometry.now old.made) g) g view view in
     gives-now old new Locking piece (IsSweep (sweep_made old.geometry.now old.made) g) g view view is makes fresh (subst R (sym opens) (runs-first (sweep_made old.geometry.now old.made) g view may))
 
 -- the plan has come from this stage to that one
-pub record IsGone (old new : Sweep) (here there : Stage) (piece : Or Act PoolTask) (end so : End) : Type 0 where
+pub record IsGone (old new : Sweep) (here there : Stage) (piece : Or Act PoolTask) (end so : SweepPieceEnd) : Type 0 where
   pub from : old.place.stage ≡ here
   pub ended : end ≡ so
   pub is : new ≡ record old { place = record old.place { stage = there } }
-  pub makes : piece_made piece ≡ piece_at old.geometry.now new.place
-  pub fresh : IsNewPiece piece
+  pub makes : sweep_piece_made piece ≡ sweep_piece_at old.geometry.now new.place
+  pub fresh : IsNewSweepPiece piece
 
 -- the next piece, by what runs at the stage
-gone : (old new : Sweep) (here there : Stage) (piece : Or Act PoolTask) (end so : End) (g : Geometry) (first now later : View) (runs : Made)
-    → IsGone old new here there piece end so → IsPieceAt sweep_stages (sweep_made old.geometry.now old.made) old.place g first now runs → LeavesPiece runs g now end later
-    → (KnownBy (sweep_made old.geometry.now old.made) old.place.page old.place.freed here g first now → LeavesPiece (piece_of old.geometry.now old.place.page here) g now so later
+gone : (old new : Sweep) (here there : Stage) (piece : Or Act PoolTask) (end so : SweepPieceEnd) (g : Geometry) (first now later : View) (runs : SweepPieceMade)
+    → IsGone old new here there piece end so → IsPieceAt sweep_stages (sweep_made old.geometry.now old.made) old.place g first now runs → LeavesSweepPiece runs g now end later
+    → (KnownBy (sweep_made old.geometry.now old.made) old.place.page old.place.freed here g first now → LeavesSweepPiece (sweep_piece_of old.geometry.now old.place.page here) g now so later
     → Runs (sweep_made old.geometry.now old.made) (place_of old.place.page old.place.freed there) (Was old g here so) g first later)
     → Gives new piece (Was old g old.place.stage end) g first later
 gone old new here there piece end so g first now later runs went known left run =
@@ -298,8 +298,8 @@ gone old new here there piece end so g first now later runs went known left run 
     (λ k l. gives-now old new there piece (Was old g here so) g first later went.is went.makes went.fresh (run k l))
 
 -- the page was locked
-pub after-lock : (old new : Sweep) (piece : Or Act PoolTask) (end : End) (g : Geometry) (first now later : View) (runs : Made)
-    → IsGone old new Locking ReadingHome piece end (This Done) → IsPieceAt sweep_stages (sweep_made old.geometry.now old.made) old.place g first now runs → LeavesPiece runs g now end later
+pub after-lock : (old new : Sweep) (piece : Or Act PoolTask) (end : SweepPieceEnd) (g : Geometry) (first now later : View) (runs : SweepPieceMade)
+    → IsGone old new Locking ReadingHome piece end (This Done) → IsPieceAt sweep_stages (sweep_made old.geometry.now old.made) old.place g first now runs → LeavesSweepPiece runs g now end later
     → Gives new piece (Was old g old.place.stage end) g first later
 after-lock old new piece end g first now later runs is known left =
     let made : SweptMade = sweep_made old.geometry.now old.made in
@@ -307,8 +307,8 @@ after-lock old new piece end g first now later runs is known left =
     (λ k l. runs-home made old.place.page old.place.freed g first later (locked-done made old.place.page old.place.freed g first now later k l))
 
 -- there is no home
-pub after-no-home : (old new : Sweep) (piece : Or Act PoolTask) (end : End) (word : ℕ) (g : Geometry) (first now later : View) (runs : Made) → word ≡ 0
-    → IsGone old new ReadingHome Unlocking piece end (This (Word word)) → IsPieceAt sweep_stages (sweep_made old.geometry.now old.made) old.place g first now runs → LeavesPiece runs g now end later
+pub after-no-home : (old new : Sweep) (piece : Or Act PoolTask) (end : SweepPieceEnd) (word : ℕ) (g : Geometry) (first now later : View) (runs : SweepPieceMade) → word ≡ 0
+    → IsGone old new ReadingHome Unlocking piece end (This (Word word)) → IsPieceAt sweep_stages (sweep_made old.geometry.now old.made) old.place g first now runs → LeavesSweepPiece runs g now end later
     → Gives new piece (Was old g old.place.stage end) g first later
 after-no-home old new piece end word g first now later runs none is known left =
     let made : SweptMade = sweep_made old.geometry.now old.made in
@@ -316,8 +316,8 @@ after-no-home old new piece end word g first now later runs none is known left =
     (λ k l. let test : (word == 0) ≡ true = is-zero word none in rw test (runs-leave made old.place.page old.place.freed g first later (home-none made old.place.page old.place.freed g first now later word k l)))
 
 -- the home was read
-pub after-home : (old new : Sweep) (piece : Or Act PoolTask) (end : End) (word master : ℕ) (g : Geometry) (first now later : View) (runs : Made) → word ≢ 0 → master ≡ word - 1
-    → IsGone old new ReadingHome (ReadingShadow master) piece end (This (Word word)) → IsPieceAt sweep_stages (sweep_made old.geometry.now old.made) old.place g first now runs → LeavesPiece runs g now end later
+pub after-home : (old new : Sweep) (piece : Or Act PoolTask) (end : SweepPieceEnd) (word master : ℕ) (g : Geometry) (first now later : View) (runs : SweepPieceMade) → word ≢ 0 → master ≡ word - 1
+    → IsGone old new ReadingHome (ReadingShadow master) piece end (This (Word word)) → IsPieceAt sweep_stages (sweep_made old.geometry.now old.made) old.place g first now runs → LeavesSweepPiece runs g now end later
     → Gives new piece (Was old g old.place.stage end) g first later
 after-home old new piece end word master g first now later runs some read is known left =
     let made : SweptMade = sweep_made old.geometry.now old.made in
@@ -328,8 +328,8 @@ after-home old new piece end word master g first now later runs some read is kno
     runs-shadow made old.place.page old.place.freed word master g first later named (home-read made old.place.page old.place.freed g first now later word master k l named))
 
 -- the shadow is not in the tier, or there is none
-pub after-kept : (old new : Sweep) (piece : Or Act PoolTask) (end : End) (master word : ℕ) (g : Geometry) (first now later : View) (runs : Made) → is_shadow_in old.geometry.now old.made.asked.tier word ≡ false
-    → IsGone old new (ReadingShadow master) Unlocking piece end (This (Word word)) → IsPieceAt sweep_stages (sweep_made old.geometry.now old.made) old.place g first now runs → LeavesPiece runs g now end later
+pub after-kept : (old new : Sweep) (piece : Or Act PoolTask) (end : SweepPieceEnd) (master word : ℕ) (g : Geometry) (first now later : View) (runs : SweepPieceMade) → is_shadow_in old.geometry.now old.made.asked.tier word ≡ false
+    → IsGone old new (ReadingShadow master) Unlocking piece end (This (Word word)) → IsPieceAt sweep_stages (sweep_made old.geometry.now old.made) old.place g first now runs → LeavesSweepPiece runs g now end later
     → Gives new piece (Was old g old.place.stage end) g first later
 after-kept old new piece end master word g first now later runs out is known left =
     let made : SweptMade = sweep_made old.geometry.now old.made in
@@ -339,8 +339,8 @@ after-kept old new piece end master word g first now later runs out is known lef
     rw here (runs-leave made old.place.page old.place.freed g first later (shadow-kept made old.place.page old.place.freed master g first now later word k l)))
 
 -- the shadow is in the tier
-pub after-shadow : (old new : Sweep) (piece : Or Act PoolTask) (end : End) (master word shadow : ℕ) (g : Geometry) (first now later : View) (runs : Made) → is_shadow_in old.geometry.now old.made.asked.tier word ≡ true → shadow ≡ shadow_frame word
-    → IsGone old new (ReadingShadow master) (Discarding master shadow) piece end (This (Word word)) → IsPieceAt sweep_stages (sweep_made old.geometry.now old.made) old.place g first now runs → LeavesPiece runs g now end later
+pub after-shadow : (old new : Sweep) (piece : Or Act PoolTask) (end : SweepPieceEnd) (master word shadow : ℕ) (g : Geometry) (first now later : View) (runs : SweepPieceMade) → is_shadow_in old.geometry.now old.made.asked.tier word ≡ true → shadow ≡ shadow_frame word
+    → IsGone old new (ReadingShadow master) (Discarding master shadow) piece end (This (Word word)) → IsPieceAt sweep_stages (sweep_made old.geometry.now old.made) old.place g first now runs → LeavesSweepPiece runs g now end later
     → Gives new piece (Was old g old.place.stage end) g first later
 after-shadow old new piece end master word shadow g first now later runs in-tier frame is known left =
     let made : SweptMade = sweep_made old.geometry.now old.made in
@@ -354,8 +354,8 @@ after-shadow old new piece end master word shadow g first now later runs in-tier
     (shadow-read made old.place.page old.place.freed master g first now later word k l some))))
 
 -- the shadow was taken away
-pub after-discard : (old new : Sweep) (piece : Or Act PoolTask) (end : End) (reply : Reply) (master shadow : ℕ) (g : Geometry) (first now later : View) (runs : Made)
-    → IsGone old new (Discarding master shadow) (Freeing shadow) piece end (This reply) → IsPieceAt sweep_stages (sweep_made old.geometry.now old.made) old.place g first now runs → LeavesPiece runs g now end later
+pub after-discard : (old new : Sweep) (piece : Or Act PoolTask) (end : SweepPieceEnd) (reply : Reply) (master shadow : ℕ) (g : Geometry) (first now later : View) (runs : SweepPieceMade)
+    → IsGone old new (Discarding master shadow) (Freeing shadow) piece end (This reply) → IsPieceAt sweep_stages (sweep_made old.geometry.now old.made) old.place g first now runs → LeavesSweepPiece runs g now end later
     → Gives new piece (Was old g old.place.stage end) g first later
 after-discard old new piece end reply master shadow g first now later runs is known left =
     let made : SweptMade = sweep_made old.geometry.now old.made in
@@ -363,8 +363,8 @@ after-discard old new piece end reply master shadow g first now later runs is kn
     (λ k l. runs-free made old.place.page old.place.freed master shadow (This reply) g first later (discarded made old.place.page old.place.freed master shadow g first now later k (set-done g now later old.place.page master reply l)))
 
 -- the page was unlocked before the frame is put back
-pub after-free : (old new : Sweep) (piece : Or Act PoolTask) (end : End) (reply : Reply) (shadow : ℕ) (g : Geometry) (first now later : View) (runs : Made)
-    → IsGone old new (Freeing shadow) (PuttingBack shadow) piece end (This reply) → IsPieceAt sweep_stages (sweep_made old.geometry.now old.made) old.place g first now runs → LeavesPiece runs g now end later
+pub after-free : (old new : Sweep) (piece : Or Act PoolTask) (end : SweepPieceEnd) (reply : Reply) (shadow : ℕ) (g : Geometry) (first now later : View) (runs : SweepPieceMade)
+    → IsGone old new (Freeing shadow) (PuttingBack shadow) piece end (This reply) → IsPieceAt sweep_stages (sweep_made old.geometry.now old.made) old.place g first now runs → LeavesSweepPiece runs g now end later
     → Gives new piece (Was old g old.place.stage end) g first later
 after-free old new piece end reply shadow g first now later runs is known left =
     let made : SweptMade = sweep_made old.geometry.now old.made in
@@ -372,14 +372,14 @@ after-free old new piece end reply shadow g first now later runs is known left =
     (λ k l. runs-back made old.place.page old.place.freed shadow (This reply) g first later (freeing-done made old.place.page old.place.freed shadow g first now later k (unlock-done g now later old.place.page reply l)))
 
 -- the visit of a page is over
-pub record IsVisitOver (page freed : ℕ) (old new : Sweep) (here : Stage) (given : Next (Or Act PoolTask) ℕ) (end so : End) : Type 0 where
+pub record IsVisitOver (page freed : ℕ) (old new : Sweep) (here : Stage) (given : Next (Or Act PoolTask) ℕ) (end so : SweepPieceEnd) : Type 0 where
   pub from : old.place.stage ≡ here
   pub ended : end ≡ so
   pub next : IsNextVisit page freed old new given
 
 -- the page was busy
-pub after-busy : (old new : Sweep) (next : Next (Or Act PoolTask) ℕ) (end : End) (word : ℕ) (g : Geometry) (first now later : View) (runs : Made)
-    → IsVisitOver (old.place.page + 1) old.place.freed old new Locking next end (This (Busy word)) → IsPieceAt sweep_stages (sweep_made old.geometry.now old.made) old.place g first now runs → LeavesPiece runs g now end later
+pub after-busy : (old new : Sweep) (next : Next (Or Act PoolTask) ℕ) (end : SweepPieceEnd) (word : ℕ) (g : Geometry) (first now later : View) (runs : SweepPieceMade)
+    → IsVisitOver (old.place.page + 1) old.place.freed old new Locking next end (This (Busy word)) → IsPieceAt sweep_stages (sweep_made old.geometry.now old.made) old.place g first now runs → LeavesSweepPiece runs g now end later
     → IsNextOf old new (Was old g old.place.stage end) g first later next
 after-busy old new next end word g first now later runs is known left =
     let made : SweptMade = sweep_made old.geometry.now old.made in
@@ -387,8 +387,8 @@ after-busy old new next end word g first now later runs is known left =
     (λ k l. next-visit (old.place.page + 1) old.place.freed old new next g first later is.next k.at.may (locked-busy made old.place.page old.place.freed word g first now later k l) (omega (arith, k.at.count)))
 
 -- the page was unlocked as it was
-pub after-unlock : (old new : Sweep) (next : Next (Or Act PoolTask) ℕ) (end : End) (reply : Reply) (g : Geometry) (first now later : View) (runs : Made)
-    → IsVisitOver (old.place.page + 1) old.place.freed old new Unlocking next end (This reply) → IsPieceAt sweep_stages (sweep_made old.geometry.now old.made) old.place g first now runs → LeavesPiece runs g now end later
+pub after-unlock : (old new : Sweep) (next : Next (Or Act PoolTask) ℕ) (end : SweepPieceEnd) (reply : Reply) (g : Geometry) (first now later : View) (runs : SweepPieceMade)
+    → IsVisitOver (old.place.page + 1) old.place.freed old new Unlocking next end (This reply) → IsPieceAt sweep_stages (sweep_made old.geometry.now old.made) old.place g first now runs → LeavesSweepPiece runs g now end later
     → IsNextOf old new (Was old g old.place.stage end) g first later next
 after-unlock old new next end reply g first now later runs is known left =
     let made : SweptMade = sweep_made old.geometry.now old.made in
@@ -397,26 +397,26 @@ after-unlock old new next end reply g first now later runs is known left =
     (unlocked-done made old.place.page old.place.freed g first now later k (unlock-done g now later old.place.page reply l)) (omega (arith, k.locked.at.count)))
 
 -- the frame was put back
-pub after-back : (old new : Sweep) (next : Next (Or Act PoolTask) ℕ) (end : End) (shadow : ℕ) (pool : PoolEnd) (g : Geometry) (first now later : View) (own : Own) (runs : Made)
+pub after-back : (old new : Sweep) (next : Next (Or Act PoolTask) ℕ) (end : SweepPieceEnd) (shadow : ℕ) (pool : PoolEnd) (g : Geometry) (first now later : View) (own : Own) (runs : SweepPieceMade)
     → IsVisitOver (old.place.page + 1) (old.place.freed + 1) old new (PuttingBack shadow) next end (Other pool) → IsPieceAt sweep_stages (sweep_made old.geometry.now old.made) old.place g first now runs
-    → IsPiece runs g own end → LeavesPiece runs g now end later → IsNextOf old new (Was old g old.place.stage end) g first later next
+    → IsSweepPiece runs g own end → LeavesSweepPiece runs g now end later → IsNextOf old new (Was old g old.place.stage end) g first later next
 after-back old new next end shadow pool g first now later own runs is known shown left =
     let made : SweptMade = sweep_made old.geometry.now old.made in
-    by-stage sweep_stages (λ (m : Made) k v (x : End) w. LeavesPiece m k v x w × IsPiece m k own x) (λ (place : Place) (end : End). IsNextOf old new (Was old g place.stage end) g first later next) made old.place
+    by-stage sweep_stages (λ (m : SweepPieceMade) k v (x : SweepPieceEnd) w. LeavesSweepPiece m k v x w × IsSweepPiece m k own x) (λ (place : Place) (end : SweepPieceEnd). IsNextOf old new (Was old g place.stage end) g first later next) made old.place
     (place_of old.place.page old.place.freed (PuttingBack shadow)) end (Other pool) g first now later runs (ap (λ (s : Stage). place_of old.place.page old.place.freed s) is.from) is.ended known (left, shown)
     (λ k l. next-visit (old.place.page + 1) (old.place.freed + 1) old new next g first later is.next k.at.may
     (put-back made old.place.page old.place.freed shadow g first now later k (back-left g shadow now later own pool l.0 l.1)) (omega (arith, k.at.count)))
 
 -- no more are freed than pages were visited
-pub freed-fits : (old : Sweep) (shadow : ℕ) (end so : End) (g : Geometry) (first now later : View) (runs : Made) → old.place.stage ≡ PuttingBack shadow → end ≡ so
-    → IsPieceAt sweep_stages (sweep_made old.geometry.now old.made) old.place g first now runs → LeavesPiece runs g now end later → Fits w32 (old.place.freed + 1)
+pub freed-fits : (old : Sweep) (shadow : ℕ) (end so : SweepPieceEnd) (g : Geometry) (first now later : View) (runs : SweepPieceMade) → old.place.stage ≡ PuttingBack shadow → end ≡ so
+    → IsPieceAt sweep_stages (sweep_made old.geometry.now old.made) old.place g first now runs → LeavesSweepPiece runs g now end later → Fits w32 (old.place.freed + 1)
 freed-fits old shadow end so g first now later runs is ended known left =
     at-stage old (PuttingBack shadow) (λ stage end. Fits w32 (old.place.freed + 1)) end so g first now later runs is ended known left
     (λ k l. omega (arith, k.at.count, k.at.exists, k.at.may.may.geometry.room, k.at.may.may.geometry.ranges.1.3))
 
 -- the shadow is a frame
-pub shadow-frame : (old : Sweep) (master word : ℕ) (end : End) (g : Geometry) (first now later : View) (runs : Made) → old.place.stage ≡ ReadingShadow master → end ≡ This (Word word)
-    → IsPieceAt sweep_stages (sweep_made old.geometry.now old.made) old.place g first now runs → LeavesPiece runs g now end later → word ≢ 0 → shadow_frame word < frame_count old.geometry.now
+pub shadow-frame : (old : Sweep) (master word : ℕ) (end : SweepPieceEnd) (g : Geometry) (first now later : View) (runs : SweepPieceMade) → old.place.stage ≡ ReadingShadow master → end ≡ This (Word word)
+    → IsPieceAt sweep_stages (sweep_made old.geometry.now old.made) old.place g first now runs → LeavesSweepPiece runs g now end later → word ≢ 0 → shadow_frame word < frame_count old.geometry.now
 shadow-frame old master word end g first now later runs is ended known left some =
     at-stage old (ReadingShadow master) (λ stage end. shadow_frame word < frame_count old.geometry.now) end (This (Word word)) g first now later runs is ended known left
     (λ k l. let F : Geometry → Type 0 = λ x. shadow_frame word < frame_count x in

@@ -12,7 +12,7 @@ use Rattle.nm_part.proofs.Patterns.{ends-now}
 use Rattle.nm_reclaim.specs.declared.sweep.ReclaimMade.{ReclaimMade}
 use Rattle.nm_reclaim.specs.Reclaims.{pages_from, pages_visited, VisitsAll, IsReclaim}
 use Rattle.nm_reclaim.specs.Swept.{MayReclaim, IsSwept}
-use Rattle.nm_reclaim.specs.Sweeping.{SweptMade, IsVisited, MaySweep, IsSweep, SweepLeaves, next_page}
+use Rattle.nm_reclaim.specs.Sweeping.{SweptMade, IsPageVisited, MaySweep, IsSweep, SweepLeaves, next_visited}
 use Rattle.nm_compose.specs.declared.composite.Composite.{Composite}
 use Rattle.nm_compose.specs.declared.act.Act.{Act}
 use Rattle.nm_compose.specs.declared.or.Or.{Or}
@@ -20,24 +20,24 @@ use Rattle.nm_pool.specs.declared.task.PoolTask.{PoolTask}
 use Rattle.nm_reclaim.specs.declared.sweep.Sweep.{Sweep}
 use Rattle.nm_reclaim.specs.declared.task.Work.{Work}
 use Rattle.nm_reclaim.specs.declared.task.Work.TheVariants.{Nothing, Visits}
-use Rattle.nm_reclaim.specs.Tasks.{first_page, TaskMade, MayTask, IsSweepFor, IsNewSweep, IsNewWork, IsAwaitedSweep, AwaitsWork, freed_by}
+use Rattle.nm_reclaim.specs.Tasks.{first_visited, TaskMade, MayTask, IsSweepFor, IsNewSweep, IsNewWork, IsAwaitedSweep, AwaitsWork, freed_by}
 use Rattle.nm_reclaim.proofs.Pages.{IsNextPage, next-page, pages-next}
 use Rattle.nm_reclaim.proofs.Sweeping.{over-left}
 
-first-test : (g : Geometry) (made : ReclaimMade) (first : ℕ) (fastest : Bool) → (made.tier == 0) ≡ fastest → (if fastest then None else next_page g made 0 0) ≡ Some first → next_page g made 0 0 ≡ Some first
+first-test : (g : Geometry) (made : ReclaimMade) (first : ℕ) (fastest : Bool) → (made.tier == 0) ≡ fastest → (if fastest then None else next_visited g made 0 0) ≡ Some first → next_visited g made 0 0 ≡ Some first
 first-test g made first true is some = cc some
 first-test g made first false is some = some
 
 -- the first page that is visited is the next one from 0 on
-pub first-next : (g : Geometry) (made : ReclaimMade) (first : ℕ) → first_page g made ≡ Some first → next_page g made 0 0 ≡ Some first
+pub first-next : (g : Geometry) (made : ReclaimMade) (first : ℕ) → first_visited g made ≡ Some first → next_visited g made 0 0 ≡ Some first
 first-next g made first some = first-test g made first (made.tier == 0) refl some
 
-slow-test : (g : Geometry) (made : ReclaimMade) (first : ℕ) (fastest : Bool) → (made.tier == 0) ≡ fastest → (if fastest then None else next_page g made 0 0) ≡ Some first → (made.tier == 0) ≡ false
+slow-test : (g : Geometry) (made : ReclaimMade) (first : ℕ) (fastest : Bool) → (made.tier == 0) ≡ fastest → (if fastest then None else next_visited g made 0 0) ≡ Some first → (made.tier == 0) ≡ false
 slow-test g made first true is some = cc some
 slow-test g made first false is some = is
 
 -- from the first page on, all pages are left
-pages-first : (g : Geometry) (made : ReclaimMade) (first : ℕ) → first_page g made ≡ Some first → pages_from g made.skip first ≡ pages_visited g made
+pages-first : (g : Geometry) (made : ReclaimMade) (first : ℕ) → first_visited g made ≡ Some first → pages_from g made.skip first ≡ pages_visited g made
 pages-first g made first some =
     let n : IsNextPage g made 0 0 first = next-page g made 0 0 first (first-next g made first some) in
     let slow : (made.tier == 0) ≡ false = slow-test g made first (made.tier == 0) refl some in
@@ -46,24 +46,24 @@ pages-first g made first some =
 -- a sweep from the first page on is the whole of Reclaim
 pub sweep-is : (g : Geometry) (made : TaskMade) (sweep : SweptMade) → made.0 ≡ g → IsSweepFor made sweep → IsSweep sweep g ≡ IsReclaim g made.1
 sweep-is g made sweep same for =
-    let F : Geometry → Type 0 = λ k. first_page k made.1 ≡ Some sweep.1.first in
+    let F : Geometry → Type 0 = λ k. first_visited k made.1 ≡ Some sweep.1.first in
     ap (λ (a : ReclaimMade). VisitsAll g a (pages_from g a.skip sweep.1.first) 0) for.asked
     ∙ ap (λ (pages : List ℕ). VisitsAll g made.1 pages 0) (pages-first g made.1 sweep.1.first (subst F same for.first))
 
-none-test : (g : Geometry) (made : ReclaimMade) (fastest : Bool) → (made.tier == 0) ≡ fastest → (if fastest then None else next_page g made 0 0) ≡ None → IsReclaim g made [] 0
+none-test : (g : Geometry) (made : ReclaimMade) (fastest : Bool) → (made.tier == 0) ≡ fastest → (if fastest then None else next_visited g made 0 0) ≡ None → IsReclaim g made [] 0
 none-test g made true is none = rw is (ends-now 0)
 none-test g made false is none = rw is (over-left g made 0 0 none)
 
 -- where there is no page to visit, nothing is done
-pub nothing-done : (g : Geometry) (made : ReclaimMade) → first_page g made ≡ None → IsReclaim g made [] 0
+pub nothing-done : (g : Geometry) (made : ReclaimMade) → first_visited g made ≡ None → IsReclaim g made [] 0
 nothing-done g made none = none-test g made (made.tier == 0) refl none
 
 -- a sweep may begin as the task may
 pub may-sweep : (g : Geometry) (made : TaskMade) (sweep : SweptMade) (view : View) → IsSweepFor made sweep → MayTask made g view → MaySweep sweep g view
 may-sweep g made sweep view for may =
-    let F : Geometry → Type 0 = λ k. first_page k made.1 ≡ Some sweep.1.first in
+    let F : Geometry → Type 0 = λ k. first_visited k made.1 ≡ Some sweep.1.first in
     let n : IsNextPage g made.1 0 0 sweep.1.first = next-page g made.1 0 0 sweep.1.first (first-next g made.1 sweep.1.first (subst F may.same for.first)) in
-    let A : ReclaimMade → Type 0 = λ a. IsVisited g a sweep.1.first 0 in
+    let A : ReclaimMade → Type 0 = λ a. IsPageVisited g a sweep.1.first 0 in
     let M : ReclaimMade → Type 0 = λ a. MayReclaim a g view in
     record {
       same = for.same ∙ may.same;
@@ -108,10 +108,10 @@ task-step made sweep now awaits ended g view own (Over freed) same for kept h =
 -- What is told of the work.
 
 pub nothing-left : (is_new : Composite Sweep (Or Act PoolTask) → Type 0) (sweep_by : Composite Sweep (Or Act PoolTask) → SweptMade) (made : TaskMade) (work : Work) (g : Geometry) (view : View)
-    → work ≡ Nothing → IsNewWork is_new sweep_by made work → MayTask made g view → first_page g made.1 ≡ None
+    → work ≡ Nothing → IsNewWork is_new sweep_by made work → MayTask made g view → first_visited g made.1 ≡ None
 nothing-left is_new sweep_by made work g view is new may =
     let W : Work → Type 0 = λ w. IsNewWork is_new sweep_by made w in
-    let F : Geometry → Type 0 = λ k. first_page k made.1 ≡ None in
+    let F : Geometry → Type 0 = λ k. first_visited k made.1 ≡ None in
     subst F may.same (subst W is new)
 
 pub nothing-freed : (work : Work) → work ≡ Nothing → freed_by work ≡ 0

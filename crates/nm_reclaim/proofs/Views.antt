@@ -22,7 +22,7 @@ use Rattle.nm_event.specs.Fitting.{IsNewsOfShadow, IsHomeRead, IsShadowRead}
 use Rattle.nm_compose.specs.Acts.{IsActed}
 use Rattle.nm_reclaim.specs.Reclaims.{is_skipped}
 use Rattle.nm_reclaim.specs.Swept.{IsOfOther, IsForgotten, IsSwept}
-use Rattle.nm_reclaim.specs.Sweeping.{SweptMade, IsAtPage, IsBetween, HasLocked, IsLocked, IsReadingHome, IsReadingShadow, IsDiscarding, HasShadow, IsFreeing, IsPuttingBack}
+use Rattle.nm_reclaim.specs.Sweeping.{SweptMade, IsAtPage, IsBetween, HasPageLocked, IsLocked, IsReadingHome, IsReadingShadow, IsDiscarding, HasShadow, IsFreeing, IsPuttingBack}
 use Rattle.nm_reclaim.proofs.Lasts.{edit_last, erase_last, put_last}
 use Rattle.nm_reclaim.proofs.Pages.{alone-fresh}
 
@@ -104,33 +104,33 @@ pub page-fresh : (made : SweptMade) (page freed : ℕ) (g : Geometry) (first : V
 page-fresh made page freed g first at = alone-fresh made.1.asked.skip page first.ops at.may.may.ops.named at.other
 
 -- the operation on the page
-pub op-there : (made : SweptMade) (page freed : ℕ) (g : Geometry) (first now : View) (o : Op) → HasLocked made page freed g first now o → op_on now page ≡ Some o
+pub op-there : (made : SweptMade) (page freed : ℕ) (g : Geometry) (first now : View) (o : Op) → HasPageLocked made page freed g first now o → op_on now page ≡ Some o
 op-there made page freed g first now o h =
     let fresh : find page_of o.page first.ops ≡ None = rw h.of (page-fresh made page freed g first h.at) in
     let N : ℕ → Type 0 = λ n. find page_of n now.ops ≡ Some o in
     subst N h.of (ap (λ (ops : List Op). find page_of o.page ops) h.ops ∙ find_join page_of o first.ops fresh)
 
-edited : (made : SweptMade) (page freed : ℕ) (g : Geometry) (first now : View) (o : Op) (f : Op → Op) → HasLocked made page freed g first now o → edit page_of page f now.ops ≡ first.ops ++ f o ∷ []
+edited : (made : SweptMade) (page freed : ℕ) (g : Geometry) (first now : View) (o : Op) (f : Op → Op) → HasPageLocked made page freed g first now o → edit page_of page f now.ops ≡ first.ops ++ f o ∷ []
 edited made page freed g first now o f h =
     let fresh : find page_of o.page first.ops ≡ None = rw h.of (page-fresh made page freed g first h.at) in
     let N : ℕ → Type 0 = λ n. edit page_of n f now.ops ≡ first.ops ++ f o ∷ [] in
     subst N h.of (ap (λ (ops : List Op). edit page_of o.page f ops) h.ops ∙ edit_last page_of f o first.ops fresh)
 
-erased : (made : SweptMade) (page freed : ℕ) (g : Geometry) (first now : View) (o : Op) → HasLocked made page freed g first now o → erase page_of page now.ops ≡ first.ops
+erased : (made : SweptMade) (page freed : ℕ) (g : Geometry) (first now : View) (o : Op) → HasPageLocked made page freed g first now o → erase page_of page now.ops ≡ first.ops
 erased made page freed g first now o h =
     let fresh : find page_of o.page first.ops ≡ None = rw h.of (page-fresh made page freed g first h.at) in
     let N : ℕ → Type 0 = λ n. erase page_of n now.ops ≡ first.ops in
     subst N h.of (ap (λ (ops : List Op). erase page_of o.page ops) h.ops ∙ erase_last page_of o first.ops fresh)
 
 -- the page may be unlocked
-pub may-unlock : (made : SweptMade) (page freed : ℕ) (g : Geometry) (first now : View) (o : Op) → HasLocked made page freed g first now o → IsSomeAnd (op_on now page) (MayUnlock g)
+pub may-unlock : (made : SweptMade) (page freed : ℕ) (g : Geometry) (first now : View) (o : Op) → HasPageLocked made page freed g first now o → IsSomeAnd (op_on now page) (MayUnlock g)
 may-unlock made page freed g first now o h =
     let flushed : IsSomeAnd (Some o) (MayUnlock g) = record { back = h.taken; flushed = record { made = h.due; seen = rw h.flush tt }; phase = rw h.held (λ e. cc e) } in
     let P : Option Op → Type 0 = λ x. IsSomeAnd x (MayUnlock g) in
     subst P (sym (op-there made page freed g first now o h)) flushed
 
 -- something is known of the operation
-pub known-there : (made : SweptMade) (page freed : ℕ) (g : Geometry) (first now : View) (o : Op) (Said : Op → Type 0) → HasLocked made page freed g first now o → Said o → IsSomeAnd (op_on now page) Said
+pub known-there : (made : SweptMade) (page freed : ℕ) (g : Geometry) (first now : View) (o : Op) (Said : Op → Type 0) → HasPageLocked made page freed g first now o → Said o → IsSomeAnd (op_on now page) Said
 known-there made page freed g first now o Said h said = let P : Option Op → Type 0 = λ x. IsSomeAnd x Said in subst P (sym (op-there made page freed g first now o h)) said
 
 -- an operation is as it may be unlocked where another is
@@ -142,8 +142,8 @@ pub record KeepsHeld (old new : Op) : Type 0 where
   pub flush : new.flush ≡ old.flush
 
 -- a Read or a SetShadow leaves the page locked
-locked-edit : (made : SweptMade) (page freed : ℕ) (g : Geometry) (first now : View) (o : Op) (f : Op → Op) (owned : List Owned) → HasLocked made page freed g first now o → KeepsHeld o (f o)
-    → HasLocked made page freed g first (record now { ops = edit page_of page f now.ops; owned = owned }) (f o)
+locked-edit : (made : SweptMade) (page freed : ℕ) (g : Geometry) (first now : View) (o : Op) (f : Op → Op) (owned : List Owned) → HasPageLocked made page freed g first now o → KeepsHeld o (f o)
+    → HasPageLocked made page freed g first (record now { ops = edit page_of page f now.ops; owned = owned }) (f o)
 locked-edit made page freed g first now o f owned h k = record {
   at = h.at;
   of = k.page ∙ h.of;
@@ -283,7 +283,7 @@ discarded made page freed master shadow g first now later at acted =
     })
 
 -- all but the frames and the scan is as it was
-unlocked-rest : (made : SweptMade) (page freed : ℕ) (g : Geometry) (first now : View) (o : Op) → HasLocked made page freed g first now o
+unlocked-rest : (made : SweptMade) (page freed : ℕ) (g : Geometry) (first now : View) (o : Op) → HasPageLocked made page freed g first now o
     → record now { ops = erase page_of page now.ops; owned = spoiled page now.owned } ≡ record first { owned = spoiled page now.owned; scan = now.scan }
 unlocked-rest made page freed g first now o h =
     ap (λ (v : View). record v { ops = erase page_of page now.ops; owned = spoiled page now.owned }) h.rest

@@ -53,26 +53,26 @@ abbrev pub Discards : Geometry → ℕ → ℕ → ℕ → ℕ → (ℕ → Own 
 Discards g page master shadow freed after = Follows (IsAct (SetShadow page master None) g) (λ set. Follows (IsAct (Unlock page) g) (λ unlocked. PutsBack g shadow freed after))
 
 -- the page is unlocked as it is
-abbrev pub Leaves : Geometry → ℕ → ℕ → (ℕ → Own → ℕ → Type 0) → Own → ℕ → Type 0
-Leaves g page freed after = Follows (IsAct (Unlock page) g) (λ unlocked. after freed)
+abbrev pub LeavesPage : Geometry → ℕ → ℕ → (ℕ → Own → ℕ → Type 0) → Own → ℕ → Type 0
+LeavesPage g page freed after = Follows (IsAct (Unlock page) g) (λ unlocked. after freed)
 
 -- by the shadow word of its home
-abbrev pub AfterShadow : Geometry → ReclaimMade → ℕ → ℕ → ℕ → ℕ → (ℕ → Own → ℕ → Type 0) → Own → ℕ → Type 0
-AfterShadow g made page master word freed after = Either (is_shadow_in g made.tier word) (Discards g page master (shadow_frame word) freed after) (Leaves g page freed after)
+abbrev pub VisitAfterShadow : Geometry → ReclaimMade → ℕ → ℕ → ℕ → ℕ → (ℕ → Own → ℕ → Type 0) → Own → ℕ → Type 0
+VisitAfterShadow g made page master word freed after = Either (is_shadow_in g made.tier word) (Discards g page master (shadow_frame word) freed after) (LeavesPage g page freed after)
 
 -- by its home word
-abbrev pub AfterHome : Geometry → ReclaimMade → ℕ → ℕ → ℕ → (ℕ → Own → ℕ → Type 0) → Own → ℕ → Type 0
-AfterHome g made page word freed after =
-    Either (word == 0) (Leaves g page freed after) (Follows (IsAct (Read page (Shadow (word - 1))) g) (λ reply. AfterShadow g made page (word - 1) (word_in reply) freed after))
+abbrev pub VisitAfterHome : Geometry → ReclaimMade → ℕ → ℕ → ℕ → (ℕ → Own → ℕ → Type 0) → Own → ℕ → Type 0
+VisitAfterHome g made page word freed after =
+    Either (word == 0) (LeavesPage g page freed after) (Follows (IsAct (Read page (Shadow (word - 1))) g) (λ reply. VisitAfterShadow g made page (word - 1) (word_in reply) freed after))
 
 -- by the answer to Lock: where that is Busy, the next page
-abbrev pub AfterLock : Geometry → ReclaimMade → ℕ → Reply → ℕ → (ℕ → Own → ℕ → Type 0) → Own → ℕ → Type 0
-AfterLock g made page Done freed after = Follows (IsAct (Read page (Home page)) g) (λ reply. AfterHome g made page (word_in reply) freed after)
-AfterLock g made page _ freed after = after freed
+abbrev pub VisitAfterLock : Geometry → ReclaimMade → ℕ → Reply → ℕ → (ℕ → Own → ℕ → Type 0) → Own → ℕ → Type 0
+VisitAfterLock g made page Done freed after = Follows (IsAct (Read page (Home page)) g) (λ reply. VisitAfterHome g made page (word_in reply) freed after)
+VisitAfterLock g made page _ freed after = after freed
 
 -- a page is visited unless enough are freed
 abbrev pub Visits : Geometry → ReclaimMade → ℕ → ℕ → (ℕ → Own → ℕ → Type 0) → Own → ℕ → Type 0
-Visits g made page freed after = Either (nat_lt freed (most_freed made)) (Follows (IsAct (Lock page) g) (λ reply. AfterLock g made page reply freed after)) (after freed)
+Visits g made page freed after = Either (nat_lt freed (most_freed made)) (Follows (IsAct (Lock page) g) (λ reply. VisitAfterLock g made page reply freed after)) (after freed)
 
 -- the pages of a list are visited in order, and the outcome is the number freed
 abbrev pub VisitsAll : Geometry → ReclaimMade → List ℕ → ℕ → Own → ℕ → Type 0

@@ -38,34 +38,34 @@ use Rattle.nm_reclaim.specs.declared.sweep.Stage.{Stage}
 use Rattle.nm_reclaim.specs.declared.sweep.Stage.TheVariants.{New, Locking, ReadingHome, ReadingShadow, Discarding, Freeing, PuttingBack, Unlocking}
 use Rattle.nm_reclaim.specs.declared.sweep.Sweep.{Sweep}
 use Rattle.nm_reclaim.specs.declared.sweep.SweepMade.{SweepMade}
-use Rattle.nm_reclaim.specs.Reclaims.{is_skipped, pages_from, most_freed, word_in, PutsBack, Leaves, AfterShadow, AfterHome, AfterLock, VisitsAll}
+use Rattle.nm_reclaim.specs.Reclaims.{is_skipped, pages_from, most_freed, word_in, PutsBack, LeavesPage, VisitAfterShadow, VisitAfterHome, VisitAfterLock, VisitsAll}
 use Rattle.nm_reclaim.specs.Swept.{MayReclaim, IsForgotten, IsSwept}
 
 -- Pieces: a single action, or a frame put back.
 
-abbrev pub Made : Type 0
-Made = Or Action PoolMade
+abbrev pub SweepPieceMade : Type 0
+SweepPieceMade = Or Action PoolMade
 
-abbrev pub End : Type 0
-End = Or Reply PoolEnd
+abbrev pub SweepPieceEnd : Type 0
+SweepPieceEnd = Or Reply PoolEnd
 
-abbrev pub action_of : Act → Action
-action_of a = a.action
+abbrev pub act_made : Act → Action
+act_made a = a.action
 
-abbrev pub piece_made : Or Act PoolTask → Made
-piece_made piece = or_made action_of made_of piece
+abbrev pub sweep_piece_made : Or Act PoolTask → SweepPieceMade
+sweep_piece_made piece = or_made act_made made_of piece
 
-abbrev pub IsNewPiece : Or Act PoolTask → Type 0
-IsNewPiece piece = IsNewOr (λ (a : Act). Unit {0}) IsNewPool piece
+abbrev pub IsNewSweepPiece : Or Act PoolTask → Type 0
+IsNewSweepPiece piece = IsNewOr (λ (a : Act). Unit {0}) IsNewPool piece
 
-abbrev pub MayPiece : Made → Geometry → View → Type 0
-MayPiece = MayBeginOr (λ action g view. MayAct g view action) given.MayBegin
+abbrev pub MaySweepPiece : SweepPieceMade → Geometry → View → Type 0
+MaySweepPiece = MayBeginOr (λ action g view. MayAct g view action) given.MayBegin
 
-abbrev pub IsPiece : Made → Geometry → Own → End → Type 0
-IsPiece = IsOr IsAct (λ (made : PoolMade) g own end. IsPool g made.job own end)
+abbrev pub IsSweepPiece : SweepPieceMade → Geometry → Own → SweepPieceEnd → Type 0
+IsSweepPiece = IsOr IsAct (λ (made : PoolMade) g own end. IsPool g made.job own end)
 
-abbrev pub LeavesPiece : Made → Geometry → View → End → View → Type 0
-LeavesPiece = LeavesOr (λ action g view reply left. IsActed g view action reply left) (λ (made : PoolMade) g view end left. given.Leaves g made.job view end left)
+abbrev pub LeavesSweepPiece : SweepPieceMade → Geometry → View → SweepPieceEnd → View → Type 0
+LeavesSweepPiece = LeavesOr (λ action g view reply left. IsActed g view action reply left) (λ (made : PoolMade) g view end left. given.Leaves g made.job view end left)
 
 -- What a sweep is made with.
 
@@ -76,7 +76,7 @@ abbrev pub sweep_made : Geometry → SweepMade → SweptMade
 sweep_made g made = (g, made)
 
 -- a page is visited: it is there, and not skipped; and not enough are freed before
-pub record IsVisited (g : Geometry) (asked : ReclaimMade) (page freed : ℕ) : Type 0 where
+pub record IsPageVisited (g : Geometry) (asked : ReclaimMade) (page freed : ℕ) : Type 0 where
   pub exists : IsPage g page
   pub other : is_skipped asked.skip page ≡ false
   pub few : nat_lt freed (most_freed asked) ≡ true
@@ -85,7 +85,7 @@ pub record IsVisited (g : Geometry) (asked : ReclaimMade) (page freed : ℕ) : T
 pub record MaySweep (made : SweptMade) (g : Geometry) (view : View) : Type 0 where
   pub same : made.0 ≡ g
   pub may : MayReclaim made.1.asked g view
-  pub visits : IsVisited g made.1.asked made.1.first 0
+  pub visits : IsPageVisited g made.1.asked made.1.first 0
 
 abbrev pub IsSweep : SweptMade → Geometry → Own → ℕ → Type 0
 IsSweep made g = VisitsAll g made.1.asked (pages_from g made.1.asked.skip made.1.first) 0
@@ -104,45 +104,45 @@ HasFrame g (PuttingBack shadow) = IsFrame g shadow
 HasFrame g _ = Unit {0}
 
 -- the action of a stage
-abbrev pub action_at : ℕ → Stage → Action
-action_at page New = Lock page
-action_at page Locking = Lock page
-action_at page ReadingHome = Read page (Home page)
-action_at page (ReadingShadow master) = Read page (Shadow master)
-action_at page (Discarding master shadow) = SetShadow page master None
-action_at page (Freeing shadow) = Unlock page
-action_at page (PuttingBack shadow) = Unlock page
-action_at page Unlocking = Unlock page
+abbrev pub sweep_action : ℕ → Stage → Action
+sweep_action page New = Lock page
+sweep_action page Locking = Lock page
+sweep_action page ReadingHome = Read page (Home page)
+sweep_action page (ReadingShadow master) = Read page (Shadow master)
+sweep_action page (Discarding master shadow) = SetShadow page master None
+sweep_action page (Freeing shadow) = Unlock page
+sweep_action page (PuttingBack shadow) = Unlock page
+sweep_action page Unlocking = Unlock page
 
-abbrev pub piece_of : Geometry → ℕ → Stage → Made
-piece_of g page (PuttingBack shadow) = Other (pool_made g (Back shadow))
-piece_of g page stage = This (action_at page stage)
+abbrev pub sweep_piece_of : Geometry → ℕ → Stage → SweepPieceMade
+sweep_piece_of g page (PuttingBack shadow) = Other (pool_made g (Back shadow))
+sweep_piece_of g page stage = This (sweep_action page stage)
 
-abbrev pub piece_at : Geometry → Place → Made
-piece_at g place = piece_of g place.page place.stage
+abbrev pub sweep_piece_at : Geometry → Place → SweepPieceMade
+sweep_piece_at g place = sweep_piece_of g place.page place.stage
 
 -- the reply that an action ended with
-abbrev pub reply_in : End → Reply
-reply_in (This reply) = reply
-reply_in (Other end) = replies.Done
+abbrev pub reply_of_piece : SweepPieceEnd → Reply
+reply_of_piece (This reply) = reply
+reply_of_piece (Other end) = replies.Done
 
 -- the visits from this page on
 abbrev pub VisitsFrom : Geometry → ReclaimMade → ℕ → ℕ → Own → ℕ → Type 0
 VisitsFrom g asked page freed = VisitsAll g asked (pages_from g asked.skip page) freed
 
 -- what is left after the piece of a stage, by how that ends
-abbrev pub left_by : ReclaimMade → ℕ → ℕ → Stage → Geometry → End → Own → ℕ → Type 0
-left_by asked page freed New g end = VisitsFrom g asked page freed
-left_by asked page freed Locking g end = AfterLock g asked page (reply_in end) freed (λ next. VisitsFrom g asked (page + 1) next)
-left_by asked page freed ReadingHome g end = AfterHome g asked page (word_in (reply_in end)) freed (λ next. VisitsFrom g asked (page + 1) next)
-left_by asked page freed (ReadingShadow master) g end = AfterShadow g asked page master (word_in (reply_in end)) freed (λ next. VisitsFrom g asked (page + 1) next)
-left_by asked page freed (Discarding master shadow) g end = Leaves g page freed (λ next. PutsBack g shadow next (λ all. VisitsFrom g asked (page + 1) all))
-left_by asked page freed (Freeing shadow) g end = PutsBack g shadow freed (λ next. VisitsFrom g asked (page + 1) next)
-left_by asked page freed (PuttingBack shadow) g end = VisitsFrom g asked (page + 1) (freed + 1)
-left_by asked page freed Unlocking g end = VisitsFrom g asked (page + 1) freed
+abbrev pub sweep_left_by : ReclaimMade → ℕ → ℕ → Stage → Geometry → SweepPieceEnd → Own → ℕ → Type 0
+sweep_left_by asked page freed New g end = VisitsFrom g asked page freed
+sweep_left_by asked page freed Locking g end = VisitAfterLock g asked page (reply_of_piece end) freed (λ next. VisitsFrom g asked (page + 1) next)
+sweep_left_by asked page freed ReadingHome g end = VisitAfterHome g asked page (word_in (reply_of_piece end)) freed (λ next. VisitsFrom g asked (page + 1) next)
+sweep_left_by asked page freed (ReadingShadow master) g end = VisitAfterShadow g asked page master (word_in (reply_of_piece end)) freed (λ next. VisitsFrom g asked (page + 1) next)
+sweep_left_by asked page freed (Discarding master shadow) g end = LeavesPage g page freed (λ next. PutsBack g shadow next (λ all. VisitsFrom g asked (page + 1) all))
+sweep_left_by asked page freed (Freeing shadow) g end = PutsBack g shadow freed (λ next. VisitsFrom g asked (page + 1) next)
+sweep_left_by asked page freed (PuttingBack shadow) g end = VisitsFrom g asked (page + 1) (freed + 1)
+sweep_left_by asked page freed Unlocking g end = VisitsFrom g asked (page + 1) freed
 
-abbrev pub left_at : SweptMade → Place → Geometry → End → Own → ℕ → Type 0
-left_at made place g end = left_by made.1.asked place.page place.freed place.stage g end
+abbrev pub sweep_left : SweptMade → Place → Geometry → SweepPieceEnd → Own → ℕ → Type 0
+sweep_left made place g end = sweep_left_by made.1.asked place.page place.freed place.stage g end
 
 -- What is known at a stage.
 
@@ -160,7 +160,7 @@ pub record IsBetween (made : SweptMade) (page freed : ℕ) (g : Geometry) (first
   pub swept : IsSwept made.1.asked.skip first now
 
 -- the page is locked, by this operation: nothing is taken out of the table, and no flush is owed
-pub record HasLocked (made : SweptMade) (page freed : ℕ) (g : Geometry) (first now : View) (o : Op) : Type 0 where
+pub record HasPageLocked (made : SweptMade) (page freed : ℕ) (g : Geometry) (first now : View) (o : Op) : Type 0 where
   pub at : IsAtPage made page freed g first
   pub of : o.page ≡ page
   pub held : o.phase ≡ Held
@@ -173,13 +173,13 @@ pub record HasLocked (made : SweptMade) (page freed : ℕ) (g : Geometry) (first
 -- the page is locked, and the frames are those that were owned at first
 pub record IsLocked (made : SweptMade) (page freed : ℕ) (g : Geometry) (first now : View) : Type 0 where
   pub op : Op
-  pub locked : HasLocked made page freed g first now op
+  pub locked : HasPageLocked made page freed g first now op
   pub owned : IsForgotten made.1.asked.skip first.owned now.owned
 
 -- nothing is known of the page
 pub record IsReadingHome (made : SweptMade) (page freed : ℕ) (g : Geometry) (first now : View) : Type 0 where
   pub op : Op
-  pub locked : HasLocked made page freed g first now op
+  pub locked : HasPageLocked made page freed g first now op
   pub owned : IsForgotten made.1.asked.skip first.owned now.owned
   pub home : op.home ≡ None
   pub shadow : op.shadow ≡ None
@@ -187,7 +187,7 @@ pub record IsReadingHome (made : SweptMade) (page freed : ℕ) (g : Geometry) (f
 -- its home is known
 pub record IsReadingShadow (made : SweptMade) (page freed master : ℕ) (g : Geometry) (first now : View) : Type 0 where
   pub op : Op
-  pub locked : HasLocked made page freed g first now op
+  pub locked : HasPageLocked made page freed g first now op
   pub owned : IsForgotten made.1.asked.skip first.owned now.owned
   pub frame : IsFrame g master
   pub home : op.home ≡ Some (home_word master)
@@ -196,7 +196,7 @@ pub record IsReadingShadow (made : SweptMade) (page freed master : ℕ) (g : Geo
 -- so is its shadow, which is not owned yet
 pub record IsDiscarding (made : SweptMade) (page freed master shadow : ℕ) (g : Geometry) (first now : View) : Type 0 where
   pub op : Op
-  pub locked : HasLocked made page freed g first now op
+  pub locked : HasPageLocked made page freed g first now op
   pub owned : IsForgotten made.1.asked.skip first.owned now.owned
   pub word : ℕ
   pub frame : IsFrame g master
@@ -218,7 +218,7 @@ pub record HasShadow (skip : Option ℕ) (shadow : ℕ) (g : Geometry) (first no
 
 pub record IsFreeing (made : SweptMade) (page freed shadow : ℕ) (g : Geometry) (first now : View) : Type 0 where
   pub op : Op
-  pub locked : HasLocked made page freed g first now op
+  pub locked : HasPageLocked made page freed g first now op
   pub owned : HasShadow made.1.asked.skip shadow g first.owned now.owned
 
 pub record IsPuttingBack (made : SweptMade) (page freed shadow : ℕ) (g : Geometry) (first now : View) : Type 0 where
@@ -236,10 +236,10 @@ KnownBy made page freed (Freeing shadow) g first now = IsFreeing made page freed
 KnownBy made page freed (PuttingBack shadow) g first now = IsPuttingBack made page freed shadow g first now
 KnownBy made page freed Unlocking g first now = IsLocked made page freed g first now
 
-abbrev pub sweep_stages : Stages SweptMade Place Made End ℕ
+abbrev pub sweep_stages : Stages SweptMade Place SweepPieceMade SweepPieceEnd ℕ
 sweep_stages = record {
-  piece = λ made place. piece_at made.0 place;
-  left = left_at;
+  piece = λ made place. sweep_piece_at made.0 place;
+  left = sweep_left;
   known = λ made place. KnownBy made place.page place.freed place.stage;
 }
 
@@ -249,23 +249,23 @@ sweep_stages = record {
 abbrev pub after_skip : Option ℕ → ℕ → ℕ
 after_skip skip page = if is_skipped skip page then page + 1 else page
 
-abbrev pub next_page : Geometry → ReclaimMade → ℕ → ℕ → Option ℕ
-next_page g asked page freed = if nat_lt freed (most_freed asked) && nat_lt (after_skip asked.skip page) (page_count g) then Some (after_skip asked.skip page) else None
+abbrev pub next_visited : Geometry → ReclaimMade → ℕ → ℕ → Option ℕ
+next_visited g asked page freed = if nat_lt freed (most_freed asked) && nat_lt (after_skip asked.skip page) (page_count g) then Some (after_skip asked.skip page) else None
 
 -- the next page is visited
-pub record IsVisiting (page freed : ℕ) (old new : Sweep) (piece : Or Act PoolTask) : Type 0 where
+pub record IsNextVisited (page freed : ℕ) (old new : Sweep) (piece : Or Act PoolTask) : Type 0 where
   pub next : ℕ
-  pub some : next_page old.geometry.now old.made.asked page freed ≡ Some next
+  pub some : next_visited old.geometry.now old.made.asked page freed ≡ Some next
   pub new_is : new ≡ record old { place = record { page = next; freed = freed; stage = Locking } }
-  pub made : piece_made piece ≡ This (Lock next)
-  pub fresh : IsNewPiece piece
+  pub made : sweep_piece_made piece ≡ This (Lock next)
+  pub fresh : IsNewSweepPiece piece
 
 -- no page is visited any more
-pub record IsDone (page freed : ℕ) (old new : Sweep) (outcome : ℕ) : Type 0 where
-  pub none : next_page old.geometry.now old.made.asked page freed ≡ None
+pub record IsSweepDone (page freed : ℕ) (old new : Sweep) (outcome : ℕ) : Type 0 where
+  pub none : next_visited old.geometry.now old.made.asked page freed ≡ None
   pub new_is : new ≡ record old { place = record old.place { freed = freed } }
   pub is : outcome ≡ freed
 
 abbrev pub IsNextVisit : ℕ → ℕ → Sweep → Sweep → Next (Or Act PoolTask) ℕ → Type 0
-IsNextVisit page freed old new (Run piece) = IsVisiting page freed old new piece
-IsNextVisit page freed old new (Over outcome) = IsDone page freed old new outcome
+IsNextVisit page freed old new (Run piece) = IsNextVisited page freed old new piece
+IsNextVisit page freed old new (Over outcome) = IsSweepDone page freed old new outcome

@@ -10,7 +10,7 @@ use Rattle.nm_event.specs.After.{filled}
 use Rattle.nm_reclaim.specs.declared.sweep.ReclaimMade.{ReclaimMade}
 
 -- there is no operation but one on the skipped page
-pub record IsAlone (skip : Option ℕ) (ops : List Op) : Type 0 where
+pub record HasOnlySkipped (skip : Option ℕ) (ops : List Op) : Type 0 where
   pub few : length ops ≤ 1
   pub named : All (λ o. skip ≡ Some o.page) ops
 
@@ -18,7 +18,7 @@ pub record IsAlone (skip : Option ℕ) (ops : List Op) : Type 0 where
 pub record MayReclaim (made : ReclaimMade) (g : Geometry) (view : View) : Type 0 where
   pub geometry : IsGeometry g
   pub tier : IsTier g made.tier
-  pub ops : IsAlone made.skip view.ops
+  pub ops : HasOnlySkipped made.skip view.ops
   pub turn : view.turn ≡ None
 
 -- what a frame holds is known by a page other than the skipped one

@@ -14,11 +14,11 @@ use Rattle.nm_reclaim.specs.declared.task.ReclaimTask.{ReclaimTask}
 use Rattle.nm_reclaim.specs.declared.task.Work.{Work}
 use Rattle.nm_reclaim.specs.declared.task.Work.TheVariants.{Nothing, Visits}
 use Rattle.nm_reclaim.specs.Swept.{MayReclaim}
-use Rattle.nm_reclaim.specs.Sweeping.{next_page, SweptMade}
+use Rattle.nm_reclaim.specs.Sweeping.{next_visited, SweptMade}
 
 -- the first page that is visited
-abbrev pub first_page : Geometry → ReclaimMade → Option ℕ
-first_page g made = if made.tier == 0 then None else next_page g made 0 0
+abbrev pub first_visited : Geometry → ReclaimMade → Option ℕ
+first_visited g made = if made.tier == 0 then None else next_visited g made 0 0
 
 abbrev pub TaskMade : Type 0
 TaskMade = Geometry × ReclaimMade
@@ -37,7 +37,7 @@ pub record MayTask (made : TaskMade) (g : Geometry) (view : View) : Type 0 where
 pub record IsSweepFor (made : TaskMade) (sweep : SweptMade) : Type 0 where
   pub same : sweep.0 ≡ made.0
   pub asked : sweep.1.asked ≡ made.1
-  pub first : first_page made.0 made.1 ≡ Some sweep.1.first
+  pub first : first_visited made.0 made.1 ≡ Some sweep.1.first
 
 -- there is nothing to visit, or the sweep has given no action
 pub record IsNewSweep (is_new : Type 0) (made : TaskMade) (sweep : SweptMade) : Type 0 where
@@ -45,7 +45,7 @@ pub record IsNewSweep (is_new : Type 0) (made : TaskMade) (sweep : SweptMade) : 
   pub for : IsSweepFor made sweep
 
 abbrev pub IsNewWork : (Composite Sweep (Or Act PoolTask) → Type 0) → (Composite Sweep (Or Act PoolTask) → SweptMade) → TaskMade → Work → Type 0
-IsNewWork is_new sweep_by made Nothing = first_page made.0 made.1 ≡ None
+IsNewWork is_new sweep_by made Nothing = first_visited made.0 made.1 ≡ None
 IsNewWork is_new sweep_by made (Visits work) = IsNewSweep (is_new work) made (sweep_by work)
 
 -- the sweep awaits the answer

@@ -4,7 +4,7 @@ ghost use Rattle.std.specs.Prelude.{◌≡◌, ◌≢◌, ◌<◌, ◌+◌, ◌^
 ghost use Rattle.nm_base.specs.Geometry.{frame_count};
 ghost use Rattle.nm_base.specs.ShadowWord.{shadow_frame};
 ghost use Rattle.nm_reclaim.specs.Reclaims.{is_skipped, is_shadow_in};
-ghost use Rattle.nm_reclaim.specs.Sweeping.{new_place, next_page, piece_made, piece_at, IsNewPiece, HasFrame, IsNextVisit};
+ghost use Rattle.nm_reclaim.specs.Sweeping.{new_place, next_visited, sweep_piece_made, sweep_piece_at, IsNewSweepPiece, HasFrame, IsNextVisit};
 
 use nm_base::Geometry;
 use nm_base::shadow_word::shadow_frame;
@@ -101,8 +101,8 @@ impl<'a> Sweep<'a> {
     fn go(&mut self, stage: Stage) -> Piece
         requires { HasFrame self.old.geometry.now stage }
         ensures stage { self.new ≡ record self.old { place = record self.old.place { stage = stage } } }
-        ensures made { piece_made result ≡ piece_at self.old.geometry.now self.new.place }
-        ensures new { IsNewPiece result }
+        ensures made { sweep_piece_made result ≡ sweep_piece_at self.old.geometry.now self.new.place }
+        ensures new { IsNewSweepPiece result }
     {
         self.place.stage = stage;
         let page = self.place.page;
@@ -137,7 +137,7 @@ impl<'a> Sweep<'a> {
         ensures { IsNextVisit page freed self.old self.new result }
     {
         self.place.freed = freed;
-        match next_page(self.geometry, self.made.asked, page, freed) {
+        match next_visited(self.geometry, self.made.asked, page, freed) {
             Some(page) => {
                 self.place.page = page;
                 Next::Run(self.go(Stage::Locking))
@@ -148,14 +148,14 @@ impl<'a> Sweep<'a> {
 }
 
 /// The next page that is visited, from this one on; none where enough are freed or there is none.
-pub(crate) fn next_page(
+pub(crate) fn next_visited(
     geometry: &Geometry,
     made: ReclaimMade,
     page: u32,
     freed: u32,
 ) -> Option<u32>
     requires { page + 1 < 2 ^ 32 }
-    ensures { result ≡ next_page geometry.now made page freed }
+    ensures { result ≡ next_visited geometry.now made page freed }
 {
     let next = if is_skipped(made.skip, page) {
         page + 1
@@ -194,7 +194,7 @@ impl<'a> Plan<Piece> for Sweep<'a> {
 
     ghost use Rattle.std.specs.Prelude.{◌≡◌};
     ghost use Rattle.nm_compose.specs.Stages.{IsPieceAt};
-    ghost use Rattle.nm_reclaim.specs.Sweeping.{sweep_made, MaySweep, IsSweep, SweepLeaves, sweep_stages, left_at, new_place};
+    ghost use Rattle.nm_reclaim.specs.Sweeping.{sweep_made, MaySweep, IsSweep, SweepLeaves, sweep_stages, sweep_left, new_place};
 
     ghost made = { λ s. sweep_made s.geometry.now s.made };
 
@@ -208,7 +208,7 @@ impl<'a> Plan<Piece> for Sweep<'a> {
 
     ghost knows = { λ s. IsPieceAt sweep_stages (sweep_made s.geometry.now s.made) s.place };
 
-    ghost left = { λ s. left_at (sweep_made s.geometry.now s.made) s.place };
+    ghost left = { λ s. sweep_left (sweep_made s.geometry.now s.made) s.place };
 
     ghost ended = { λ s g freed. s.place.freed ≡ freed };
 

@@ -3,7 +3,7 @@
 ghost use Rattle.std.specs.Prelude.{◌≡◌};
 ghost use Rattle.nm_reclaim.specs.Tasks.{task_made, IsNewWork, freed_by};
 
-use crate::sweep::{Piece, ReclaimMade, Sweep, SweepMade, next_page};
+use crate::sweep::{Piece, ReclaimMade, Sweep, SweepMade, next_visited};
 use nm_base::Geometry;
 use nm_compose::Composite;
 use nm_event::{Reply, Step};
@@ -55,7 +55,7 @@ impl<'a> ReclaimTask<'a> {
         let first = if tier == 0 {
             None
         } else {
-            next_page(self.geometry, self.asked, 0, 0)
+            next_visited(self.geometry, self.asked, 0, 0)
         };
         self.work = match first {
             Some(first) => Work::Visits(Composite::new(Sweep::new(
