@@ -1,0 +1,6 @@
+pub mod Lasts
+pub mod Pages
+pub mod Ending
+pub mod Views
+pub mod Sweeping
+pub mod Tasks

@@ -1,0 +1,4 @@
+pub mod Reclaims
+pub mod Swept
+pub mod Sweeping
+pub mod Tasks

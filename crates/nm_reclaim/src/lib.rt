@@ -1,0 +1,8 @@
+//! Reclaim: shadows in a tier are discarded, page by page, until enough frames of it are free.
+#![tactic(auto)]
+
+pub mod sweep;
+pub mod task;
+
+pub use sweep::ReclaimMade;
+pub use task::ReclaimTask;
