@@ -20,7 +20,7 @@ use Rattle.nm_core.specs.EndWords.{EndWords, IsEndOf}
 use Rattle.nm_core.specs.Kept.{IsKept}
 use Rattle.nm_core.specs.Runs.{IsRun, IsRunFrom, after_event, state_after}
 use Rattle.nm_core.specs.State.{State, state_of, actor_count, start}
-use Rattle.nm_laws.proofs.EachRun.{IsLawful, lawful_run}
+use Rattle.nm_runs.proofs.EachRun.{IsLawful, lawful_run}
 use Rattle.nm_rule.specs.declared.known.Progress.{Progress}
 use Rattle.nm_rule.specs.declared.known.ActorSeat.{ActorSeat}
 use Rattle.nm_rule.specs.declared.known.ActorSeat.TheVariants.{Unsplit, Out, Back}

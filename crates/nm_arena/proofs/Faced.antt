@@ -23,7 +23,7 @@ use Rattle.nm_event.specs.After.{after_of}
 use Rattle.nm_shape.specs.Shape.{HasShape}
 use Rattle.nm_core.specs.State.{actor_count}
 use Rattle.nm_core.proofs.Starts.{view_of-start}
-use Rattle.nm_laws.proofs.EachRun.{all_in_run}
+use Rattle.nm_runs.proofs.EachRun.{all_in_run}
 use Rattle.nm_rule.specs.declared.known.Progress.{Progress}
 use Rattle.nm_rule.specs.declared.known.ActorSeat.{ActorSeat}
 use Rattle.nm_rule.specs.declared.known.ActorSeat.TheVariants.{Unsplit, Out, Back}

@@ -9,6 +9,7 @@ use Rattle.nm_action.specs.declared.action.Event.{Event}
 use Rattle.nm_action.specs.declared.action.Reply.TheVariants.{Done}
 use Rattle.nm_core.specs.Runs.{IsStep, IsRun, IsRunFrom, after_event, state_from, state_after}
 use Rattle.nm_core.specs.State.{State, start}
+use Rattle.nm_runs.proofs.Longer.{state_from-more, run_from-more}
 use Rattle.nm_laws.specs.Lists.{IsFirstFailure}
 use Rattle.nm_laws.specs.declared.lists.RunEnd.TheVariants.{Whole, Fails}
 
@@ -20,16 +21,6 @@ no_event = record { actor = 0; action = Load 0 0; reply = Done }
 pub geometry-from : (s : State) (events : List Event) → (state_from s events).geometry ≡ s.geometry
 geometry-from s [] = refl
 geometry-from s (e ∷ events) = geometry-from (after_event s e) events
-
--- the state after one event more
-pub state_from-more : (s : State) (events : List Event) (e : Event) → state_from s (events ++ e ∷ []) ≡ after_event (state_from s events) e
-state_from-more s [] e = refl
-state_from-more s (x ∷ events) e = state_from-more (after_event s x) events e
-
--- a run with one step more
-pub run_from-more : (s : State) (events : List Event) (e : Event) → IsRunFrom s events → IsStep (state_from s events) e → IsRunFrom s (events ++ e ∷ [])
-run_from-more s [] e run made = (made, tt)
-run_from-more s (x ∷ events) e run made = (run.0, run_from-more (after_event s x) events e run.1 made)
 
 -- each event of a run is a step
 pub step_in_run : (s : State) (front : List Event) (e : Event) (rest : List Event) → IsRunFrom s (front ++ e ∷ rest) → IsStep (state_from s front) e

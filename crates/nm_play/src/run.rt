@@ -17,7 +17,7 @@ use nm_action::{Event, Heard, Turn};
 use nm_base::Geometry;
 use nm_core::State;
 use nm_core::runs::own_list_tells_the_view;
-use nm_laws::runs::each_reply_of_a_run_fits;
+use nm_runs::runs::each_reply_of_a_run_fits;
 use nm_queue::RingPort;
 use nm_schedule::{MOST_CANDIDATES, Picker, Played, SimTurn};
 use nm_script::Schedule;

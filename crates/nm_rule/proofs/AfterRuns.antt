@@ -19,8 +19,8 @@ use Rattle.nm_core.specs.State.{State, view_of, place_found, word_found, change_
 use Rattle.nm_core.specs.Runs.{IsStep, IsRun, state_after, after_event}
 use Rattle.nm_core.proofs.Owns.{view_after-run}
 use Rattle.nm_core.proofs.Steps.{place_there}
-use Rattle.nm_laws.proofs.EachRun.{IsLawful, lawful_run}
-use Rattle.nm_laws.proofs.Following.{state_from-more, run_from-more}
+use Rattle.nm_runs.proofs.EachRun.{IsLawful, lawful_run}
+use Rattle.nm_runs.proofs.Longer.{state_from-more, run_from-more}
 use Rattle.nm_rule.specs.Knows.{event_by}
 use Rattle.nm_rule.proofs.Parts.{own_of-same, own_of-other}
 

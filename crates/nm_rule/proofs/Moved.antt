@@ -20,7 +20,7 @@ use Rattle.nm_core.specs.State as core
 use Rattle.nm_core.specs.Causes.{Refuses}
 use Rattle.nm_core.specs.Runs.{IsRun, IsStep, state_after}
 use Rattle.nm_core.proofs.Causes.{busy_at, lost_at, refused_same}
-use Rattle.nm_laws.proofs.EachRun.{IsLawful, lawful_run, fits_in_run}
+use Rattle.nm_runs.proofs.EachRun.{IsLawful, lawful_run, fits_in_run}
 use Rattle.nm_rule.specs.declared.known.Progress.{Progress}
 use Rattle.nm_rule.specs.declared.known.ActorSeat.{ActorSeat}
 use Rattle.nm_rule.specs.declared.known.Knowledge.{Knowledge}
