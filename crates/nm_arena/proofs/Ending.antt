@@ -32,7 +32,7 @@ use Rattle.nm_rule.proofs.Shared.{ends}
 use Rattle.nm_arena.specs.declared.seat.Held.TheVariants.{First}
 use Rattle.nm_arena.specs.Faces.{SeatFace}
 use Rattle.nm_arena.specs.Mirrors.{own_by, view_in, seat_face}
-use Rattle.nm_arena.specs.Seats.{IsOut}
+use Rattle.nm_arena.specs.Seats.{IsSplitOut}
 use Rattle.nm_arena.specs.Ends.{own_lists, IsEndOfRun}
 use Rattle.nm_arena.specs.Views.{views_in}
 use Rattle.nm_arena.proofs.Flats.{same_at_each, words_same}
@@ -52,7 +52,7 @@ own_none s (e ∷ events) actor run past =
     drop_if (e.actor == actor) (e.action, e.reply) (own_of actor events) (ne_eqb e.actor actor away) (own_none (after_event s e) events actor run.1 past)
 
 -- an actor whose seat is not out is known to have come some way
-known_in : (seat : ActorSeat) → ¬ IsOut seat → (p : Progress) × (progress_by seat ≡ Some p)
+known_in : (seat : ActorSeat) → ¬ IsSplitOut seat → (p : Progress) × (progress_by seat ≡ Some p)
 known_in (Unsplit p) not = (p, refl)
 known_in Out not = absurd (not tt)
 known_in (Back p) not = (p, refl)
@@ -62,7 +62,7 @@ view_known (Unsplit q) p is = let e : q ≡ p = cc in ap (λ x. Some x.view) e
 view_known Out p is = absurd (cc)
 view_known (Back q) p is = let e : q ≡ p = cc in ap (λ x. Some x.view) e
 
-merged : (g : Geometry) (seats : List ActorSeat) (run : List Event) → IsRun g run → length seats ≡ actor_count g → ((q : ℕ) (p : Progress) → progress_by (seat_of seats q) ≡ Some p → IsProgress g run q p) → ((q : ℕ) → IsActor g q → ¬ IsOut (seat_of seats q)) → IsMerge (own_lists seats) run
+merged : (g : Geometry) (seats : List ActorSeat) (run : List Event) → IsRun g run → length seats ≡ actor_count g → ((q : ℕ) (p : Progress) → progress_by (seat_of seats q) ≡ Some p → IsProgress g run q p) → ((q : ℕ) → IsActor g q → ¬ IsSplitOut (seat_of seats q)) → IsMerge (own_lists seats) run
 merged g seats run is count known back actor = elim (cases_lt actor (actor_count g)) [
   | inl there ↦
       let has : (p : Progress) × (progress_by (seat_of seats actor) ≡ Some p) = known_in (seat_of seats actor) (back actor there) in
@@ -74,7 +74,7 @@ merged g seats run is count known back actor = elim (cases_lt actor (actor_count
 -- The state.
 
 -- all views are there, and are those of the state
-kept_same : (g : Geometry) (seats : List ActorSeat) (run : List Event) (kept : List (Option View)) → IsLawful g (state_after g run) → length seats ≡ actor_count g → kept ≡ map view_in seats → ((q : ℕ) (p : Progress) → progress_by (seat_of seats q) ≡ Some p → IsProgress g run q p) → ((q : ℕ) → IsActor g q → ¬ IsOut (seat_of seats q)) → kept ≡ map Some (state_after g run).views
+kept_same : (g : Geometry) (seats : List ActorSeat) (run : List Event) (kept : List (Option View)) → IsLawful g (state_after g run) → length seats ≡ actor_count g → kept ≡ map view_in seats → ((q : ℕ) (p : Progress) → progress_by (seat_of seats q) ≡ Some p → IsProgress g run q p) → ((q : ℕ) → IsActor g q → ¬ IsSplitOut (seat_of seats q)) → kept ≡ map Some (state_after g run).views
 kept_same g seats run kept law count are known back =
     let s : State = state_after g run in
     let size : length kept ≡ actor_count g = ap length are ∙ length-map seats view_in ∙ count in
@@ -102,7 +102,7 @@ pub record IsGathered (g : Geometry) (k : Knowledge) (words : Words) (kept : Lis
 parts : {A B C D : Type 0} (f : A → B → C → D) {a b : A} {c d : B} {e h : C} → a ≡ b → c ≡ d → e ≡ h → f a c e ≡ f b d h
 parts f p q r = cc
 
-gathered_at : (g : Geometry) (k : Knowledge) (last : List ℕ) (words : Words) (kept : List (Option View)) → IsGeometry g → IsEnd g k last → HasSizes g words → flat words ≡ last → length k.seats ≡ actor_count g → kept ≡ map view_in k.seats → ((q : ℕ) → IsActor g q → ¬ IsOut (seat_of k.seats q)) → IsGathered g k words kept
+gathered_at : (g : Geometry) (k : Knowledge) (last : List ℕ) (words : Words) (kept : List (Option View)) → IsGeometry g → IsEnd g k last → HasSizes g words → flat words ≡ last → length k.seats ≡ actor_count g → kept ≡ map view_in k.seats → ((q : ℕ) → IsActor g q → ¬ IsSplitOut (seat_of k.seats q)) → IsGathered g k words kept
 gathered_at g k last words kept is end sizes list count are back =
     let s : State = state_after g end.run in
     let law : IsLawful g s = lawful_run g end.run is end.is_run in
@@ -122,7 +122,7 @@ gathered_at g k last words kept is end sizes list count are back =
     }
 
 -- the same, of a closed table
-pub gathered : (g key : Geometry) (seat : ℕ) (k : Knowledge) (last : List ℕ) (slots : List (Unit {0})) (words : Words) (kept : List (Option View)) → key ≡ g → IsGeometry g → Final (Seen (Shows key) seat k) last slots → HasSizes g words → flat words ≡ last → length k.seats ≡ actor_count g → kept ≡ map view_in k.seats → ((q : ℕ) → IsActor g q → ¬ IsOut (seat_of k.seats q)) → IsGathered g k words kept
+pub gathered : (g key : Geometry) (seat : ℕ) (k : Knowledge) (last : List ℕ) (slots : List (Unit {0})) (words : Words) (kept : List (Option View)) → key ≡ g → IsGeometry g → Final (Seen (Shows key) seat k) last slots → HasSizes g words → flat words ≡ last → length k.seats ≡ actor_count g → kept ≡ map view_in k.seats → ((q : ℕ) → IsActor g q → ¬ IsSplitOut (seat_of k.seats q)) → IsGathered g k words kept
 gathered g key seat k last slots words kept keys is final sizes list count are back =
     let end : IsEnd g k last = ends g seat k last slots (subst (λ m. Final (Seen (Shows m) seat k) last slots) keys final) in
     gathered_at g k last words kept is end sizes list count are back

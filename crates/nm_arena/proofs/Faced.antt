@@ -35,7 +35,7 @@ use Rattle.nm_arena.specs.declared.seat.Held.{Held}
 use Rattle.nm_arena.specs.declared.seat.Held.TheVariants.{Actor, First}
 use Rattle.nm_arena.specs.Faces.{ArenaFace, SeatFace}
 use Rattle.nm_arena.specs.Mirrors.{own_by, view_in, seat_face, IsActorView, AreViews, Mirrors}
-use Rattle.nm_arena.specs.Seats.{IsActorSeat, IsFirstSeat, IsUnsplit, IsOut}
+use Rattle.nm_arena.specs.Seats.{IsActorSeat, IsFirstSeat, IsUnsplit, IsSplitOut}
 use Rattle.nm_arena.specs.Views.{IsThere}
 
 -- A seat is that of an actor, or the first.
@@ -191,23 +191,23 @@ grown_view g a r k new v h t = record {
 
 -- Whether all seats are back.
 
-out_none : (seat : ActorSeat) → IsOut seat → view_in seat ≡ None
+out_none : (seat : ActorSeat) → IsSplitOut seat → view_in seat ≡ None
 out_none (Unsplit p) out = absurd out
 out_none Out out = refl
 out_none (Back p) out = absurd out
 
-back_some : (seat : ActorSeat) → ¬ IsOut seat → IsThere (view_in seat)
+back_some : (seat : ActorSeat) → ¬ IsSplitOut seat → IsThere (view_in seat)
 back_some (Unsplit p) back = tt
 back_some Out back = absurd (back tt)
 back_some (Back p) back = tt
 
-pub all_back : (seats : List ActorSeat) (views : List (Option View)) → views ≡ map view_in seats → All IsThere views → (actor : ℕ) → actor < length seats → ¬ IsOut (seat_of seats actor)
+pub all_back : (seats : List ActorSeat) (views : List (Option View)) → views ≡ map view_in seats → All IsThere views → (actor : ℕ) → actor < length seats → ¬ IsSplitOut (seat_of seats actor)
 all_back seats views are all actor lt out =
     let within : actor < length views = omega (arith, lt, ap length are, length-map seats view_in) in
     let none : get_or views actor None ≡ None = view_there seats views actor are ∙ out_none (seat_of seats actor) out in
     subst IsThere none (all actor None within)
 
-pub all_there : (seats : List ActorSeat) (views : List (Option View)) → views ≡ map view_in seats → ((actor : ℕ) → actor < length seats → ¬ IsOut (seat_of seats actor)) → All IsThere views
+pub all_there : (seats : List ActorSeat) (views : List (Option View)) → views ≡ map view_in seats → ((actor : ℕ) → actor < length seats → ¬ IsSplitOut (seat_of seats actor)) → All IsThere views
 all_there seats views are back i d lt =
     let within : i < length seats = omega (arith, lt, ap length are, length-map seats view_in) in
     let same : view_in (seat_of seats i) ≡ get_or views i d = sym (view_there seats views i are) ∙ get_or_default views i None d lt in
@@ -235,7 +235,7 @@ first_of copy g table other seats seen same tables is = record {
   table = tables;
   first = refl;
   count = ap length is ∙ length-map-range_with_len (λ actor. Unsplit (unstarted g actor)) 0 (actor_count g) ∙ ap actor_count (sym same);
-  unsplit = λ q p told. unsplit_start g q p (sym (ap (λ ks. seat_of ks q) is) ∙ told) ∙ ap (λ m. unstarted m q) (sym same);
+  unsplit = λ q p told_of. unsplit_start g q p (sym (ap (λ ks. seat_of ks q) is) ∙ told_of) ∙ ap (λ m. unstarted m q) (sym same);
 }
 
 -- two seats of actors that agree are one

@@ -34,10 +34,10 @@ IsUnsplit Out = ⊥
 IsUnsplit (Back p) = ⊥
 
 -- the seat of an actor was split off, and was not joined back
-abbrev pub IsOut : ActorSeat → Type 0
-IsOut (Unsplit p) = ⊥
-IsOut Out = Unit {0}
-IsOut (Back p) = ⊥
+abbrev pub IsSplitOut : ActorSeat → Type 0
+IsSplitOut (Unsplit p) = ⊥
+IsSplitOut Out = Unit {0}
+IsSplitOut (Back p) = ⊥
 
 -- the seat of an actor that has made no step
 abbrev pub opening_seat : ArenaFace → ℕ → List Event → SeatFace

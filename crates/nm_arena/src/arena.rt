@@ -7,8 +7,8 @@ ghost use Rattle.nm_event.specs.After.{after_of};
 ghost use Rattle.nm_event.specs.Fitting.{Fits};
 ghost use Rattle.nm_core.specs.EndWords.{HasEndRoom};
 ghost use Rattle.nm_rule.specs.Knows.{seat_of, unsplit_seats};
-ghost use Rattle.nm_rule.specs.Steps.{IsMade};
-ghost use Rattle.nm_arena.specs.Seats.{IsActorSeat, IsFirstSeat, IsUnsplit, IsOut, progress_at, opening_seat, without_seat, with_seat};
+ghost use Rattle.nm_rule.specs.Steps.{IsMoveMade};
+ghost use Rattle.nm_arena.specs.Seats.{IsActorSeat, IsFirstSeat, IsUnsplit, IsSplitOut, progress_at, opening_seat, without_seat, with_seat};
 ghost use Rattle.nm_arena.specs.Ends.{IsEndOfRun};
 
 use crate::exchanging::{Board, exchange, split_off};
@@ -131,7 +131,7 @@ impl Arena {
         ensures actor { IsActorSeat self.now seat.new }
         ensures view { seat.new.view ≡ after_of self.now.geometry seat.old.view action result }
         ensures own { seat.new.own ≡ seat.old.own ++ (action, result) ∷ [] }
-        ensures made { IsMade self.now.geometry (progress_at seat.old) action result seat.old.seen seat.new.seen }
+        ensures made { IsMoveMade self.now.geometry (progress_at seat.old) action result seat.old.seen seat.new.seen }
         ensures fits { Fits self.now.geometry seat.old.view action result }
     {
         let Seat { place, held } = seat;
@@ -151,7 +151,7 @@ impl Arena {
     /// geometry. It takes no memory.
     pub fn close(self, seat: Seat, into: &mut EndWords)
         requires first { IsFirstSeat self seat }
-        requires back { (actor : ℕ) → IsActor self.geometry actor → ¬ IsOut (seat_of seat.seats actor) }
+        requires back { (actor : ℕ) → IsActor self.geometry actor → ¬ IsSplitOut (seat_of seat.seats actor) }
         requires room { HasEndRoom self.geometry into.old }
         ensures { IsEndOfRun self.geometry seat into.new }
     {

@@ -2,7 +2,7 @@
 
 ghost use Rattle.std.specs.Prelude.{◌≡◌, ◌↔◌, ◌<◌, ℕ, true, false, length, IsTrue, All};
 ghost use Rattle.nm_rule.specs.Knows.{seat_of};
-ghost use Rattle.nm_arena.specs.Seats.{IsOut};
+ghost use Rattle.nm_arena.specs.Seats.{IsSplitOut};
 ghost use Rattle.nm_arena.specs.Views.{IsThere};
 
 use atomic_table::Seat as Place;
@@ -78,7 +78,7 @@ impl Seat {
     /// Whether no actor's seat is out: each that was split off was joined back. Condition: it is the first seat.
     pub fn are_all_back(&self) -> bool
         requires { self.now.first ≡ true }
-        ensures { IsTrue result ↔ ((actor : ℕ) → actor < length self.now.seats → ¬ IsOut (seat_of self.now.seats actor)) }
+        ensures { IsTrue result ↔ ((actor : ℕ) → actor < length self.now.seats → ¬ IsSplitOut (seat_of self.now.seats actor)) }
     {
         let Held::First(views) = &self.held else {
             unreachable!()

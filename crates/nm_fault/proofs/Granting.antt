@@ -22,7 +22,7 @@ use Rattle.nm_reclaim.specs.Swept.{IsForgotten, IsSwept}
 use Rattle.nm_reclaim.proofs.Lasts.{put_last, erase_last}
 use Rattle.nm_reclaim.proofs.Views.{forgets-none, forgets-more, shadow-spoiled}
 use Rattle.nm_fault.specs.ShadowFault.{needs_grant}
-use Rattle.nm_fault.specs.Granting.{FaultsMade, MayFault, looked_op, with_op, IsAtLook, IsLookedAt, IsGrantNeeded, IsAtShadow, IsAtDiscard, HoldsShadow, IsAtGrant, IsAtUnlock, IsAtBack}
+use Rattle.nm_fault.specs.Granting.{FaultsMade, MayFault, fault_op, with_op, IsAtLook, IsFaultLooked, IsGrantNeeded, IsAtShadow, IsAtDiscard, HoldsShadow, IsAtGrant, IsAtUnlock, IsAtBack}
 
 pub same-number : (n : ℕ) → (n == n) ≡ true
 same-number n = grind arith
@@ -58,19 +58,19 @@ told-there first o owned now page Said is of said =
 
 -- v was looked at
 pub looked-view : (made : FaultsMade) (g : Geometry) (first now later : View) (word : ℕ) → IsAtLook made g first now → IsActed g now (Look made.1.vpage) (Word word) later
-    → later ≡ with_op first (looked_op made.1 first word None None) first.owned
+    → later ≡ with_op first (fault_op made.1 first word None None) first.owned
 looked-view made g first now later word at acted =
     acted.is ∙ (ap (λ (v : View). after_of g v (Look made.1.vpage) (Word word)) at.is
     ∙ rw (at.may.mapped, same-number made.1.page) refl)
 
 -- a word of the page was read
-read-view : (made : FaultsMade) (g : Geometry) (first now later : View) (look word : ℕ) (home shadow : Option ℕ) → now ≡ with_op first (looked_op made.1 first look home shadow) first.owned
-    → IsActed g now (Read made.1.page (Home made.1.page)) (Word word) later → later ≡ with_op first (looked_op made.1 first look (Some word) shadow) first.owned
+read-view : (made : FaultsMade) (g : Geometry) (first now later : View) (look word : ℕ) (home shadow : Option ℕ) → now ≡ with_op first (fault_op made.1 first look home shadow) first.owned
+    → IsActed g now (Read made.1.page (Home made.1.page)) (Word word) later → later ≡ with_op first (fault_op made.1 first look (Some word) shadow) first.owned
 read-view made g first now later look word home shadow is acted =
     acted.is ∙ (ap (λ (v : View). after_of g v (Read made.1.page (Home made.1.page)) (Word word)) is ∙ rw (same-number made.1.page) refl)
 
-read-shadow : (made : FaultsMade) (g : Geometry) (first now later : View) (look word master : ℕ) (home shadow : Option ℕ) → now ≡ with_op first (looked_op made.1 first look home shadow) first.owned
-    → IsActed g now (Read made.1.page (Shadow master)) (Word word) later → later ≡ with_op first (looked_op made.1 first look home (Some word)) first.owned
+read-shadow : (made : FaultsMade) (g : Geometry) (first now later : View) (look word master : ℕ) (home shadow : Option ℕ) → now ≡ with_op first (fault_op made.1 first look home shadow) first.owned
+    → IsActed g now (Read made.1.page (Shadow master)) (Word word) later → later ≡ with_op first (fault_op made.1 first look home (Some word)) first.owned
 read-shadow made g first now later look word master home shadow is acted =
     acted.is ∙ (ap (λ (v : View). after_of g v (Read made.1.page (Shadow master)) (Word word)) is ∙ rw (same-number made.1.page) refl)
 
@@ -81,7 +81,7 @@ present-some word needs none = grind arith
 pub home-known : (made : FaultsMade) (g : Geometry) (first now later : View) (word : ℕ) → IsGrantNeeded made None None g first now → IsActed g now (Read made.1.page (Home made.1.page)) (Word word) later
     → (word ≤ frame_count g) × (word ≢ 0)
 home-known made g first now later word at acted =
-    let o : Op = looked_op made.1 first at.look None None in
+    let o : Op = fault_op made.1 first at.look None None in
     let told : IsHomeRead g now word o = told-there first o first.owned now made.1.page (λ x. IsHomeRead g now word x) at.is refl acted.fits.told.said in
     let news = told.news refl in
     let named : home_word (frame_of at.look) ≡ word = news.mapped 0 (0, 0) (omega arith) (present-some at.look at.needs) refl in
@@ -93,7 +93,7 @@ pub home-read : (made : FaultsMade) (g : Geometry) (first now later : View) (wor
 home-read made g first now later word master is at acted =
     let known = home-known made g first now later word at acted in
     let named : word ≡ home_word master = omega (arith, is, known.1) in
-    let H : ℕ → Type 0 = λ h. later ≡ with_op first (looked_op made.1 first at.look (Some h) None) first.owned in
+    let H : ℕ → Type 0 = λ h. later ≡ with_op first (fault_op made.1 first at.look (Some h) None) first.owned in
     record {
       frame = omega (arith, known.0, named);
       needed = record { may = at.may; look = at.look; needs = at.needs; is = subst H named (read-view made g first now later at.look word None None at.is acted) };
@@ -105,8 +105,8 @@ pub shadow-none : (made : FaultsMade) (master : ℕ) (g : Geometry) (first now l
 shadow-none made master g first now later word none at acted =
     let read = read-shadow made g first now later at.needed.look word master (Some (home_word master)) None at.needed.is acted in
     let frames : later.owned ≡ first.owned = ap (λ (v : View). v.owned) read in
-    let W : ℕ → Type 0 = λ w. later ≡ with_op first (looked_op made.1 first at.needed.look (Some (home_word master)) (Some w)) first.owned in
-    let F : List Owned → Type 0 = λ owned. later ≡ with_op first (looked_op made.1 first at.needed.look (Some (home_word master)) (Some 0)) owned in
+    let W : ℕ → Type 0 = λ w. later ≡ with_op first (fault_op made.1 first at.needed.look (Some (home_word master)) (Some w)) first.owned in
+    let F : List Owned → Type 0 = λ owned. later ≡ with_op first (fault_op made.1 first at.needed.look (Some (home_word master)) (Some 0)) owned in
     record {
       may = at.needed.may;
       look = at.needed.look;
@@ -121,9 +121,9 @@ named-range g page master word few some (inl none) = absurd (some none)
 named-range g page master word few some (inr (frame, named)) = rw (shadow_frame-NamesShadow g word page frame few named.names) named.names.range
 
 shadow-told : (made : FaultsMade) (master : ℕ) (g : Geometry) (first now later : View) (word : ℕ) (at : IsAtShadow made master g first now) → IsActed g now (Read made.1.page (Shadow master)) (Word word) later
-    → IsShadowRead g now master word (looked_op made.1 first at.needed.look (Some (home_word master)) None)
+    → IsShadowRead g now master word (fault_op made.1 first at.needed.look (Some (home_word master)) None)
 shadow-told made master g first now later word at acted =
-    told-there first (looked_op made.1 first at.needed.look (Some (home_word master)) None) first.owned now made.1.page (λ x. IsShadowRead g now master word x) at.needed.is refl acted.fits.told.said
+    told-there first (fault_op made.1 first at.needed.look (Some (home_word master)) None) first.owned now made.1.page (λ x. IsShadowRead g now master word x) at.needed.is refl acted.fits.told.said
 
 -- the shadow word names a shadow
 pub shadow-read : (made : FaultsMade) (master shadow : ℕ) (g : Geometry) (first now later : View) (word : ℕ) → word ≢ 0 → shadow ≡ shadow_frame word → IsAtShadow made master g first now → IsActed g now (Read made.1.page (Shadow master)) (Word word) later
@@ -150,10 +150,10 @@ shadow-read made master shadow g first now later word some frame at acted =
 pub discarded : (made : FaultsMade) (master shadow : ℕ) (g : Geometry) (first now later : View) → IsAtDiscard made master shadow g first now → IsActed g now (SetShadow made.1.page master None) Done later
     → IsAtGrant made (Some shadow) g first later
 discarded made master shadow g first now later at acted =
-    let o : Op = looked_op made.1 first at.needed.look (Some (home_word master)) (Some at.word) in
+    let o : Op = fault_op made.1 first at.needed.look (Some (home_word master)) (Some at.word) in
     let fill : Fill = unshaded_fill (is_quiet g o) made.1.page in
     let frames : List Owned = owning (shadow_frame at.word) fill first.owned in
-    let is : later ≡ with_op first (looked_op made.1 first at.needed.look (Some (home_word master)) (Some 0)) frames =
+    let is : later ≡ with_op first (fault_op made.1 first at.needed.look (Some (home_word master)) (Some 0)) frames =
     acted.is ∙ (ap (λ (v : View). after_of g v (SetShadow made.1.page master None) Done) at.needed.is ∙ rw (same-number made.1.page) refl) in
     let owned : later.owned ≡ first.owned ++ record { frame = shadow; fill = fill } ∷ [] =
     ap (λ (v : View). v.owned) is ∙ (ap (λ (f : ℕ). owning f fill first.owned) at.names ∙ put_last owned_frame (record { frame = shadow; fill = fill }) first.owned at.fresh) in
@@ -163,7 +163,7 @@ discarded made master shadow g first now later at acted =
       home = Some (home_word master);
       needs = at.needed.needs;
       owned = record { before = first.owned; fill = fill; owned = forgets-none None first.owned; exists = at.exists; fresh = at.fresh; is = owned };
-      is = is ∙ ap (λ (ws : List Owned). with_op first (looked_op made.1 first at.needed.look (Some (home_word master)) (Some 0)) ws) (sym (ap (λ (v : View). v.owned) is));
+      is = is ∙ ap (λ (ws : List Owned). with_op first (fault_op made.1 first at.needed.look (Some (home_word master)) (Some 0)) ws) (sym (ap (λ (v : View). v.owned) is));
     }
 
 -- the page's words may be forgotten
@@ -176,7 +176,7 @@ pub granted : (made : FaultsMade) (shadow : Option ℕ) (g : Geometry) (first no
     → IsAtUnlock made shadow g first later
 granted made shadow g first now later word at acted =
     let frames : List Owned = spoiled made.1.page now.owned in
-    let is : later ≡ with_op first (looked_op made.1 first (granted_word word) at.home (Some 0)) frames =
+    let is : later ≡ with_op first (fault_op made.1 first (granted_word word) at.home (Some 0)) frames =
     acted.is ∙ (ap (λ (v : View). after_of g v (Grant made.1.vpage) (Word word)) at.is ∙ rw (at.may.mapped, same-number made.1.page, same-number made.1.vpage) refl) in
     let owned : later.owned ≡ frames = ap (λ (v : View). v.owned) is in
     record {
@@ -184,7 +184,7 @@ granted made shadow g first now later word at acted =
       look = word;
       home = at.home;
       owned = subst (λ (ws : List Owned). HoldsShadow shadow g first.owned ws) (sym owned) (held-spoiled shadow made.1.page g first.owned now.owned at.owned);
-      is = is ∙ ap (λ (ws : List Owned). with_op first (looked_op made.1 first (granted_word word) at.home (Some 0)) ws) (sym owned);
+      is = is ∙ ap (λ (ws : List Owned). with_op first (fault_op made.1 first (granted_word word) at.home (Some 0)) ws) (sym owned);
     }
 
 -- an Unlock of the operation
@@ -197,23 +197,23 @@ unlocked-view made g first now later o owned may of is acted =
     ∙ ap (λ (ops : List Op). record first { ops = ops; owned = spoiled made.1.page owned }) (gone ∙ sym may.ops))
 
 -- the page was unlocked, and v is ready
-pub left-ready : (made : FaultsMade) (g : Geometry) (first now later : View) → IsLookedAt made None None g first now → IsActed g now (Unlock made.1.page) Done later → IsSwept None first later
+pub left-ready : (made : FaultsMade) (g : Geometry) (first now later : View) → IsFaultLooked made None None g first now → IsActed g now (Unlock made.1.page) Done later → IsSwept None first later
 left-ready made g first now later at acted =
-    let is = unlocked-view made g first now later (looked_op made.1 first at.look None None) first.owned at.may refl at.is acted in
+    let is = unlocked-view made g first now later (fault_op made.1 first at.look None None) first.owned at.may refl at.is acted in
     let S : View → Type 0 = λ v. IsSwept None first v in
     subst S (sym is) (record { is = refl; owned = forgets-more None made.1.page first.owned first.owned refl (forgets-none None first.owned) })
 
 -- the page was unlocked after the grant, without a shadow
 pub left-granted : (made : FaultsMade) (g : Geometry) (first now later : View) → IsAtUnlock made None g first now → IsActed g now (Unlock made.1.page) Done later → IsSwept None first later
 left-granted made g first now later at acted =
-    let is = unlocked-view made g first now later (looked_op made.1 first (granted_word at.look) at.home (Some 0)) now.owned at.may refl at.is acted in
+    let is = unlocked-view made g first now later (fault_op made.1 first (granted_word at.look) at.home (Some 0)) now.owned at.may refl at.is acted in
     let S : View → Type 0 = λ v. IsSwept None first v in
     subst S (sym is) (record { is = refl; owned = forgets-more None made.1.page first.owned now.owned refl at.owned })
 
 -- with a shadow
 pub left-shadow : (made : FaultsMade) (shadow : ℕ) (g : Geometry) (first now later : View) → IsAtUnlock made (Some shadow) g first now → IsActed g now (Unlock made.1.page) Done later → IsAtBack made shadow g first later
 left-shadow made shadow g first now later at acted =
-    let is = unlocked-view made g first now later (looked_op made.1 first (granted_word at.look) at.home (Some 0)) now.owned at.may refl at.is acted in
+    let is = unlocked-view made g first now later (fault_op made.1 first (granted_word at.look) at.home (Some 0)) now.owned at.may refl at.is acted in
     let B : View → Type 0 = λ v. IsAtBack made shadow g first v in
     subst B (sym is) (record { may = at.may; owned = shadow-spoiled None made.1.page shadow g first.owned now.owned refl at.owned; is = refl })
 

@@ -12,7 +12,7 @@ use Rattle.nm_event.specs.After.{after_of, view_after}
 use Rattle.nm_part.specs.Parts.{IsAsked, IsEnded}
 use Rattle.nm_part.specs.Patterns.{CanEnd}
 use Rattle.nm_part.proofs.OwnLemmas.{view-push}
-use Rattle.nm_fault.specs.Locking.{lock_refused, IsLocking, LocksPage, MayLocks, LeavesLocked, AwaitsLock}
+use Rattle.nm_fault.specs.Locking.{lock_refused, IsLockTaken, LocksPage, MayLocks, LeavesLocked, AwaitsLock}
 
 -- refusals leave the view as it was
 pub refused-view : (g : Geometry) (view : View) (page : ℕ) (busy : List ℕ) → view_after g view (lock_refused page busy) ≡ view
@@ -28,7 +28,7 @@ locked-list page busy own is = append-nil (own ++ (Lock page, Done) ∷ []) ∙ 
 
 -- the Lock is asked for, after some refusals
 pub lock-asked : (page : ℕ) (g : Geometry) (view : View) (own : Own) (busy : List ℕ) → MayLocks page g view → own ≡ lock_refused page busy
-    → IsAsked (AwaitsLock page) (λ g own (end : Unit {0}). IsLocking page own) g view own (Lock page)
+    → IsAsked (AwaitsLock page) (λ g own (end : Unit {0}). IsLockTaken page own) g view own (Lock page)
 lock-asked page g view own busy may is =
     let V : View → Type 0 = λ v. Allowed g v (Lock page) in
     let now : view_after g view own ≡ view = ap (λ (l : Own). view_after g view l) is ∙ refused-view g view page busy in
@@ -41,7 +41,7 @@ lock-asked page g view own busy may is =
 
 -- the Lock was answered
 pub lock-step : (page : ℕ) (g : Geometry) (view : View) (own : Own) (action : Action) (word : ℕ) → AwaitsLock page g view own action
-    → IsAsked (AwaitsLock page) (λ g own (end : Unit {0}). IsLocking page own) g view (own ++ (action, Busy word) ∷ []) (Lock page)
+    → IsAsked (AwaitsLock page) (λ g own (end : Unit {0}). IsLockTaken page own) g view (own ++ (action, Busy word) ∷ []) (Lock page)
 lock-step page g view own action word a =
     lock-asked page g view (own ++ (action, Busy word) ∷ []) (a.busy ++ word ∷ []) a.may (ap (λ (l : Own). l ++ (action, Busy word) ∷ []) a.is ∙ (ap (λ (x : Action). lock_refused page a.busy ++ (x, Busy word) ∷ []) a.lock ∙ refused-push page a.busy word))
 
@@ -53,7 +53,7 @@ lock-left page g view own action a =
 
 -- the page was locked
 pub lock-ended : (page : ℕ) (g : Geometry) (view : View) (own : Own) (action : Action) → AwaitsLock page g view own action
-    → IsEnded (λ g own (end : Unit {0}). IsLocking page own) (λ g view (end : Unit {0}) left. LeavesLocked page view left) (λ g own end. Unit {0}) g view (own ++ (action, Done) ∷ []) tt
+    → IsEnded (λ g own (end : Unit {0}). IsLockTaken page own) (λ g view (end : Unit {0}) left. LeavesLocked page view left) (λ g own end. Unit {0}) g view (own ++ (action, Done) ∷ []) tt
 lock-ended page g view own action a = record {
   shown = record { busy = a.busy; is = ap (λ (l : Own). l ++ (action, Done) ∷ []) a.is ∙ ap (λ (x : Action). lock_refused page a.busy ++ (x, Done) ∷ []) a.lock };
   left = record { is = lock-left page g view own action a };

@@ -40,7 +40,7 @@ use Rattle.nm_fault.specs.declared.shadow.ShadowStage.{ShadowStage}
 use Rattle.nm_fault.specs.declared.shadow.ShadowStage.TheVariants.{Locking, Looking, Leaving, ReadingHome, ReadingShadow, Discarding, Granting, Unlocking, PuttingBack}
 use Rattle.nm_fault.specs.Locking.{LocksPage}
 use Rattle.nm_fault.specs.ShadowFault.{needs_grant, GrantPutsBack, Grants, GrantAfterShadow, GrantAfterHome, GrantAfterLook, IsShadowFault}
-use Rattle.nm_fault.specs.Granting.{FaultPieceMade, FaultPieceEnd, FaultPiece, fault_piece_made, IsNewFaultPiece, MayFaultPiece, IsFaultPiece, LeavesFaultPiece, FaultsMade, fault_made, MayFault, IsFaulted, fault_piece_of, fault_told, fault_left, looked_op, with_op, IsAtLook, IsLookedAt, IsGrantNeeded, IsAtShadow, IsAtDiscard, IsAtGrant, IsAtUnlock, IsAtBack, KnownInFault, shadow_stages}
+use Rattle.nm_fault.specs.Granting.{FaultPieceMade, FaultPieceEnd, FaultPiece, fault_piece_made, IsNewFaultPiece, MayFaultPiece, IsFaultPiece, LeavesFaultPiece, FaultsMade, fault_made, MayFault, IsFaulted, fault_piece_of, fault_told, fault_left, fault_op, with_op, IsAtLook, IsFaultLooked, IsGrantNeeded, IsAtShadow, IsAtDiscard, IsAtGrant, IsAtUnlock, IsAtBack, KnownInFault, shadow_stages}
 use Rattle.nm_fault.proofs.Locked.{some-lock}
 use Rattle.nm_fault.proofs.Granting.{same-number, known-there, looked-view, home-read, shadow-none, shadow-read, discarded, granted, left-ready, left-granted, left-shadow, back-done}
 
@@ -149,21 +149,21 @@ some-test : (word : ℕ) → word ≢ 0 → (word == 0) ≡ false
 some-test word some = grind arith
 
 -- an operation in which nothing was taken out of the table may be unlocked
-free-op : (made : FaultsMade) (g : Geometry) (first : View) (look : ℕ) (home shadow : Option ℕ) → MayUnlock g (looked_op made.1 first look home shadow)
+free-op : (made : FaultsMade) (g : Geometry) (first : View) (look : ℕ) (home shadow : Option ℕ) → MayUnlock g (fault_op made.1 first look home shadow)
 free-op made g first look home shadow = record { back = refl; flushed = record { made = refl; seen = tt }; phase = λ e. cc e }
 
-may-unlock : (made : FaultsMade) (g : Geometry) (first now : View) (look : ℕ) (home shadow : Option ℕ) (owned : List Owned) → MayFault made g first → now ≡ with_op first (looked_op made.1 first look home shadow) owned
+may-unlock : (made : FaultsMade) (g : Geometry) (first now : View) (look : ℕ) (home shadow : Option ℕ) (owned : List Owned) → MayFault made g first → now ≡ with_op first (fault_op made.1 first look home shadow) owned
     → MayAct g now (Unlock made.1.page)
 may-unlock made g first now look home shadow owned may is = record {
   quiet = tt;
   allowed = record {
     range = may.page;
-    permitted = known-there first (looked_op made.1 first look home shadow) owned now made.1.page (MayUnlock g) is refl (free-op made g first look home shadow);
+    permitted = known-there first (fault_op made.1 first look home shadow) owned now made.1.page (MayUnlock g) is refl (free-op made g first look home shadow);
   };
 }
 
 -- the page is unlocked, since the word needs no fault
-runs-leave : (made : FaultsMade) (word : ℕ) (g : Geometry) (first now : View) → needs_grant word ≡ false → IsLookedAt made None None g first now → Runs made Leaving (GrantAfterLook g made.1 word) g first now
+runs-leave : (made : FaultsMade) (word : ℕ) (g : Geometry) (first now : View) → needs_grant word ≡ false → IsFaultLooked made None None g first now → Runs made Leaving (GrantAfterLook g made.1 word) g first now
 runs-leave made word g first now free at =
     runs-act made Leaving (Unlock made.1.page) (GrantAfterLook g made.1 word) g first now refl (may-unlock made g first now at.look None None first.owned at.may at.is) at
     (λ end. can-ends Ready) (λ own outcome f. rw free f)
@@ -172,7 +172,7 @@ runs-leave made word g first now free at =
 runs-home : (made : FaultsMade) (word : ℕ) (g : Geometry) (first now : View) → needs_grant word ≡ true → IsGrantNeeded made None None g first now → Runs made ReadingHome (GrantAfterLook g made.1 word) g first now
 runs-home made word g first now needs at =
     runs-act made ReadingHome (Read made.1.page (Home made.1.page)) (GrantAfterLook g made.1 word) g first now refl
-    (record { quiet = tt; allowed = record { range = record { page = at.may.page; cell = refl }; permitted = known-there first (looked_op made.1 first at.look None None) first.owned now made.1.page (λ o. Unit {0}) at.is refl tt } }) at
+    (record { quiet = tt; allowed = record { range = record { page = at.may.page; cell = refl }; permitted = known-there first (fault_op made.1 first at.look None None) first.owned now made.1.page (λ o. Unit {0}) at.is refl tt } }) at
     (λ end. can-after-home g made.1 (fault_told end)) (λ own outcome f. rw needs f)
 
 -- the shadow word is read
@@ -183,7 +183,7 @@ runs-shadow made word master g first now is at =
       quiet = tt;
       allowed = record {
         range = record { page = at.needed.may.page; cell = at.frame };
-        permitted = known-there first (looked_op made.1 first at.needed.look (Some (home_word master)) None) first.owned now made.1.page (λ o. o.home ≡ Some (home_word master)) at.needed.is refl refl;
+        permitted = known-there first (fault_op made.1 first at.needed.look (Some (home_word master)) None) first.owned now made.1.page (λ o. o.home ≡ Some (home_word master)) at.needed.is refl refl;
       };
     }) at
     (λ end. can-after-shadow g made.1 master (fault_told end))
@@ -198,7 +198,7 @@ runs-discard made word master shadow g first now some frame at =
       quiet = tt;
       allowed = record {
         range = record { page = at.needed.may.page; master = at.frame; shadow = tt };
-        permitted = known-there first (looked_op made.1 first at.needed.look (Some (home_word master)) (Some at.word)) first.owned now made.1.page (MayUnshade master) at.needed.is refl (record { home = refl; some = at.some });
+        permitted = known-there first (fault_op made.1 first at.needed.look (Some (home_word master)) (Some at.word)) first.owned now made.1.page (MayUnshade master) at.needed.is refl (record { home = refl; some = at.some });
       };
     }) at
     (λ end. can-grant g made.1 (Some shadow))
@@ -212,7 +212,7 @@ saved-word look needs = record { saved = grind arith; unwritable = grind arith }
 
 may-grant : (made : FaultsMade) (shadow : Option ℕ) (g : Geometry) (first now : View) → IsAtGrant made shadow g first now → IsSomeAnd (op_of g now made.1.vpage) (MayGrant made.1.vpage)
 may-grant made shadow g first now at =
-    let o : Op = looked_op made.1 first at.look at.home (Some 0) in
+    let o : Op = fault_op made.1 first at.look at.home (Some 0) in
     let B : Option ℕ → Type 0 = λ b. IsSomeAnd (op_under now b) (MayGrant made.1.vpage) in
     subst B (sym at.may.mapped) (known-there first o now.owned now made.1.page (MayGrant made.1.vpage) at.is refl (record {
       there = refl;

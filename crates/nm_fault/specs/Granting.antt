@@ -140,8 +140,8 @@ fault_left made stage g end = fault_left_by made.1 stage g end
 -- What is known at a stage.
 
 -- the operation of the fault: v was looked at with this word, and so much is known of the home and of its shadow word
-abbrev pub looked_op : FaultMade → View → ℕ → Option ℕ → Option ℕ → Op
-looked_op made first look home shadow = record (opened made.page first.room.aliases) { home = home; shadow = shadow; looked = (made.vpage, look) ∷ [] }
+abbrev pub fault_op : FaultMade → View → ℕ → Option ℕ → Option ℕ → Op
+fault_op made first look home shadow = record (opened made.page first.room.aliases) { home = home; shadow = shadow; looked = (made.vpage, look) ∷ [] }
 
 -- the view with this operation, and these frames
 abbrev pub with_op : View → Op → List Owned → View
@@ -156,17 +156,17 @@ pub record IsAtLook (made : FaultsMade) (g : Geometry) (first now : View) : Type
   pub is : now ≡ with_op first (opened made.1.page first.room.aliases) first.owned
 
 -- v was looked at
-pub record IsLookedAt (made : FaultsMade) (home shadow : Option ℕ) (g : Geometry) (first now : View) : Type 0 where
+pub record IsFaultLooked (made : FaultsMade) (home shadow : Option ℕ) (g : Geometry) (first now : View) : Type 0 where
   pub may : MayFault made g first
   pub look : ℕ
-  pub is : now ≡ with_op first (looked_op made.1 first look home shadow) first.owned
+  pub is : now ≡ with_op first (fault_op made.1 first look home shadow) first.owned
 
 -- v was looked at with a word that needs the fault
 pub record IsGrantNeeded (made : FaultsMade) (home shadow : Option ℕ) (g : Geometry) (first now : View) : Type 0 where
   pub may : MayFault made g first
   pub look : ℕ
   pub needs : needs_grant look ≡ true
-  pub is : now ≡ with_op first (looked_op made.1 first look home shadow) first.owned
+  pub is : now ≡ with_op first (fault_op made.1 first look home shadow) first.owned
 
 -- the home is known
 pub record IsAtShadow (made : FaultsMade) (master : ℕ) (g : Geometry) (first now : View) : Type 0 where
@@ -195,7 +195,7 @@ pub record IsAtGrant (made : FaultsMade) (shadow : Option ℕ) (g : Geometry) (f
   pub home : Option ℕ
   pub needs : needs_grant look ≡ true
   pub owned : HoldsShadow shadow g first.owned now.owned
-  pub is : now ≡ with_op first (looked_op made.1 first look home (Some 0)) now.owned
+  pub is : now ≡ with_op first (fault_op made.1 first look home (Some 0)) now.owned
 
 -- the right was granted
 pub record IsAtUnlock (made : FaultsMade) (shadow : Option ℕ) (g : Geometry) (first now : View) : Type 0 where
@@ -203,7 +203,7 @@ pub record IsAtUnlock (made : FaultsMade) (shadow : Option ℕ) (g : Geometry) (
   pub look : ℕ
   pub home : Option ℕ
   pub owned : HoldsShadow shadow g first.owned now.owned
-  pub is : now ≡ with_op first (looked_op made.1 first (granted_word look) home (Some 0)) now.owned
+  pub is : now ≡ with_op first (fault_op made.1 first (granted_word look) home (Some 0)) now.owned
 
 -- the page is unlocked, and the shadow is owned
 pub record IsAtBack (made : FaultsMade) (shadow : ℕ) (g : Geometry) (first now : View) : Type 0 where
@@ -215,7 +215,7 @@ abbrev pub KnownInFault : FaultsMade → ShadowStage → Geometry → View → V
 KnownInFault made New g first now = ⊥
 KnownInFault made Locking g first now = IsAtLock made g first now
 KnownInFault made Looking g first now = IsAtLook made g first now
-KnownInFault made Leaving g first now = IsLookedAt made None None g first now
+KnownInFault made Leaving g first now = IsFaultLooked made None None g first now
 KnownInFault made ReadingHome g first now = IsGrantNeeded made None None g first now
 KnownInFault made (ReadingShadow master) g first now = IsAtShadow made master g first now
 KnownInFault made (Discarding master shadow) g first now = IsAtDiscard made master shadow g first now

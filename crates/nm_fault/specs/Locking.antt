@@ -16,13 +16,13 @@ lock_refused page [] = []
 lock_refused page (w ∷ ws) = (Lock page, Busy w) ∷ lock_refused page ws
 
 -- the page is locked, after some refusals
-pub record IsLocking (page : ℕ) (own : Own) : Type 0 where
+pub record IsLockTaken (page : ℕ) (own : Own) : Type 0 where
   pub busy : List ℕ
   pub is : own ≡ lock_refused page busy ++ (Lock page, Done) ∷ []
 
 -- the same as a pattern, which ends with nothing but that the page is locked
 abbrev pub LocksPage : ℕ → Own → Unit {0} → Type 0
-LocksPage page own locked = IsLocking page own
+LocksPage page own locked = IsLockTaken page own
 
 -- it may begin
 pub record MayLocks (page : ℕ) (g : Geometry) (view : View) : Type 0 where

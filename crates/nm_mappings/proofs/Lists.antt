@@ -7,7 +7,7 @@ use Rattle.std.proofs.lemmas.List.Elements.{All-append, All-nil, All-cons, filte
 use Rattle.nm_base.specs.Geometry.{Geometry, backing_among, backing_page}
 use Rattle.nm_base.specs.declared.geometry.VPage.{VPage}
 use Rattle.nm_view.specs.Lists.{find, put, first, Once}
-use Rattle.nm_vpages.specs.VPages.{at_least, AreBelow}
+use Rattle.nm_vpages.specs.VPages.{at_or_after, AreBelow}
 use Rattle.nm_mappings.specs.Visits.{found_with, mapped_of}
 
 -- The virtual pages that are at least one.
@@ -17,9 +17,9 @@ first-kept v x true rest others u is later l e same = let head : x ≡ u = cc in
 first-kept v x false rest others u is later l e same = later (e ∙ ap (λ (k : List ℕ). u ∷ k) (same refl))
 
 -- the first of them is at least it
-pub first-least : (v u : ℕ) (pages rest : List ℕ) → at_least v pages ≡ u ∷ rest → v ≤ u
+pub first-least : (v u : ℕ) (pages rest : List ℕ) → at_or_after v pages ≡ u ∷ rest → v ≤ u
 first-least v u [] rest e = cc
-first-least v u (x ∷ pages) rest e = first-kept v x (nat_le v x) (at_least v pages) rest u refl (first-least v u pages rest) rest e (λ _. refl)
+first-least v u (x ∷ pages) rest e = first-kept v x (nat_le v x) (at_or_after v pages) rest u refl (first-least v u pages rest) rest e (λ _. refl)
 
 all-at : (P : ℕ → Type 0) (told rest : List ℕ) (v : ℕ) → All P (told ++ v ∷ rest) → P v
 all-at P [] rest v h = h zero 0 (omega arith)

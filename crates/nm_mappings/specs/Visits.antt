@@ -77,16 +77,16 @@ visited visit [] o = o
 visited visit (p ∷ ps) o = visited visit ps (visited_at visit p.0 p.1 o)
 
 -- the number of raises after so many visits
-abbrev pub raises_after : Visit → ℕ → ℕ → ℕ
-raises_after visits.Look count raises = raises
-raises_after visits.Arm count raises = raises
-raises_after visits.Raise count raises = raises + count
+abbrev pub raises_told : Visit → ℕ → ℕ → ℕ
+raises_told visits.Look count raises = raises
+raises_told visits.Arm count raises = raises
+raises_told visits.Raise count raises = raises + count
 
 -- the view after these visits: the operation on the page has changed, and raises were made
 abbrev pub visited_view : Visit → ℕ → List (ℕ × ℕ) → View → View
 visited_view visit page told view = record view {
   ops = edit page_of page (visited visit told) view.ops;
-  raises = raises_after visit (length told) view.raises;
+  raises = raises_told visit (length told) view.raises;
 }
 
 -- raises may be made: these virtual pages are wet, and there are raises enough left

@@ -119,7 +119,7 @@ impl Plan<Act> for VisitPlan {
 
     ghost use Rattle.nm_compose.specs.Stages.{IsPieceAt};
     ghost use Rattle.nm_mappings.specs.Visits.{IsVisits, MayVisit, IsVisited};
-    ghost use Rattle.nm_mappings.specs.Visiting.{place_of, IsNewVisits, left_at, visit_stages};
+    ghost use Rattle.nm_mappings.specs.Visiting.{visit_place, IsNewVisits, visit_left, visit_stages};
 
     ghost made = { λ p. p.made };
 
@@ -131,9 +131,9 @@ impl Plan<Act> for VisitPlan {
 
     ghost leaves = { λ made g view found left. IsVisited made view found left };
 
-    ghost knows = { λ p. IsPieceAt visit_stages p.made (place_of p) };
+    ghost knows = { λ p. IsPieceAt visit_stages p.made (visit_place p) };
 
-    ghost left = { λ p. left_at p.made (place_of p) };
+    ghost left = { λ p. visit_left p.made (visit_place p) };
 
     ghost ended = { λ p g found. Unit {0} };
 

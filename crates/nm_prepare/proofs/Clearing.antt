@@ -34,9 +34,9 @@ use Rattle.nm_prepare.specs.declared.prepare.Prepared.TheVariants as ends
 use Rattle.nm_prepare.specs.declared.prepare.Stage.TheVariants.{Unshading, PuttingBack, Clearing, Raising}
 use Rattle.nm_prepare.specs.Worn.{is_worn, worn_bumps, worn_raises}
 use Rattle.nm_prepare.specs.Preparing.{tier_above, floor_above, Clears, Discards}
-use Rattle.nm_prepare.specs.Placing.{IsPlaced}
+use Rattle.nm_prepare.specs.Placing.{IsPlanPlaced}
 use Rattle.nm_prepare.specs.Ready.{HasReady}
-use Rattle.nm_prepare.specs.Stages.{held, looked_op, prepare_piece, PrepareKnown, IsSlowHome, IsTaking, IsGot, IsUnshading, IsPuttingBack, IsClearing, IsRaising, got_stage}
+use Rattle.nm_prepare.specs.Stages.{held, looked_op, prepare_piece, PrepareKnown, IsSlowHome, IsTakingFrame, IsGot, IsUnshading, IsPuttingBack, IsClearing, IsRaising, got_stage}
 use Rattle.nm_prepare.proofs.Lists.{find-last, edit-last, erase-put, owning-erased, owning-other}
 use Rattle.nm_prepare.proofs.Held.{some-held, some-of, edit-held, edit-by, owned-held, turn-held}
 use Rattle.nm_prepare.proofs.Ending.{can-clears, can-back, can-raise}
@@ -57,7 +57,7 @@ clear-allowed made g first now home frame h = record {
 -- the dirty bit is cleared
 pub runs-clearing : (made : PrepareMade) (g : Geometry) (first now : View) (home frame : ℕ) → IsClearing made g first now home frame → RunsPrepare made (Clearing home frame) (Clears g made home frame) g first now
 runs-clearing made g first now home frame h =
-    act-run (IsPlaced prepare_piece PrepareKnown g made (Clearing home frame)) (λ g reply. Follows (IsAct (Raise made.vpage) g) (λ raised. Ends (ends.Ready home frame))) (ClearDirty made.vpage) g first now
+    act-run (IsPlanPlaced prepare_piece PrepareKnown g made (Clearing home frame)) (λ g reply. Follows (IsAct (Raise made.vpage) g) (λ raised. Ends (ends.Ready home frame))) (ClearDirty made.vpage) g first now
     tt (clear-allowed made g first now home frame h) (record { geometry = refl; is = refl; holds = h }) (λ reply. can-raise g made home frame)
 
 cleared : (made : PrepareMade) (g : Geometry) (first now later : View) (home frame : ℕ) (reply : Reply) → IsClearing made g first now home frame → IsActed g now (ClearDirty made.vpage) reply later → IsRaising made g first later home frame
@@ -115,7 +115,7 @@ pub runs-raising : (made : PrepareMade) (g : Geometry) (first now later : View) 
     → RunsPrepare made (Raising home frame) (Follows (IsAct (Raise made.vpage) g) (λ raised. Ends (ends.Ready home frame))) g first later
 runs-raising made g first now later home frame reply h acted =
     let r = cleared made g first now later home frame reply h acted in
-    act-run (IsPlaced prepare_piece PrepareKnown g made (Raising home frame)) (λ g reply. Ends (ends.Ready home frame)) (Raise made.vpage) g first later
+    act-run (IsPlanPlaced prepare_piece PrepareKnown g made (Raising home frame)) (λ g reply. Ends (ends.Ready home frame)) (Raise made.vpage) g first later
     tt (raise-allowed made g first later home frame r) (record { geometry = refl; is = refl; holds = r }) (λ reply. can-ends (ends.Ready home frame))
 
 raised-held : (page : ℕ) (f : Op → Op) (op : Op) (owned : List Owned) (scan : Scanned) (raises : ℕ) (first now : View) → op_on first page ≡ None → op.page ≡ page → now ≡ held op owned scan raises first
@@ -166,7 +166,7 @@ unshade-allowed made g first now home shadow frame h = record {
       (record { home = refl; some = h.some });
 }
 
-runs-got-test : (made : PrepareMade) (g : Geometry) (first now later : View) (home shadow frame : ℕ) (test : Bool) → (shadow == 0) ≡ test → (h : IsTaking made g first now home shadow) → IsGot made g first home frame
+runs-got-test : (made : PrepareMade) (g : Geometry) (first now later : View) (home shadow frame : ℕ) (test : Bool) → (shadow == 0) ≡ test → (h : IsTakingFrame made g first now home shadow) → IsGot made g first home frame
     → later ≡ held (looked_op made.page first.room.aliases (Some (home_word home)) h.known h.looked) (owning frame Raw first.owned) unscanned first.raises first
     → RunsPrepare made (if test then Clearing home frame else Unshading home shadow frame) (Either test (Clears g made home frame) (Follows (IsAct (SetShadow made.page home None) g) (λ set. Follows (IsPool g (Back (shadow_frame shadow))) (λ back. Clears g made home frame)))) g first later
 runs-got-test made g first now later home shadow frame true none h got is =
@@ -184,11 +184,11 @@ runs-got-test made g first now later home shadow frame false some h got is =
       scan = unscanned;
       is = is ∙ ap (λ (o : Option ℕ). held (looked_op made.page first.room.aliases (Some (home_word home)) o h.looked) (owning frame Raw first.owned) unscanned first.raises first) (h.shadow_is.some not_zero);
     } in
-    act-run (IsPlaced prepare_piece PrepareKnown g made (Unshading home shadow frame)) (λ g reply. Follows (IsPool g (Back (shadow_frame shadow))) (λ back. Clears g made home frame)) (SetShadow made.page home None) g first later
+    act-run (IsPlanPlaced prepare_piece PrepareKnown g made (Unshading home shadow frame)) (λ g reply. Follows (IsPool g (Back (shadow_frame shadow))) (λ back. Clears g made home frame)) (SetShadow made.page home None) g first later
     tt (unshade-allowed made g first later home shadow frame u) (record { geometry = refl; is = refl; holds = u }) (λ reply. can-back g made home shadow frame)
 
 -- after a frame was taken
-pub runs-got : (made : PrepareMade) (g : Geometry) (first now later : View) (home shadow frame : ℕ) → IsTaking made g first now home shadow → Leaves g (Take (tier_above g home) (floor_above g home)) now (pools.Got frame) later
+pub runs-got : (made : PrepareMade) (g : Geometry) (first now later : View) (home shadow frame : ℕ) → IsTakingFrame made g first now home shadow → Leaves g (Take (tier_above g home) (floor_above g home)) now (pools.Got frame) later
     → RunsPrepare made (got_stage home shadow frame) (Discards g made home shadow frame) g first later
 runs-got made g first now later home shadow frame h left =
     let got = got-frame made g first now later home shadow frame h left in
@@ -254,7 +254,7 @@ pub runs-back : (made : PrepareMade) (g : Geometry) (first now later : View) (ho
     → RunsPrepare made (PuttingBack home shadow frame) (Follows (IsPool g (Back (shadow_frame shadow))) (λ back. Clears g made home frame)) g first later
 runs-back made g first now later home shadow frame reply h acted =
     let p = unshaded-now made g first now later home shadow frame reply h acted in
-    task-run (IsPlaced prepare_piece PrepareKnown g made (PuttingBack home shadow frame)) (λ g back. Clears g made home frame) (pool_made g (Back (shadow_frame shadow))) g first later
+    task-run (IsPlanPlaced prepare_piece PrepareKnown g made (PuttingBack home shadow frame)) (λ g back. Clears g made home frame) (pool_made g (Back (shadow_frame shadow))) g first later
     (back-begin made g first later home shadow frame p) (record { geometry = refl; is = refl; holds = p }) (λ own end shown. can-clears g made home frame)
 
 back-now : (made : PrepareMade) (g : Geometry) (first now later : View) (home shadow frame : ℕ) → IsPuttingBack made g first now home shadow frame → later ≡ record (released now) { owned = erase owned_frame (shadow_frame shadow) now.owned } → IsClearing made g first later home frame

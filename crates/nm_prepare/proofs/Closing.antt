@@ -21,9 +21,9 @@ use Rattle.nm_prepare.specs.declared.prepare.Prepared.TheVariants as ends
 use Rattle.nm_prepare.specs.declared.prepare.Stage.TheVariants.{Locking, Marking, Unlocking, ReadingHome}
 use Rattle.nm_prepare.specs.Worn.{is_worn}
 use Rattle.nm_prepare.specs.Preparing.{Closes, AfterHome, ReadsHome, AfterLock, IsPrepare}
-use Rattle.nm_prepare.specs.Placing.{IsPlaced}
+use Rattle.nm_prepare.specs.Placing.{IsPlanPlaced}
 use Rattle.nm_prepare.specs.Ready.{MayPrepare, HasClosed}
-use Rattle.nm_prepare.specs.Stages.{held, looked_op, prepare_piece, PrepareKnown, IsOpen, IsReadingHome, IsLocking, lock_stage}
+use Rattle.nm_prepare.specs.Stages.{held, looked_op, prepare_piece, PrepareKnown, IsPageOpen, IsReadingHome, IsLocking, lock_stage}
 use Rattle.nm_prepare.proofs.Held.{on-held, some-held, closed-held}
 use Rattle.nm_prepare.proofs.Ending.{can-unlock, can-after-home, can-after-lock}
 use Rattle.nm_prepare.proofs.Runs.{act-run, RunsPrepare}
@@ -33,40 +33,40 @@ use Rattle.nm_prepare.proofs.Runs.{act-run, RunsPrepare}
 some-is : {A : Type 0} (o : Option A) (x : A) → o ≡ Some x → IsSome o
 some-is {A} o x e = let O : Option A → Type 0 = λ o. IsSome o in subst O (sym e) refl
 
-mark-allowed : (made : PrepareMade) (g : Geometry) (first now : View) → IsOpen made g first now → Allowed g now (Mark made.page 2 0)
+mark-allowed : (made : PrepareMade) (g : Geometry) (first now : View) → IsPageOpen made g first now → Allowed g now (Mark made.page 2 0)
 mark-allowed made g first now h = record {
   range = h.may.page;
   permitted = inr (record { pending = refl; none = refl; op = some-is (op_on now made.page) h.op (on-held made.page h.op first.owned h.scan first.raises first now h.may.fresh h.page_is h.is) });
 }
 
-unlock-allowed : (made : PrepareMade) (g : Geometry) (first now : View) → IsOpen made g first now → Allowed g now (Unlock made.page)
+unlock-allowed : (made : PrepareMade) (g : Geometry) (first now : View) → IsPageOpen made g first now → Allowed g now (Unlock made.page)
 unlock-allowed made g first now h = record {
   range = h.may.page;
   permitted = some-held made.page h.op first.owned h.scan first.raises first now (MayUnlock g) h.may.fresh h.page_is h.is h.unlock;
 }
 
 -- the page is pending no more
-pub runs-marking : (made : PrepareMade) (g : Geometry) (first now : View) (early : Early) → IsOpen made g first now → RunsPrepare made (Marking early) (Closes g made early) g first now
+pub runs-marking : (made : PrepareMade) (g : Geometry) (first now : View) (early : Early) → IsPageOpen made g first now → RunsPrepare made (Marking early) (Closes g made early) g first now
 runs-marking made g first now early h =
-    act-run (IsPlaced prepare_piece PrepareKnown g made (Marking early)) (λ g reply. Follows (IsAct (Unlock made.page) g) (λ unlocked. Ends (ends.Closed early))) (Mark made.page 2 0) g first now
+    act-run (IsPlanPlaced prepare_piece PrepareKnown g made (Marking early)) (λ g reply. Follows (IsAct (Unlock made.page) g) (λ unlocked. Ends (ends.Closed early))) (Mark made.page 2 0) g first now
     tt (mark-allowed made g first now h) (record { geometry = refl; is = refl; holds = h }) (λ reply. can-unlock g made early)
 
 -- it is unlocked
-pub runs-unlocking : (made : PrepareMade) (g : Geometry) (first now : View) (early : Early) → IsOpen made g first now → RunsPrepare made (Unlocking early) (Follows (IsAct (Unlock made.page) g) (λ unlocked. Ends (ends.Closed early))) g first now
+pub runs-unlocking : (made : PrepareMade) (g : Geometry) (first now : View) (early : Early) → IsPageOpen made g first now → RunsPrepare made (Unlocking early) (Follows (IsAct (Unlock made.page) g) (λ unlocked. Ends (ends.Closed early))) g first now
 runs-unlocking made g first now early h =
-    act-run (IsPlaced prepare_piece PrepareKnown g made (Unlocking early)) (λ g reply. Ends (ends.Closed early)) (Unlock made.page) g first now
+    act-run (IsPlanPlaced prepare_piece PrepareKnown g made (Unlocking early)) (λ g reply. Ends (ends.Closed early)) (Unlock made.page) g first now
     tt (unlock-allowed made g first now h) (record { geometry = refl; is = refl; holds = h }) (λ reply. can-ends (ends.Closed early))
 
 -- nothing of the view changes
-pub open-same : (made : PrepareMade) (g : Geometry) (first now later : View) → later ≡ now → IsOpen made g first now → IsOpen made g first later
-open-same made g first now later e h = let V : View → Type 0 = λ v. IsOpen made g first v in subst V (sym e) h
+pub open-same : (made : PrepareMade) (g : Geometry) (first now later : View) → later ≡ now → IsPageOpen made g first now → IsPageOpen made g first later
+open-same made g first now later e h = let V : View → Type 0 = λ v. IsPageOpen made g first v in subst V (sym e) h
 
 -- after the Mark
-pub open-marked : (made : PrepareMade) (g : Geometry) (first now later : View) (reply : Reply) → IsOpen made g first now → IsActed g now (Mark made.page 2 0) reply later → IsOpen made g first later
+pub open-marked : (made : PrepareMade) (g : Geometry) (first now later : View) (reply : Reply) → IsPageOpen made g first now → IsActed g now (Mark made.page 2 0) reply later → IsPageOpen made g first later
 open-marked made g first now later reply h acted = open-same made g first now later acted.is h
 
 -- after the Unlock
-pub open-unlocked : (made : PrepareMade) (g : Geometry) (first now later : View) (reply : Reply) → IsOpen made g first now → IsActed g now (Unlock made.page) reply later → HasClosed made.page first later
+pub open-unlocked : (made : PrepareMade) (g : Geometry) (first now later : View) (reply : Reply) → IsPageOpen made g first now → IsActed g now (Unlock made.page) reply later → HasClosed made.page first later
 open-unlocked made g first now later Done h acted = record { scan = h.scan; is = acted.is ∙ closed-held made.page h.op first.owned h.scan first.raises first now h.may.fresh h.page_is h.is }
 open-unlocked made g first now later (Word w) h acted = absurd acted.fits.kind
 open-unlocked made g first now later (Busy w) h acted = absurd acted.fits.kind
@@ -77,7 +77,7 @@ held-is-not-cleared e = cc
 
 -- an operation before its dirty bit is cleared may be closed
 abbrev pub open-looked : (made : PrepareMade) (g : Geometry) (first now : View) (home shadow : Option ℕ) (looked : List (ℕ × ℕ)) (scan : Scanned) → MayPrepare g made g first
-    → now ≡ held (looked_op made.page first.room.aliases home shadow looked) first.owned scan first.raises first → IsOpen made g first now
+    → now ≡ held (looked_op made.page first.room.aliases home shadow looked) first.owned scan first.raises first → IsPageOpen made g first now
 open-looked made g first now home shadow looked scan may e = record {
   may = may;
   op = looked_op made.page first.room.aliases home shadow looked;
@@ -98,7 +98,7 @@ lock-allowed made g first now h = let V : View → Type 0 = λ v. MayLock v made
 -- the Lock runs
 pub runs-locking : (made : PrepareMade) (g : Geometry) (view : View) → MayPrepare g made g view → RunsPrepare made Locking (IsPrepare made g) g view view
 runs-locking made g view may =
-    act-run (IsPlaced prepare_piece PrepareKnown g made Locking) (λ g. AfterLock g made) (Lock made.page) g view view
+    act-run (IsPlanPlaced prepare_piece PrepareKnown g made Locking) (λ g. AfterLock g made) (Lock made.page) g view view
     tt (lock-allowed made g view view (record { may = may; begun = refl })) (record { geometry = refl; is = refl; holds = record { may = may; begun = refl } }) (λ reply. can-after-lock g made reply may.geometry)
 
 locked : (made : PrepareMade) (g : Geometry) (first now later : View) → IsLocking made g first now → IsActed g now (Lock made.page) Done later
@@ -117,7 +117,7 @@ runs-locked-test : (made : PrepareMade) (g : Geometry) (first later : View) (tes
 runs-locked-test made g first later true is may e = runs-marking made g first later Worn (open-looked made g first later None None [] first.scan may e)
 runs-locked-test made g first later false is may e =
     let h : IsReadingHome made g first later = record { may = may; room = is; is = e } in
-    act-run (IsPlaced prepare_piece PrepareKnown g made ReadingHome) (λ g. AfterHome g made) (Read made.page (cells.Home made.page)) g first later
+    act-run (IsPlanPlaced prepare_piece PrepareKnown g made ReadingHome) (λ g. AfterHome g made) (Read made.page (cells.Home made.page)) g first later
     tt (read-allowed made g first later h) (record { geometry = refl; is = refl; holds = h }) (λ reply. can-after-home g made reply may.geometry)
 
 -- after the Lock

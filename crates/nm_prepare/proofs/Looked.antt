@@ -31,9 +31,9 @@ use Rattle.nm_prepare.specs.declared.prepare.Stage.{Stage}
 use Rattle.nm_prepare.specs.declared.prepare.Stage.TheVariants.{Marking, Looking, Arming, ReadingHome, ReadingShadow, Taking}
 use Rattle.nm_prepare.specs.Worn.{is_worn}
 use Rattle.nm_prepare.specs.Preparing.{is_slow_home, is_only, is_in_last, Closes, Looks, AfterLooks, AfterHome, ReadsShadow}
-use Rattle.nm_prepare.specs.Placing.{IsPlaced}
+use Rattle.nm_prepare.specs.Placing.{IsPlanPlaced}
 use Rattle.nm_prepare.specs.Ready.{MayPrepare}
-use Rattle.nm_prepare.specs.Stages.{PieceMade, PieceEnd, IsPiece, PieceLeaves, told_in, held, looked_op, prepare_piece, PrepareKnown, IsOpen, IsReadingHome, IsSlowHome, IsLooking, IsLone, IsArming, look_stage, looked_stage, arm_stage, home_stage}
+use Rattle.nm_prepare.specs.Stages.{PieceMade, PieceEnd, IsPreparePiece, PieceLeaves, told_in, held, looked_op, prepare_piece, PrepareKnown, IsPageOpen, IsReadingHome, IsSlowHome, IsLookingOver, IsLone, IsArming, look_stage, looked_stage, arm_stage, home_stage}
 use Rattle.nm_prepare.proofs.Found.{vpages-all, looked-over, found-mapped, found-all, found-alone, is-only}
 use Rattle.nm_prepare.proofs.Held.{on-held, some-held, edit-held}
 use Rattle.nm_prepare.proofs.Ending.{can-closes, can-after-looks}
@@ -97,7 +97,7 @@ record IsLookedOnce (made : PrepareMade) (g : Geometry) (view later : View) (hom
   mapped : found ≡ mapped_of told
   is : later ≡ held (looked_op made.page view.room.aliases (Some (home_word home)) None told) view.owned view.scan view.raises view
 
-looked-once : (made : PrepareMade) (g : Geometry) (first now later : View) (home : ℕ) (found : List ℕ) → IsLooking made g first now home → IsVisited (looks_made made.page (vpages_of g made.page)) now found later → IsLookedOnce made g first later home found
+looked-once : (made : PrepareMade) (g : Geometry) (first now later : View) (home : ℕ) (found : List ℕ) → IsLookingOver made g first now home → IsVisited (looks_made made.page (vpages_of g made.page)) now found later → IsLookedOnce made g first later home found
 looked-once made g first now later home found h left =
     let o : Op = looked_op made.page first.room.aliases (Some (home_word home)) None [] in
     record {
@@ -137,11 +137,11 @@ runs-arms made g first later [] h =
     (λ own outcome f. over-at-once (IsVisits (arms_made made.page []) g) (λ armed. Closes g made Gone) [] own outcome (ends-now []) f)
     (runs-marking made g first later Gone h.opened)
 runs-arms made g first later (v ∷ vs) h =
-    visits-run (IsPlaced prepare_piece PrepareKnown g made (Arming (v ∷ vs))) (λ g armed. Closes g made Gone) (arms_made made.page (v ∷ vs)) g first later
+    visits-run (IsPlanPlaced prepare_piece PrepareKnown g made (Arming (v ∷ vs))) (λ g armed. Closes g made Gone) (arms_made made.page (v ∷ vs)) g first later
     (arms-allowed made g first later (v ∷ vs) h) (record { geometry = refl; is = refl; holds = h }) (λ armed. can-closes g made Gone)
 
 -- after the Arms
-pub armed-open : (made : PrepareMade) (g : Geometry) (first now later : View) (found armed : List ℕ) → IsArming made g first now found → IsVisited (arms_made made.page found) now armed later → IsOpen made g first later
+pub armed-open : (made : PrepareMade) (g : Geometry) (first now later : View) (found armed : List ℕ) → IsArming made g first now found → IsVisited (arms_made made.page found) now armed later → IsPageOpen made g first later
 armed-open made g first now later found armed h left = open-same made g first now later (arms-left made.page found now armed later left) h.opened
 
 -- After the Looks.
@@ -153,14 +153,14 @@ runs-looked-test made g first later home found true only slow h =
 runs-looked-test made g first later home found false only slow h = runs-arms made g first later found (arms-may made g first later home found slow.may h)
 
 -- after the Looks
-pub runs-looked : (made : PrepareMade) (g : Geometry) (first now later : View) (home : ℕ) (found : List ℕ) → IsLooking made g first now home → IsVisited (looks_made made.page (vpages_of g made.page)) now found later
+pub runs-looked : (made : PrepareMade) (g : Geometry) (first now later : View) (home : ℕ) (found : List ℕ) → IsLookingOver made g first now home → IsVisited (looks_made made.page (vpages_of g made.page)) now found later
     → RunsPrepare made (looked_stage g made home found) (AfterLooks g made home found) g first later
 runs-looked made g first now later home found h left =
     runs-looked-test made g first later home found (is_only made.vpage found) refl h.home_is (looked-once made g first now later home found h left)
 
 -- After the Read of the home.
 
-runs-look-pages : (made : PrepareMade) (g : Geometry) (first later : View) (home : ℕ) (pages : List ℕ) → vpages_of g made.page ≡ pages → IsLooking made g first later home
+runs-look-pages : (made : PrepareMade) (g : Geometry) (first later : View) (home : ℕ) (pages : List ℕ) → vpages_of g made.page ≡ pages → IsLookingOver made g first later home
     → RunsPrepare made (look_stage g made home pages) (Follows (IsVisits (looks_made made.page pages) g) (AfterLooks g made home)) g first later
 runs-look-pages made g first later home [] none h =
     runs-as made (looked_stage g made home []) (AfterLooks g made home []) (Follows (IsVisits (looks_made made.page []) g) (AfterLooks g made home)) g first later
@@ -168,10 +168,10 @@ runs-look-pages made g first later home [] none h =
     (runs-looked-test made g first later home [] false refl h.home_is (record { told = []; pages = sym none; once = tt; mapped = refl; is = h.is }))
 runs-look-pages made g first later home (v ∷ vs) some h =
     let V : List ℕ → Type 0 = λ l. RunsPrepare made (Looking home) (Follows (IsVisits (looks_made made.page l) g) (AfterLooks g made home)) g first later in
-    subst V some (visits-run (IsPlaced prepare_piece PrepareKnown g made (Looking home)) (λ g. AfterLooks g made home) (looks_made made.page (vpages_of g made.page)) g first later
+    subst V some (visits-run (IsPlanPlaced prepare_piece PrepareKnown g made (Looking home)) (λ g. AfterLooks g made home) (looks_made made.page (vpages_of g made.page)) g first later
     (record { of = vpages-all g made.page; each = tt }) (record { geometry = refl; is = refl; holds = h }) (λ found. can-after-looks g made home found h.home_is.may.geometry))
 
-runs-look : (made : PrepareMade) (g : Geometry) (first later : View) (home : ℕ) → IsLooking made g first later home → RunsPrepare made (look_stage g made home (vpages_of g made.page)) (Looks g made home) g first later
+runs-look : (made : PrepareMade) (g : Geometry) (first later : View) (home : ℕ) → IsLookingOver made g first later home → RunsPrepare made (look_stage g made home (vpages_of g made.page)) (Looks g made home) g first later
 runs-look made g first later home h = runs-look-pages made g first later home (vpages_of g made.page) refl h
 
 word-of-home : (word : ℕ) → word ≢ 0 → word ≡ home_word (word - 1)
@@ -202,7 +202,7 @@ read-range made g first now later (Busy word) h acted = absurd acted.fits.kind
 read-range made g first now later (Lost word) h acted = absurd acted.fits.kind
 
 -- a home word that was read is one of the geometry for which the plan was made
-pub home-range : (old : Prepare) (g : Geometry) (first now later : View) (own : Own) (runs : PieceMade) (end : PieceEnd) (word : ℕ) → old.stage ≡ ReadingHome → word ≡ told_in end → AtStage old g first now runs → PieceLeaves runs g now end later → IsPiece runs g own end → IsHomeWord old.geometry.now word
+pub home-range : (old : Prepare) (g : Geometry) (first now later : View) (own : Own) (runs : PieceMade) (end : PieceEnd) (word : ℕ) → old.stage ≡ ReadingHome → word ≡ told_in end → AtStage old g first now runs → PieceLeaves runs g now end later → IsPreparePiece runs g own end → IsHomeWord old.geometry.now word
 home-range old g first now later own runs end word at is placed left shown =
     let W : ℕ → Type 0 = λ w. IsHomeWord old.geometry.now w in
     let G : Geometry → Type 0 = λ h. IsHomeWord h (told_in end) in

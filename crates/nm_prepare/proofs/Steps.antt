@@ -24,7 +24,7 @@ use Rattle.nm_prepare.specs.declared.prepare.Prepared.TheVariants as ends
 use Rattle.nm_prepare.specs.declared.prepare.Stage.TheVariants.{Marking, Unlocking, ReadingHome, Looking, Arming, ReadingShadow, Taking, ArmingOne, Unshading, PuttingBack, Clearing, Raising}
 use Rattle.nm_prepare.specs.Ready.{IsPrepared}
 use Rattle.nm_prepare.specs.Preparing.{AfterHome}
-use Rattle.nm_prepare.specs.Stages.{PieceEnd, told_in, found_in, home_stage, looked_stage, prepare_piece, prepare_left, PrepareKnown, IsReadingHome}
+use Rattle.nm_prepare.specs.Stages.{PieceEnd, told_in, prepare_found, home_stage, looked_stage, prepare_piece, prepare_left, PrepareKnown, IsReadingHome}
 use Rattle.nm_prepare.proofs.Runs.{EndsSo, by-act, by-visits, by-task, RunsPrepare}
 use Rattle.nm_prepare.proofs.Closing.{runs-marking, runs-unlocking, open-marked, open-unlocked}
 use Rattle.nm_prepare.proofs.Taking.{runs-shadow, armed-one}
@@ -61,9 +61,9 @@ after-reading-home made g first now later own end k a =
     (λ reply b. home-read made g first now later reply k b)
 
 pub after-looking : (made : PrepareMade) (g : Geometry) (first now later : View) (own : Own) (home : ℕ) (end : PieceEnd) → PrepareKnown made (Looking home) g first now → EndsSo own (prepare_piece g made (Looking home)) g now end later
-    → RunsPrepare made (looked_stage g made home (found_in end)) (prepare_left made (Looking home) g end) g first later
+    → RunsPrepare made (looked_stage g made home (prepare_found end)) (prepare_left made (Looking home) g end) g first later
 after-looking made g first now later own home end k a =
-    by-visits (looks_made made.page (vpages_of g made.page)) g now later own (λ e. RunsPrepare made (looked_stage g made home (found_in e)) (prepare_left made (Looking home) g e) g first later) end a
+    by-visits (looks_made made.page (vpages_of g made.page)) g now later own (λ e. RunsPrepare made (looked_stage g made home (prepare_found e)) (prepare_left made (Looking home) g e) g first later) end a
     (λ found b. runs-looked made g first now later home found k b)
 
 pub after-arming : (made : PrepareMade) (g : Geometry) (first now later : View) (own : Own) (found : List ℕ) (end : PieceEnd) → PrepareKnown made (Arming found) g first now → EndsSo own (prepare_piece g made (Arming found)) g now end later

@@ -29,8 +29,8 @@ use Rattle.nm_prepare.specs.declared.prepare.PrepareMade.{PrepareMade}
 use Rattle.nm_prepare.specs.declared.prepare.Early.TheVariants.{NoFrame}
 use Rattle.nm_prepare.specs.declared.prepare.Stage.TheVariants.{ReadingShadow, Taking, ArmingOne}
 use Rattle.nm_prepare.specs.Preparing.{is_in_last, tier_above, floor_above, Closes, Takes, AfterTake, ReadsShadow}
-use Rattle.nm_prepare.specs.Placing.{IsPlaced}
-use Rattle.nm_prepare.specs.Stages.{held, looked_op, prepare_piece, PrepareKnown, IsOpen, IsLookedAt, IsTaking, IsArmingOne, IsGot}
+use Rattle.nm_prepare.specs.Placing.{IsPlanPlaced}
+use Rattle.nm_prepare.specs.Stages.{held, looked_op, prepare_piece, PrepareKnown, IsPageOpen, IsLookedAt, IsTakingFrame, IsArmingOne, IsGot}
 use Rattle.nm_prepare.proofs.Lists.{all-front}
 use Rattle.nm_prepare.proofs.Held.{on-held, some-held, some-of, edit-held, owned-held, released-held, turn-held}
 use Rattle.nm_prepare.proofs.Ending.{can-closes, can-takes, can-after-take}
@@ -61,7 +61,7 @@ shadow-allowed made g first now home h = record {
 }
 
 -- after the Read of the shadow word
-shadow-known : (made : PrepareMade) (g : Geometry) (first now later : View) (home word : ℕ) → IsLookedAt made g first now home → IsActed g now (Read made.page (cells.Shadow home)) (Word word) later → IsTaking made g first later home word
+shadow-known : (made : PrepareMade) (g : Geometry) (first now later : View) (home word : ℕ) → IsLookedAt made g first now home → IsActed g now (Read made.page (cells.Shadow home)) (Word word) later → IsTakingFrame made g first later home word
 shadow-known made g first now later home word h acted =
     let o : Op = looked_op made.page first.room.aliases (Some (home_word home)) None h.looked in
     let on = on-held made.page o first.owned first.scan first.raises first now h.home_is.may.fresh refl h.is in
@@ -81,9 +81,9 @@ shadow-known made g first now later home word h acted =
 -- The frame.
 
 -- a frame is taken
-pub runs-taking : (made : PrepareMade) (g : Geometry) (first now : View) (home shadow : ℕ) → IsTaking made g first now home shadow → RunsPrepare made (Taking home shadow) (Takes g made home shadow) g first now
+pub runs-taking : (made : PrepareMade) (g : Geometry) (first now : View) (home shadow : ℕ) → IsTakingFrame made g first now home shadow → RunsPrepare made (Taking home shadow) (Takes g made home shadow) g first now
 runs-taking made g first now home shadow h =
-    task-run (IsPlaced prepare_piece PrepareKnown g made (Taking home shadow)) (λ g. AfterTake g made home shadow) (pool_made g (Take (tier_above g home) (floor_above g home))) g first now
+    task-run (IsPlanPlaced prepare_piece PrepareKnown g made (Taking home shadow)) (λ g. AfterTake g made home shadow) (pool_made g (Take (tier_above g home) (floor_above g home))) g first now
     (record {
       geometry = h.home_is.may.geometry;
       is = refl;
@@ -105,7 +105,7 @@ runs-lone-test made g first now home true last h = runs-taking made g first now 
   is = h.is;
 })
 runs-lone-test made g first now home false last h =
-    act-run (IsPlaced prepare_piece PrepareKnown g made (ReadingShadow home)) (λ g reply. Takes g made home (told reply)) (Read made.page (cells.Shadow home)) g first now
+    act-run (IsPlanPlaced prepare_piece PrepareKnown g made (ReadingShadow home)) (λ g reply. Takes g made home (told reply)) (Read made.page (cells.Shadow home)) g first now
     tt (shadow-allowed made g first now home h) (record { geometry = refl; is = refl; holds = h }) (λ reply. can-takes g made home (told reply) h.home_is.may.geometry)
 
 -- v alone has a word
@@ -122,7 +122,7 @@ runs-shadow made g first now later home (Busy word) h acted = absurd acted.fits.
 runs-shadow made g first now later home (Lost word) h acted = absurd acted.fits.kind
 
 -- a frame was given
-pub got-frame : (made : PrepareMade) (g : Geometry) (first now later : View) (home shadow frame : ℕ) → (h : IsTaking made g first now home shadow) → Leaves g (Take (tier_above g home) (floor_above g home)) now (pools.Got frame) later
+pub got-frame : (made : PrepareMade) (g : Geometry) (first now later : View) (home shadow frame : ℕ) → (h : IsTakingFrame made g first now home shadow) → Leaves g (Take (tier_above g home) (floor_above g home)) now (pools.Got frame) later
     → IsGot made g first home frame × (later ≡ held (looked_op made.page first.room.aliases (Some (home_word home)) h.known h.looked) (owning frame Raw first.owned) unscanned first.raises first)
 got-frame made g first now later home shadow frame h (given, is) =
     let o : Op = looked_op made.page first.room.aliases (Some (home_word home)) h.known h.looked in
@@ -153,7 +153,7 @@ arm-allowed made g first now h = record {
 }
 
 -- too few frames were free: v is armed
-pub runs-arming : (made : PrepareMade) (g : Geometry) (first now later : View) (home shadow n : ℕ) → IsTaking made g first now home shadow → Leaves g (Take (tier_above g home) (floor_above g home)) now (pools.AtFloor n) later
+pub runs-arming : (made : PrepareMade) (g : Geometry) (first now later : View) (home shadow n : ℕ) → IsTakingFrame made g first now home shadow → Leaves g (Take (tier_above g home) (floor_above g home)) now (pools.AtFloor n) later
     → RunsPrepare made (ArmingOne n) (Follows (IsAct (Arm made.vpage) g) (λ armed. Closes g made (NoFrame n))) g first later
 runs-arming made g first now later home shadow n h left =
     let o : Op = looked_op made.page first.room.aliases (Some (home_word home)) h.known h.looked in
@@ -163,9 +163,9 @@ runs-arming made g first now later home shadow n h left =
       of = h.lone.backing;
       mapped = record { looked = h.lone.mapped; there = refl };
     } in
-    act-run (IsPlaced prepare_piece PrepareKnown g made (ArmingOne n)) (λ g reply. Closes g made (NoFrame n)) (Arm made.vpage) g first later
+    act-run (IsPlanPlaced prepare_piece PrepareKnown g made (ArmingOne n)) (λ g reply. Closes g made (NoFrame n)) (Arm made.vpage) g first later
     tt (arm-allowed made g first later arming) (record { geometry = refl; is = refl; holds = arming }) (λ reply. can-closes g made (NoFrame n))
 
 -- after the Arm
-pub armed-one : (made : PrepareMade) (g : Geometry) (first now later : View) (reply : Reply) → IsArmingOne made g first now → IsActed g now (Arm made.vpage) reply later → IsOpen made g first later
+pub armed-one : (made : PrepareMade) (g : Geometry) (first now later : View) (reply : Reply) → IsArmingOne made g first now → IsActed g now (Arm made.vpage) reply later → IsPageOpen made g first later
 armed-one made g first now later reply h acted = open-same made g first now later acted.is h.opened

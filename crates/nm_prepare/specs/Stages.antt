@@ -38,7 +38,7 @@ use Rattle.nm_pool.specs.declared.task.PoolTask.{PoolTask}
 use Rattle.nm_pool.specs.declared.job.PoolEnd.{PoolEnd}
 use Rattle.nm_vpages.specs.VPages.{vpages_of}
 use Rattle.nm_mappings.specs.Visits.{IsVisits, MayVisit, IsVisited, looks_made, arms_made}
-use Rattle.nm_mappings.specs.Visiting.{place_of, left_at, visit_stages}
+use Rattle.nm_mappings.specs.Visiting.{visit_place, visit_left, visit_stages}
 use Rattle.nm_mappings.specs.declared.visits.VisitsMade.{VisitsMade}
 use Rattle.nm_mappings.specs.declared.visits.VisitPlan.{VisitPlan}
 use Rattle.nm_copying.specs.Copying.{told}
@@ -63,8 +63,8 @@ PieceEnd = Or Reply (Or (List ℕ) PoolEnd)
 abbrev pub MayPiece : PieceMade → Geometry → View → Type 0
 MayPiece = MayBeginOr (λ action g view. MayAct g view action) (MayBeginOr MayVisit MayBegin)
 
-abbrev pub IsPiece : PieceMade → Geometry → Own → PieceEnd → Type 0
-IsPiece = IsOr IsAct (IsOr IsVisits (λ made g own end. IsPool g made.job own end))
+abbrev pub IsPreparePiece : PieceMade → Geometry → Own → PieceEnd → Type 0
+IsPreparePiece = IsOr IsAct (IsOr IsVisits (λ made g own end. IsPool g made.job own end))
 
 abbrev pub PieceLeaves : PieceMade → Geometry → View → PieceEnd → View → Type 0
 PieceLeaves = LeavesOr (λ action g view reply left. IsActed g view action reply left) (LeavesOr (λ made g view found left. IsVisited made view found left) (λ made g view end left. Leaves g made.job view end left))
@@ -77,7 +77,7 @@ abbrev pub piece_made : Piece → PieceMade
 piece_made = or_made (λ a. a.action) (or_made (λ c. c.plan.made) made_of)
 
 abbrev pub IsNewVisitsPart : Composite VisitPlan Act → Type 0
-IsNewVisitsPart c = HasFirst (λ (a : Act). a.action) (λ a. Unit {0}) (λ action g view. MayAct g view action) IsAct (IsPieceAt visit_stages c.plan.made (place_of c.plan)) (left_at c.plan.made (place_of c.plan)) MayVisit IsVisits c.plan.made c.piece
+IsNewVisitsPart c = HasFirst (λ (a : Act). a.action) (λ a. Unit {0}) (λ action g view. MayAct g view action) IsAct (IsPieceAt visit_stages c.plan.made (visit_place c.plan)) (visit_left c.plan.made (visit_place c.plan)) MayVisit IsVisits c.plan.made c.piece
 
 abbrev pub IsNewPiece : Piece → Type 0
 IsNewPiece = IsNewOr (λ a. Unit {0}) (IsNewOr IsNewVisitsPart IsNewPool)
@@ -88,10 +88,10 @@ told_in (This reply) = told reply
 told_in (Other end) = 0
 
 -- the virtual pages that visits found (none where the piece was no visits, of which nothing is claimed)
-abbrev pub found_in : PieceEnd → List ℕ
-found_in (This reply) = []
-found_in (Other (This found)) = found
-found_in (Other (Other end)) = []
+abbrev pub prepare_found : PieceEnd → List ℕ
+prepare_found (This reply) = []
+prepare_found (Other (This found)) = found
+prepare_found (Other (Other end)) = []
 
 -- the piece of a stage
 abbrev pub prepare_piece : Geometry → PrepareMade → Stage → PieceMade
@@ -198,7 +198,7 @@ abbrev pub looked_op : ℕ → ℕ → Option ℕ → Option ℕ → List (ℕ �
 looked_op page room home shadow looked = record (opened page room) { home = home; shadow = shadow; looked = looked }
 
 -- the page is locked, and its operation may be closed
-pub record IsOpen (made : PrepareMade) (g : Geometry) (view now : View) : Type 0 where
+pub record IsPageOpen (made : PrepareMade) (g : Geometry) (view now : View) : Type 0 where
   pub may : MayPrepare g made g view
   pub op : Op
   pub page_is : op.page ≡ made.page
@@ -236,7 +236,7 @@ pub record IsShadowKnown (g : Geometry) (view : View) (page home shadow : ℕ) (
   pub unowned : shadow ≢ 0 → IsNotOwned view (shadow_frame shadow)
 
 -- a frame is to be taken
-pub record IsTaking (made : PrepareMade) (g : Geometry) (view now : View) (home shadow : ℕ) : Type 0 where
+pub record IsTakingFrame (made : PrepareMade) (g : Geometry) (view now : View) (home shadow : ℕ) : Type 0 where
   pub home_is : IsSlowHome made g view home
   pub looked : List (ℕ × ℕ)
   pub lone : IsLone made g looked
@@ -299,19 +299,19 @@ pub record IsReadingHome (made : PrepareMade) (g : Geometry) (view now : View) :
   pub is : now ≡ held (looked_op made.page view.room.aliases None None []) view.owned view.scan view.raises view
 
 -- the home is read
-pub record IsLooking (made : PrepareMade) (g : Geometry) (view now : View) (home : ℕ) : Type 0 where
+pub record IsLookingOver (made : PrepareMade) (g : Geometry) (view now : View) (home : ℕ) : Type 0 where
   pub home_is : IsSlowHome made g view home
   pub is : now ≡ held (looked_op made.page view.room.aliases (Some (home_word home)) None []) view.owned view.scan view.raises view
 
 -- these virtual pages have words, and not v alone
 pub record IsArming (made : PrepareMade) (g : Geometry) (view now : View) (found : List ℕ) : Type 0 where
-  pub opened : IsOpen made g view now
+  pub opened : IsPageOpen made g view now
   pub of : All (λ v. backing_page g v ≡ Some made.page) found
   pub mapped : All (λ v. IsLookedMapped opened.op.looked opened.op.taken v) found
 
 -- v alone has a word, and no frame could be taken
 pub record IsArmingOne (made : PrepareMade) (g : Geometry) (view now : View) : Type 0 where
-  pub opened : IsOpen made g view now
+  pub opened : IsPageOpen made g view now
   pub of : backing_page g made.vpage ≡ Some made.page
   pub mapped : IsLookedMapped opened.op.looked opened.op.taken made.vpage
 
@@ -324,13 +324,13 @@ pub record IsLocking (made : PrepareMade) (g : Geometry) (view now : View) : Typ
 abbrev pub PrepareKnown : PrepareMade → Stage → Geometry → View → View → Type 0
 PrepareKnown made New g view now = ⊥
 PrepareKnown made Locking g view now = IsLocking made g view now
-PrepareKnown made (Marking early) g view now = IsOpen made g view now
-PrepareKnown made (Unlocking early) g view now = IsOpen made g view now
+PrepareKnown made (Marking early) g view now = IsPageOpen made g view now
+PrepareKnown made (Unlocking early) g view now = IsPageOpen made g view now
 PrepareKnown made ReadingHome g view now = IsReadingHome made g view now
-PrepareKnown made (Looking home) g view now = IsLooking made g view now home
+PrepareKnown made (Looking home) g view now = IsLookingOver made g view now home
 PrepareKnown made (Arming found) g view now = IsArming made g view now found
 PrepareKnown made (ReadingShadow home) g view now = IsLookedAt made g view now home
-PrepareKnown made (Taking home shadow) g view now = IsTaking made g view now home shadow
+PrepareKnown made (Taking home shadow) g view now = IsTakingFrame made g view now home shadow
 PrepareKnown made (ArmingOne n) g view now = IsArmingOne made g view now
 PrepareKnown made (Unshading home shadow frame) g view now = IsUnshading made g view now home shadow frame
 PrepareKnown made (PuttingBack home shadow frame) g view now = IsPuttingBack made g view now home shadow frame

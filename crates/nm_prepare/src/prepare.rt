@@ -11,7 +11,7 @@ ghost use Rattle.nm_mappings.specs.Visiting.{IsNewVisits};
 ghost use Rattle.nm_compose.specs.declared.or.Or.{Or};
 ghost use Rattle.nm_prepare.specs.declared.prepare.Stage.{Stage};
 ghost use Rattle.nm_prepare.specs.Preparing.{is_slow_home, is_in_last, tier_above, floor_above};
-ghost use Rattle.nm_prepare.specs.Stages.{prepare_piece, piece_made, IsNewPiece, MayGo, MayTakeFrom, lock_stage, looked_stage, home_stage, got_stage, told_in, found_in};
+ghost use Rattle.nm_prepare.specs.Stages.{prepare_piece, piece_made, IsNewPiece, MayGo, MayTakeFrom, lock_stage, looked_stage, home_stage, got_stage, told_in, prepare_found};
 
 use crate::worn::is_worn;
 use nm_base::Geometry;
@@ -289,8 +289,8 @@ fn told_in(end: Or<Reply, Or<VPageSet, PoolEnd>>) -> u64
 }
 
 /// The virtual pages that visits found (none where the piece was no visits, of which nothing is claimed).
-fn found_in(end: Or<Reply, Or<VPageSet, PoolEnd>>) -> VPageSet
-    ensures { result ≡ found_in end }
+fn prepare_found(end: Or<Reply, Or<VPageSet, PoolEnd>>) -> VPageSet
+    ensures { result ≡ prepare_found end }
 {
     match end {
         Or::This(_) => VPageSet::new(),
@@ -334,7 +334,7 @@ impl<'a> Plan<PreparePiece> for Prepare<'a> {
 
     ghost use Rattle.std.specs.Prelude.{◌≡◌};
     ghost use Rattle.nm_prepare.specs.declared.prepare.Stage.TheVariants.{New};
-    ghost use Rattle.nm_prepare.specs.Placing.{IsPlaced};
+    ghost use Rattle.nm_prepare.specs.Placing.{IsPlanPlaced};
     ghost use Rattle.nm_prepare.specs.Preparing.{IsPrepare};
     ghost use Rattle.nm_prepare.specs.Ready.{MayPrepare, IsPrepared};
     ghost use Rattle.nm_prepare.specs.Stages.{prepare_piece, prepare_left, PrepareKnown};
@@ -349,7 +349,7 @@ impl<'a> Plan<PreparePiece> for Prepare<'a> {
 
     ghost leaves = { λ made g view outcome left. IsPrepared made.1 g view outcome left };
 
-    ghost knows = { λ s. IsPlaced prepare_piece PrepareKnown s.geometry.now s.made s.stage };
+    ghost knows = { λ s. IsPlanPlaced prepare_piece PrepareKnown s.geometry.now s.made s.stage };
 
     ghost left = { λ s. prepare_left s.made s.stage };
 
@@ -381,7 +381,7 @@ impl<'a> Plan<PreparePiece> for Prepare<'a> {
                 Next::Run(self.go(stage))
             }
             Stage::Looking(home) => {
-                let stage = self.looked_stage(home, found_in(end));
+                let stage = self.looked_stage(home, prepare_found(end));
                 Next::Run(self.go(stage))
             }
             Stage::Arming(_) => Next::Run(self.go(Stage::Marking(Early::Gone))),

@@ -17,7 +17,7 @@ use Rattle.crossbeam_queue.specs.Fifo.{Forks, Merges, Learns}
 use Rattle.crossbeam_queue.proofs.Lists.{at_set, set_here, set_else, at_longer}
 use Rattle.nm_queue.specs.Histories.{PassMove, History, moves_by, pages_left, IsFifo, IsFirstOut}
 use Rattle.nm_queue.specs.Passes.{Known, JoinedPass, pass_numbers, IsAlone, first_pass, after_making, made_pass, made_count, with_joined, longer_history, either_number}
-use Rattle.nm_queue.specs.Rules.{GoesOn, IsJoinedTo, HasNoTwice, Knows, HasSeen, Relates, IsWholeAt, spent_pass}
+use Rattle.nm_queue.specs.Rules.{GoesOn, IsJoinedTo, HasNoTwice, KnowsMoves, HasSeen, Relates, IsWholeAt, spent_pass}
 use Rattle.nm_queue.proofs.Numbers.{times, apart}
 use Rattle.nm_queue.proofs.Keeping.{within, all_set, keeps_numbers, every_pass, seen_whole}
 
@@ -34,7 +34,7 @@ begins = record {
   keeper = λ r. r;
   fifo = λ n. subst IsFirstOut (sym (take-nil n)) refl;
   left = refl;
-  known = λ j k e live. let o = only first_pass j k e in subst (λ (y : ℕ × Known). Knows 1 [] (λ r. r) y.0 y.1) (λ i. (sym o.0 i, o.1 i)) (record {
+  known = λ j k e live. let o = only first_pass j k e in subst (λ (y : ℕ × Known). KnowsMoves 1 [] (λ r. r) y.0 y.1) (λ i. (sym o.0 i, o.1 i)) (record {
     number = refl;
     kept = refl;
     own = refl;
@@ -91,9 +91,9 @@ makes pass k live may pages views h at =
     let told = some_made k.made may in
     let count : told.0 ≡ n = (mine.made told.0 told.1).0 in
     let keeper' : ℕ → ℕ = newer n h.keeper in
-    let F : ℕ → Known → Type 0 = Knows (suc n) h.history keeper' in
+    let F : ℕ → Known → Type 0 = KnowsMoves (suc n) h.history keeper' in
     let zero_kept : keeper' 0 ≡ h.keeper 0 = newer_old n h.keeper 0 (omega arith) in
-    let still : (j : ℕ) (u : Known) → j < n → Knows n h.history h.keeper j u → All (IsJoinedTo (suc n) h.history keeper' j) u.joined = λ j u lt was i d lt'. let x = was.joined i d lt' in record { kept = newer_old n h.keeper (get_or u.joined i d).number x.below ∙ x.kept; other = x.other; below = (let b = x.below in omega arith); moves = x.moves } in
+    let still : (j : ℕ) (u : Known) → j < n → KnowsMoves n h.history h.keeper j u → All (IsJoinedTo (suc n) h.history keeper' j) u.joined = λ j u lt was i d lt'. let x = was.joined i d lt' in record { kept = newer_old n h.keeper (get_or u.joined i d).number x.below ∙ x.kept; other = x.other; below = (let b = x.below in omega arith); moves = x.moves } in
     let left' : F pass l = record {
       number = mine.number;
       kept = newer_old n h.keeper pass here ∙ mine.kept;
@@ -127,7 +127,7 @@ makes pass k live may pages views h at =
       keeper = keeper';
       fifo = h.fifo;
       left = h.left;
-      known = subst (λ m. (j : ℕ) (u : Known) → get_elem? (vs ++ r ∷ []) j ≡ some u → u.live ≡ true → Knows m h.history keeper' j u) (sym all)
+      known = subst (λ m. (j : ℕ) (u : Known) → get_elem? (vs ++ r ∷ []) j ≡ some u → u.live ≡ true → KnowsMoves m h.history keeper' j u) (sym all)
           (λ j u e live'. ⊎_elim (λ t. olds j u t live') (λ (t : (j ≡ length vs) × (r ≡ u)). subst (λ (y : ℕ × Known). F y.0 y.1) (λ i. (sym (t.0 ∙ long) i, t.1 i)) right') (at_end vs r u j e));
       unmade = λ q le. h.unmade q (omega arith);
       latest = seen_longer vs r h.history (seen_set views pass k l h.history at live refl h.latest);
@@ -174,7 +174,7 @@ joins pass k other w live live' pages views h at two at' =
     let theirs = h.known other w theirs_at live' in
     let n = length views in
     let keeper' : ℕ → ℕ = handed pass other h.keeper in
-    let F : ℕ → Known → Type 0 = Knows n h.history keeper' in
+    let F : ℕ → Known → Type 0 = KnowsMoves n h.history keeper' in
     let both' : F pass both = record {
       number = mine.number;
       kept = handed_not pass other h.keeper pass pass mine.kept ne;
@@ -236,7 +236,7 @@ joins pass k other w live live' pages views h at two at' =
       keeper = keeper';
       fifo = h.fifo;
       left = h.left;
-      known = subst (λ m. (j : ℕ) (u : Known) → get_elem? (set vs other spent_pass) j ≡ some u → u.live ≡ true → Knows m h.history keeper' j u) (sym all)
+      known = subst (λ m. (j : ℕ) (u : Known) → get_elem? (set vs other spent_pass) j ≡ some u → u.live ≡ true → KnowsMoves m h.history keeper' j u) (sym all)
           (all_set F vs other spent_pass (λ spent. absurd (true≢false (sym spent))) (λ j u not_other e l. olds j u e l not_other));
       unmade = λ r le. h.unmade r (omega arith);
       latest = latest';

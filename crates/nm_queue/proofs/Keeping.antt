@@ -11,7 +11,7 @@ use Rattle.crossbeam_queue.proofs.Lists.{at_set, set_here}
 use Rattle.nm_actor.specs.Lanes.{LaneMove, put, took}
 use Rattle.nm_queue.specs.Histories.{History, moves_by, pages_taken, pages_left, IsFifo}
 use Rattle.nm_queue.specs.Passes.{Known, JoinedPass, pass_numbers, IsAlone, IsMoment, pages_at, with_move, PutThen, TookThen}
-use Rattle.nm_queue.specs.Rules.{Knows, Relates, SawPages}
+use Rattle.nm_queue.specs.Rules.{KnowsMoves, Relates, SawPages}
 use Rattle.nm_queue.proofs.Fifo.{by_pass, Leaves, leaves-left, left-leaves, first_out, leaves_put, leaves_took, fifo_more, fifo_now, moves_by-own, moves_by-other}
 use Rattle.nm_queue.proofs.Numbers.{times, counted, all_there}
 
@@ -29,7 +29,7 @@ all_set F views pass w mine others j u e = ⊎_elim
     (at_set views pass j w u e)
 
 -- the numbers of a pass in use are kept by it
-pub keeps_numbers : (n : ℕ) (h : History) (keeper : ℕ → ℕ) (pass : ℕ) (k : Known) → Knows n h keeper pass k → All (λ r. keeper r ≡ pass) (pass_numbers k)
+pub keeps_numbers : (n : ℕ) (h : History) (keeper : ℕ → ℕ) (pass : ℕ) (k : Known) → KnowsMoves n h keeper pass k → All (λ r. keeper r ≡ pass) (pass_numbers k)
 keeps_numbers n h keeper pass k mine = All-cons (λ r. keeper r ≡ pass) k.number (map (λ j. j.number) k.joined) (ap keeper mine.number ∙ mine.kept)
     (All-map (λ r. keeper r ≡ pass) (λ j. j.number) k.joined (λ i d lt. (mine.joined i d lt).kept))
 
@@ -79,7 +79,7 @@ module _ (pages pages' : List ℕ) (views : List Known) (pass : ℕ) (k : Known)
       let same : length (set views pass moved) ≡ n = length-set views pass moved in
       let here : pass < n = within views pass k at in
       let seen : grown ≡ moved.seen = ap (λ (y : History × ℕ). y.0 ++ by_pass y.1 move ∷ []) (λ i. (mine.seen.is i, sym mine.number i)) in
-      let F : ℕ → Known → Type 0 = Knows n grown h.keeper in
+      let F : ℕ → Known → Type 0 = KnowsMoves n grown h.keeper in
       let mine' : F pass moved = record {
         number = mine.number;
         kept = mine.kept;
@@ -108,7 +108,7 @@ module _ (pages pages' : List ℕ) (views : List Known) (pass : ℕ) (k : Known)
         keeper = h.keeper;
         fifo = fifo_more h.history (by_pass pass move) h.fifo (first_out grown pages' leaves);
         left = left-leaves grown pages' leaves;
-        known = subst (λ m. (j : ℕ) (u : Known) → get_elem? (set views pass moved) j ≡ some u → u.live ≡ true → Knows m grown h.keeper j u) (sym same) (all_set F views pass moved (λ _. mine') others);
+        known = subst (λ m. (j : ℕ) (u : Known) → get_elem? (set views pass moved) j ≡ some u → u.live ≡ true → KnowsMoves m grown h.keeper j u) (sym same) (all_set F views pass moved (λ _. mine') others);
         unmade = λ r le. let le' : n ≤ r = omega arith in moves_by-other r pass h.history move (λ e. absurd (omega arith)) ∙ h.unmade r le';
         latest = record { pass = pass; known = moved; at = set_here views pass moved here; live = live; seen = sym seen };
       }

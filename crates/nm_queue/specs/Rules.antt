@@ -23,7 +23,7 @@ abbrev pub HasNoTwice : List ℕ → Type 0
 HasNoTwice numbers = (number : ℕ) → count_by (λ n. n == number) numbers ≤ 1
 
 -- what a pass in use knows is so; it makes passes where it keeps the first one
-pub record Knows (passes : ℕ) (history : History) (keeper : ℕ → ℕ) (pass : ℕ) (k : Known) : Type 0 where
+pub record KnowsMoves (passes : ℕ) (history : History) (keeper : ℕ → ℕ) (pass : ℕ) (k : Known) : Type 0 where
   pub number : k.number ≡ pass
   pub kept : keeper pass ≡ pass
   pub own : moves_by pass history ≡ k.moves
@@ -47,7 +47,7 @@ pub record Relates (pages : List ℕ) (views : List Known) : Type 0 where
   pub keeper : ℕ → ℕ
   pub fifo : IsFifo history
   pub left : pages_left history ≡ pages
-  pub known : (pass : ℕ) (k : Known) → get_elem? views pass ≡ some k → k.live ≡ true → Knows (length views) history keeper pass k
+  pub known : (pass : ℕ) (k : Known) → get_elem? views pass ≡ some k → k.live ≡ true → KnowsMoves (length views) history keeper pass k
   pub unmade : (pass : ℕ) → length views ≤ pass → moves_by pass history ≡ []
   pub latest : HasSeen views history
 

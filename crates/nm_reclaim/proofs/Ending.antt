@@ -16,7 +16,7 @@ use Rattle.nm_pool.specs.declared.job.PoolJob.TheVariants.{Back}
 use Rattle.nm_pool.specs.Pool.{IsPool}
 use Rattle.nm_pool.proofs.Begun.{some-pool}
 use Rattle.nm_reclaim.specs.declared.sweep.ReclaimMade.{ReclaimMade}
-use Rattle.nm_reclaim.specs.Reclaims.{most_freed, word_in, PutsBack, Discards, LeavesPage, VisitAfterShadow, VisitAfterHome, VisitAfterLock, Visits, VisitsAll}
+use Rattle.nm_reclaim.specs.Reclaims.{most_freed, word_in, PutsBack, DiscardsShadow, LeavesPage, VisitAfterShadow, VisitAfterHome, VisitAfterLock, Visits, VisitsAll}
 
 can-back : (g : Geometry) (shadow : ℕ) → IsTier g (tier_of g shadow) → CanEnd (IsPool g (Back shadow))
 can-back g shadow exists = let b = some-pool g (Back shadow) exists in record { rest = b.rest; outcome = b.outcome; shown = b.whole }
@@ -27,7 +27,7 @@ can-puts g shadow freed after exists can = can-follow (IsPool g (Back shadow)) (
 pub can-leave : (g : Geometry) (page freed : ℕ) (after : ℕ → Own → ℕ → Type 0) → ((n : ℕ) → CanEnd (after n)) → CanEnd (LeavesPage g page freed after)
 can-leave g page freed after can = can-follow (IsAct (Unlock page) g) (λ unlocked. after freed) (some-act (Unlock page) g) (can freed)
 
-pub can-discard : (g : Geometry) (page master shadow freed : ℕ) (after : ℕ → Own → ℕ → Type 0) → IsTier g (tier_of g shadow) → ((n : ℕ) → CanEnd (after n)) → CanEnd (Discards g page master shadow freed after)
+pub can-discard : (g : Geometry) (page master shadow freed : ℕ) (after : ℕ → Own → ℕ → Type 0) → IsTier g (tier_of g shadow) → ((n : ℕ) → CanEnd (after n)) → CanEnd (DiscardsShadow g page master shadow freed after)
 can-discard g page master shadow freed after exists can =
     can-follow (IsAct (SetShadow page master None) g) (λ set. LeavesPage g page freed (λ n. PutsBack g shadow n after)) (some-act (SetShadow page master None) g)
     (can-leave g page freed (λ n. PutsBack g shadow n after) (λ n. can-puts g shadow n after exists can))

@@ -41,9 +41,9 @@ use Rattle.nm_reclaim.specs.declared.sweep.ReclaimMade.{ReclaimMade}
 use Rattle.nm_reclaim.specs.declared.sweep.Stage.{Stage}
 use Rattle.nm_reclaim.specs.declared.sweep.Stage.TheVariants.{Locking, ReadingHome, ReadingShadow, Discarding, Freeing, PuttingBack, Unlocking}
 use Rattle.nm_reclaim.specs.declared.sweep.Sweep.{Sweep}
-use Rattle.nm_reclaim.specs.Reclaims.{is_shadow_in, pages_from, most_freed, word_in, PutsBack, Discards, LeavesPage, VisitAfterLock, Visits}
+use Rattle.nm_reclaim.specs.Reclaims.{is_shadow_in, pages_from, most_freed, word_in, PutsBack, DiscardsShadow, LeavesPage, VisitAfterLock, Visits}
 use Rattle.nm_reclaim.specs.Swept.{IsSwept}
-use Rattle.nm_reclaim.specs.Sweeping.{SweepPieceMade, SweepPieceEnd, sweep_piece_made, IsNewSweepPiece, MaySweepPiece, IsSweepPiece, LeavesSweepPiece, SweptMade, sweep_made, MaySweep, IsSweep, SweepLeaves, new_place, sweep_piece_of, sweep_piece_at, reply_of_piece, sweep_left, KnownBy, VisitsFrom, IsAtPage, IsLocked, IsReadingHome, IsReadingShadow, IsDiscarding, IsFreeing, IsPuttingBack, sweep_stages, next_visited, IsNextVisit}
+use Rattle.nm_reclaim.specs.Sweeping.{SweepPieceMade, SweepPieceEnd, sweep_piece_made, IsNewSweepPiece, MaySweepPiece, IsSweepPiece, LeavesSweepPiece, SweptMade, sweep_made, MaySweep, IsSweep, SweepLeaves, new_place, sweep_piece_of, sweep_piece_at, reply_of_piece, sweep_left, KnownBy, VisitsFrom, IsAtPage, IsLocked, IsSweepReadingHome, IsReadingShadow, IsDiscarding, IsFreeing, IsSweepPuttingBack, sweep_stages, next_visited, IsNextVisit}
 use Rattle.nm_reclaim.proofs.Pages.{IsNextPage, next-page, page-over, pages-next}
 use Rattle.nm_reclaim.proofs.Ending.{can-puts, can-leave, can-after-shadow, can-after-home, can-after-lock, can-visits}
 use Rattle.nm_reclaim.proofs.Views.{page-fresh, may-unlock, known-there, locked-done, locked-busy, home-none, home-read, home-range, shadow-kept, shadow-read, shadow-range, discarded, freeing-done, unlocked-done, put-back, owned-there, forgets-none}
@@ -96,7 +96,7 @@ runs-visit made page freed next g first now may swept few n =
     }
 
 -- Read of the home
-runs-home : (made : SweptMade) (page freed : ℕ) (g : Geometry) (first now : View) → IsReadingHome made page freed g first now
+runs-home : (made : SweptMade) (page freed : ℕ) (g : Geometry) (first now : View) → IsSweepReadingHome made page freed g first now
     → Runs made (place_of page freed ReadingHome) (sweep_left made (place_of page freed Locking) g (This Done)) g first now
 runs-home made page freed g first now at = record {
   begin = record { quiet = tt; allowed = record { range = record { page = at.locked.at.exists; cell = refl }; permitted = known-there made page freed g first now at.op (λ o. Unit {0}) at.locked tt } };
@@ -133,7 +133,7 @@ runs-leave made page freed g first now at = record {
 
 -- SetShadow
 runs-discard : (made : SweptMade) (page freed master shadow : ℕ) (g : Geometry) (first now : View) → IsTier g (tier_of g shadow) → IsDiscarding made page freed master shadow g first now
-    → Runs made (place_of page freed (Discarding master shadow)) (Discards g page master shadow freed (λ n. VisitsFrom g made.1.asked (page + 1) n)) g first now
+    → Runs made (place_of page freed (Discarding master shadow)) (DiscardsShadow g page master shadow freed (λ n. VisitsFrom g made.1.asked (page + 1) n)) g first now
 runs-discard made page freed master shadow g first now exists at = record {
   begin = record {
     quiet = tt;
@@ -158,7 +158,7 @@ runs-free made page freed master shadow end g first now at = record {
 }
 
 -- the frame is put back
-runs-back : (made : SweptMade) (page freed shadow : ℕ) (end : SweepPieceEnd) (g : Geometry) (first now : View) → IsPuttingBack made page freed shadow g first now
+runs-back : (made : SweptMade) (page freed shadow : ℕ) (end : SweepPieceEnd) (g : Geometry) (first now : View) → IsSweepPuttingBack made page freed shadow g first now
     → Runs made (place_of page freed (PuttingBack shadow)) (sweep_left made (place_of page freed (Freeing shadow)) g end) g first now
 runs-back made page freed shadow end g first now at = record {
   begin = record {

@@ -22,7 +22,7 @@ use Rattle.nm_event.specs.Fitting.{IsNewsOfShadow, IsHomeRead, IsShadowRead}
 use Rattle.nm_compose.specs.Acts.{IsActed}
 use Rattle.nm_reclaim.specs.Reclaims.{is_skipped}
 use Rattle.nm_reclaim.specs.Swept.{IsOfOther, IsForgotten, IsSwept}
-use Rattle.nm_reclaim.specs.Sweeping.{SweptMade, IsAtPage, IsBetween, HasPageLocked, IsLocked, IsReadingHome, IsReadingShadow, IsDiscarding, HasShadow, IsFreeing, IsPuttingBack}
+use Rattle.nm_reclaim.specs.Sweeping.{SweptMade, IsAtPage, IsBetween, HasPageLocked, IsLocked, IsSweepReadingHome, IsReadingShadow, IsDiscarding, HasShadow, IsFreeing, IsSweepPuttingBack}
 use Rattle.nm_reclaim.proofs.Lasts.{edit_last, erase_last, put_last}
 use Rattle.nm_reclaim.proofs.Pages.{alone-fresh}
 
@@ -158,9 +158,9 @@ locked-edit made page freed g first now o f owned h k = record {
 -- Steps.
 
 -- the page was locked
-pub locked-done : (made : SweptMade) (page freed : ℕ) (g : Geometry) (first now later : View) → IsBetween made page freed g first now → IsActed g now (Lock page) Done later → IsReadingHome made page freed g first later
+pub locked-done : (made : SweptMade) (page freed : ℕ) (g : Geometry) (first now later : View) → IsBetween made page freed g first now → IsActed g now (Lock page) Done later → IsSweepReadingHome made page freed g first later
 locked-done made page freed g first now later at acted =
-    let P : View → Type 0 = λ v. IsReadingHome made page freed g first v in
+    let P : View → Type 0 = λ v. IsSweepReadingHome made page freed g first v in
     let o : Op = opened page now.room.aliases in
     subst P (sym acted.is) (record {
       op = o;
@@ -184,7 +184,7 @@ pub locked-busy : (made : SweptMade) (page freed word : ℕ) (g : Geometry) (fir
 locked-busy made page freed word g first now later at acted = let P : View → Type 0 = λ v. IsSwept made.1.asked.skip first v in subst P (sym acted.is) at.swept
 
 -- the home was read as none
-pub home-none : (made : SweptMade) (page freed : ℕ) (g : Geometry) (first now later : View) (word : ℕ) → IsReadingHome made page freed g first now → IsActed g now (Read page (Home page)) (Word word) later → IsLocked made page freed g first later
+pub home-none : (made : SweptMade) (page freed : ℕ) (g : Geometry) (first now later : View) (word : ℕ) → IsSweepReadingHome made page freed g first now → IsActed g now (Read page (Home page)) (Word word) later → IsLocked made page freed g first later
 home-none made page freed g first now later word at acted =
     let P : View → Type 0 = λ v. IsLocked made page freed g first v in
     subst P (sym acted.is) (record {
@@ -194,14 +194,14 @@ home-none made page freed g first now later word at acted =
     })
 
 -- a home word that was read names a frame, or none
-pub home-range : (made : SweptMade) (page freed : ℕ) (g : Geometry) (first now later : View) (word : ℕ) → IsReadingHome made page freed g first now → IsActed g now (Read page (Home page)) (Word word) later → word ≤ frame_count g
+pub home-range : (made : SweptMade) (page freed : ℕ) (g : Geometry) (first now later : View) (word : ℕ) → IsSweepReadingHome made page freed g first now → IsActed g now (Read page (Home page)) (Word word) later → word ≤ frame_count g
 home-range made page freed g first now later word at acted =
     let told = acted.fits.told.said in
     let op : IfSome (Some at.op) (λ o. IsHomeRead g now word o) = subst (λ (o : Option Op). IfSome o (λ x. IsHomeRead g now word x)) (op-there made page freed g first now at.op at.locked) told in
     (op.news at.home).range
 
 -- the home was read
-pub home-read : (made : SweptMade) (page freed : ℕ) (g : Geometry) (first now later : View) (word master : ℕ) → IsReadingHome made page freed g first now → IsActed g now (Read page (Home page)) (Word word) later
+pub home-read : (made : SweptMade) (page freed : ℕ) (g : Geometry) (first now later : View) (word master : ℕ) → IsSweepReadingHome made page freed g first now → IsActed g now (Read page (Home page)) (Word word) later
     → word ≡ home_word master → IsReadingShadow made page freed master g first later
 home-read made page freed g first now later word master at acted is =
     let P : View → Type 0 = λ v. IsReadingShadow made page freed master g first v in
@@ -290,9 +290,9 @@ unlocked-rest made page freed g first now o h =
     ∙ ap (λ (ops : List Op). record first { ops = ops; owned = spoiled page now.owned; scan = now.scan }) (erased made page freed g first now o h)
 
 -- the page was unlocked, with the shadow owned
-pub freeing-done : (made : SweptMade) (page freed shadow : ℕ) (g : Geometry) (first now later : View) → IsFreeing made page freed shadow g first now → IsActed g now (Unlock page) Done later → IsPuttingBack made page freed shadow g first later
+pub freeing-done : (made : SweptMade) (page freed shadow : ℕ) (g : Geometry) (first now later : View) → IsFreeing made page freed shadow g first now → IsActed g now (Unlock page) Done later → IsSweepPuttingBack made page freed shadow g first later
 freeing-done made page freed shadow g first now later at acted =
-    let P : View → Type 0 = λ v. IsPuttingBack made page freed shadow g first v in
+    let P : View → Type 0 = λ v. IsSweepPuttingBack made page freed shadow g first v in
     subst P (sym acted.is) (record {
       at = at.locked.at;
       owned = shadow-spoiled made.1.asked.skip page shadow g first.owned now.owned at.locked.at.other at.owned;
@@ -309,7 +309,7 @@ unlocked-done made page freed g first now later at acted =
     })
 
 -- the frame was put back
-pub put-back : (made : SweptMade) (page freed shadow : ℕ) (g : Geometry) (first now later : View) → IsPuttingBack made page freed shadow g first now
+pub put-back : (made : SweptMade) (page freed shadow : ℕ) (g : Geometry) (first now later : View) → IsSweepPuttingBack made page freed shadow g first now
     → later ≡ record now { turn = None; scan = unscanned; owned = erase owned_frame shadow now.owned } → IsSwept made.1.asked.skip first later
 put-back made page freed shadow g first now later at is =
     let P : View → Type 0 = λ v. IsSwept made.1.asked.skip first v in

@@ -49,8 +49,8 @@ abbrev pub PutsBack : Geometry → ℕ → ℕ → (ℕ → Own → ℕ → Type
 PutsBack g shadow freed after = Follows (IsPool g (Back shadow)) (λ end. after (freed + 1))
 
 -- the page loses its shadow, and is unlocked
-abbrev pub Discards : Geometry → ℕ → ℕ → ℕ → ℕ → (ℕ → Own → ℕ → Type 0) → Own → ℕ → Type 0
-Discards g page master shadow freed after = Follows (IsAct (SetShadow page master None) g) (λ set. Follows (IsAct (Unlock page) g) (λ unlocked. PutsBack g shadow freed after))
+abbrev pub DiscardsShadow : Geometry → ℕ → ℕ → ℕ → ℕ → (ℕ → Own → ℕ → Type 0) → Own → ℕ → Type 0
+DiscardsShadow g page master shadow freed after = Follows (IsAct (SetShadow page master None) g) (λ set. Follows (IsAct (Unlock page) g) (λ unlocked. PutsBack g shadow freed after))
 
 -- the page is unlocked as it is
 abbrev pub LeavesPage : Geometry → ℕ → ℕ → (ℕ → Own → ℕ → Type 0) → Own → ℕ → Type 0
@@ -58,7 +58,7 @@ LeavesPage g page freed after = Follows (IsAct (Unlock page) g) (λ unlocked. af
 
 -- by the shadow word of its home
 abbrev pub VisitAfterShadow : Geometry → ReclaimMade → ℕ → ℕ → ℕ → ℕ → (ℕ → Own → ℕ → Type 0) → Own → ℕ → Type 0
-VisitAfterShadow g made page master word freed after = Either (is_shadow_in g made.tier word) (Discards g page master (shadow_frame word) freed after) (LeavesPage g page freed after)
+VisitAfterShadow g made page master word freed after = Either (is_shadow_in g made.tier word) (DiscardsShadow g page master (shadow_frame word) freed after) (LeavesPage g page freed after)
 
 -- by its home word
 abbrev pub VisitAfterHome : Geometry → ReclaimMade → ℕ → ℕ → ℕ → (ℕ → Own → ℕ → Type 0) → Own → ℕ → Type 0

@@ -177,7 +177,7 @@ pub record IsLocked (made : SweptMade) (page freed : ℕ) (g : Geometry) (first 
   pub owned : IsForgotten made.1.asked.skip first.owned now.owned
 
 -- nothing is known of the page
-pub record IsReadingHome (made : SweptMade) (page freed : ℕ) (g : Geometry) (first now : View) : Type 0 where
+pub record IsSweepReadingHome (made : SweptMade) (page freed : ℕ) (g : Geometry) (first now : View) : Type 0 where
   pub op : Op
   pub locked : HasPageLocked made page freed g first now op
   pub owned : IsForgotten made.1.asked.skip first.owned now.owned
@@ -221,7 +221,7 @@ pub record IsFreeing (made : SweptMade) (page freed shadow : ℕ) (g : Geometry)
   pub locked : HasPageLocked made page freed g first now op
   pub owned : HasShadow made.1.asked.skip shadow g first.owned now.owned
 
-pub record IsPuttingBack (made : SweptMade) (page freed shadow : ℕ) (g : Geometry) (first now : View) : Type 0 where
+pub record IsSweepPuttingBack (made : SweptMade) (page freed shadow : ℕ) (g : Geometry) (first now : View) : Type 0 where
   pub at : IsAtPage made page freed g first
   pub owned : HasShadow made.1.asked.skip shadow g first.owned now.owned
   pub rest : now ≡ record first { owned = now.owned; scan = now.scan }
@@ -229,11 +229,11 @@ pub record IsPuttingBack (made : SweptMade) (page freed shadow : ℕ) (g : Geome
 abbrev pub KnownBy : SweptMade → ℕ → ℕ → Stage → Geometry → View → View → Type 0
 KnownBy made page freed New g first now = ⊥
 KnownBy made page freed Locking g first now = IsBetween made page freed g first now
-KnownBy made page freed ReadingHome g first now = IsReadingHome made page freed g first now
+KnownBy made page freed ReadingHome g first now = IsSweepReadingHome made page freed g first now
 KnownBy made page freed (ReadingShadow master) g first now = IsReadingShadow made page freed master g first now
 KnownBy made page freed (Discarding master shadow) g first now = IsDiscarding made page freed master shadow g first now
 KnownBy made page freed (Freeing shadow) g first now = IsFreeing made page freed shadow g first now
-KnownBy made page freed (PuttingBack shadow) g first now = IsPuttingBack made page freed shadow g first now
+KnownBy made page freed (PuttingBack shadow) g first now = IsSweepPuttingBack made page freed shadow g first now
 KnownBy made page freed Unlocking g first now = IsLocked made page freed g first now
 
 abbrev pub sweep_stages : Stages SweptMade Place SweepPieceMade SweepPieceEnd ℕ

@@ -21,7 +21,7 @@ use Rattle.nm_core.proofs.Owns.{view_after-run}
 use Rattle.nm_core.proofs.Steps.{place_there}
 use Rattle.nm_runs.proofs.EachRun.{IsLawful, lawful_run}
 use Rattle.nm_runs.proofs.Longer.{state_from-more, run_from-more}
-use Rattle.nm_rule.specs.Knows.{event_by}
+use Rattle.nm_rule.specs.Knows.{event_made}
 use Rattle.nm_rule.proofs.Parts.{own_of-same, own_of-other}
 
 within : (s : State) (actor : ℕ) → IsKept s → IsActor s.geometry actor → actor < length s.views
@@ -30,7 +30,7 @@ within s actor k there = omega (arith, there, k.actors)
 word_same : (s : State) (actor : ℕ) (a : Action) → IsKept s → IsActor s.geometry actor → Allowed s.geometry (view_of s actor) a → get_or (flat s.words) (at s.geometry (place_found s actor a)) 0 ≡ word_found s actor a
 word_same s actor a k there may = flat-at s.geometry s.words (place_found s actor a) k.sizes (place_there s actor a k (within s actor k there) may)
 
-step_here : (s : State) (actor : ℕ) (a : Action) (n : ℕ) → IsKept s → IsActor s.geometry actor → Allowed s.geometry (view_of s actor) a → n ≡ get_or (flat s.words) (at s.geometry (place_found s actor a)) 0 → IsStep s (event_by actor a (reply_of (change_made s actor a) n))
+step_here : (s : State) (actor : ℕ) (a : Action) (n : ℕ) → IsKept s → IsActor s.geometry actor → Allowed s.geometry (view_of s actor) a → n ≡ get_or (flat s.words) (at s.geometry (place_found s actor a)) 0 → IsStep s (event_made actor a (reply_of (change_made s actor a) n))
 step_here s actor a n k there may is = record {
   actor = there;
   allowed = may;
@@ -44,9 +44,9 @@ words_here s actor a k there may =
 
 -- The same, of a geometry and a view that are known to be those of the state.
 
-pub step_made : (g : Geometry) (s : State) (actor : ℕ) (v : View) (a : Action) (n : ℕ) → s.geometry ≡ g → view_of s actor ≡ v → IsKept s → IsActor g actor → Allowed g v a → n ≡ get_or (flat s.words) (at g (where_of g v a)) 0 → IsStep s (event_by actor a (reply_of (change_of g v a) n))
+pub step_made : (g : Geometry) (s : State) (actor : ℕ) (v : View) (a : Action) (n : ℕ) → s.geometry ≡ g → view_of s actor ≡ v → IsKept s → IsActor g actor → Allowed g v a → n ≡ get_or (flat s.words) (at g (where_of g v a)) 0 → IsStep s (event_made actor a (reply_of (change_of g v a) n))
 step_made g s actor v a n machine seen k =
-    let Made : Geometry → View → Type 0 = λ g v. IsActor g actor → Allowed g v a → n ≡ get_or (flat s.words) (at g (where_of g v a)) 0 → IsStep s (event_by actor a (reply_of (change_of g v a) n)) in
+    let Made : Geometry → View → Type 0 = λ g v. IsActor g actor → Allowed g v a → n ≡ get_or (flat s.words) (at g (where_of g v a)) 0 → IsStep s (event_made actor a (reply_of (change_of g v a) n)) in
     let Seen : View → Type 0 = λ v. Made s.geometry v in
     let Machine : Geometry → Type 0 = λ g. Made g v in
     subst Machine machine (subst Seen seen (λ there may is. step_here s actor a n k there may is))

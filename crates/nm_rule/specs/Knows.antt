@@ -22,8 +22,8 @@ abbrev pub unstarted : Geometry → ℕ → Progress
 unstarted g actor = record { view = opening g actor; own = [] }
 
 -- the event of an actor that makes an action and is answered so
-abbrev pub event_by : ℕ → Action → Reply → Event
-event_by actor a r = record { actor = actor; action = a; reply = r }
+abbrev pub event_made : ℕ → Action → Reply → Event
+event_made actor a r = record { actor = actor; action = a; reply = r }
 
 -- how far an actor has come after an action that was answered so
 abbrev pub advanced : Geometry → Action → Reply → Progress → Progress

@@ -28,7 +28,7 @@ pub record IsKnown (g : Geometry) (run : List Event) (knower : ℕ → ℕ) (sea
   pub known_by : knower actor ≡ seat
 
 -- what a seat knows is so, and it has seen a beginning of the run
-pub record Knows (g : Geometry) (run : List Event) (knower : ℕ → ℕ) (seat : ℕ) (k : Knowledge) : Type 0 where
+pub record IsKnowing (g : Geometry) (run : List Event) (knower : ℕ → ℕ) (seat : ℕ) (k : Knowledge) : Type 0 where
   pub mine : (p : Progress) → k.mine ≡ Some p → IsKnown g run knower seat p.view.number p
   pub seats : (actor : ℕ) (p : Progress) → progress_by (seat_of k.seats actor) ≡ Some p → IsKnown g run knower seat actor p
   pub seen : IsPrefix k.seen run
@@ -41,4 +41,4 @@ pub record Shows (g : Geometry) (t : State (Unit {0}) Knowledge) : Type 0 where
   pub knower : ℕ → ℕ
   pub is_run : IsRun g run
   pub words : t.words ≡ flat (state_after g run).words
-  pub known : (seat : ℕ) (k : Knowledge) → get_elem? t.views seat ≡ some k → Knows g run knower seat k
+  pub known : (seat : ℕ) (k : Knowledge) → get_elem? t.views seat ≡ some k → IsKnowing g run knower seat k

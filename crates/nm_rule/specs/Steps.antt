@@ -19,18 +19,18 @@ use Rattle.nm_core.specs.Causes.{IsBusyWith, IsLostTo, Refuses}
 use Rattle.nm_core.specs.Runs.{IsRun, IsStep, state_after}
 use Rattle.nm_rule.specs.declared.known.Progress.{Progress}
 use Rattle.nm_rule.specs.declared.known.Knowledge.{Knowledge}
-use Rattle.nm_rule.specs.Knows.{event_by, advanced}
+use Rattle.nm_rule.specs.Knows.{event_made, advanced}
 
 -- an actor that has come so far makes an action at a moment of the run, when `front` has been made: its event is the step of
 -- the state then. All that was seen before belongs to `front`, and all of it with the event is seen after
-pub record IsMade (g : Geometry) (p : Progress) (a : Action) (r : Reply) (before after : List Event) : Type 0 where
+pub record IsMoveMade (g : Geometry) (p : Progress) (a : Action) (r : Reply) (before after : List Event) : Type 0 where
   pub front : List Event
   pub run : IsRun g front
   pub own : own_of p.view.number front ≡ p.own
   pub view : view_of (state_after g front) p.view.number ≡ p.view
   pub since : IsPrefix before front
-  pub step : IsStep (state_after g front) (event_by p.view.number a r)
-  pub seen : after ≡ front ++ event_by p.view.number a r ∷ []
+  pub step : IsStep (state_after g front) (event_made p.view.number a r)
+  pub seen : after ≡ front ++ event_made p.view.number a r ∷ []
   pub whole : IsRun g after
   pub part : own_of p.view.number after ≡ p.own ++ (a, r) ∷ []
   pub busy : (w : ℕ) → (r ≡ Busy w) ↔ IsBusyWith (state_after g front) p.view.number a w
@@ -41,15 +41,15 @@ pub record IsMade (g : Geometry) (p : Progress) (a : Action) (r : Reply) (before
 pub record Grows (g : Geometry) (a : Action) (r : Reply) (p : Progress) (k after : Knowledge) : Type 0 where
   pub mine : after.mine ≡ Some (advanced g a r p)
   pub seats : after.seats ≡ k.seats
-  pub made : IsMade g p a r k.seen after.seen
+  pub made : IsMoveMade g p a r k.seen after.seen
   pub fits : Fits g p.view a r
 
 -- what the table tells of the word that an exchange found: a put tells the word that was put
-abbrev pub told : Change → ℕ → ℕ
-told (Put x) n = x
-told _ n = n
+abbrev pub told_of : Change → ℕ → ℕ
+told_of (Put x) n = x
+told_of _ n = n
 
--- a step by this action, told of this word, leaves the seat so
+-- a step by this action, told_of of this word, leaves the seat so
 pub record Tells (g : Geometry) (a : Action) (word : ℕ) (before after : Me (Unit {0}) Knowledge) : Type 0 where
   pub actor : Progress
   pub mine : before.0.mine ≡ Some actor

@@ -1,4 +1,4 @@
-//! What is done with a seat, as the table wants it told: a step, a seat that is split off, a seat that is joined back.
+//! What is done with a seat, as the table wants it told_of: a step, a seat that is split off, a seat that is joined back.
 
 ghost use Rattle.std.specs.Prelude.{ℕ};
 ghost use Rattle.nm_base.specs.Geometry.{Geometry};

@@ -13,7 +13,7 @@ ghost use Rattle.nm_rule.specs.declared.known.ActorSeat.TheVariants.{Unsplit};
 ghost use Rattle.nm_rule.specs.declared.known.Knowledge.{Knowledge};
 ghost use Rattle.nm_rule.specs.Knows.{first_knowledge, without, handed, with_back, nobody, seat_of};
 ghost use Rattle.nm_rule.specs.Shows.{Shows};
-ghost use Rattle.nm_rule.specs.Steps.{told, Tells, IsExchange};
+ghost use Rattle.nm_rule.specs.Steps.{told_of, Tells, IsExchange};
 ghost use Rattle.nm_rule.specs.Stands.{SeatsStand, IsEnd};
 
 use crate::known::{Knowledge, RunRule};
@@ -37,7 +37,7 @@ pub fn the_rule_holds_at_first()
 pub fn each_permitted_step_keeps_the_rule()
     ensures { (g : Geometry) (slots seat : ℕ) (me : Me (Unit {0}) Knowledge) (place : ℕ) (a : Action) (change : Change)
         → IsExchange g a me.0 place change
-        → Allows (Shows g) slots seat me place (changed change) (λ word after. Tells g a (told change word) me after) }
+        → Allows (Shows g) slots seat me place (changed change) (λ word after. Tells g a (told_of change word) me after) }
 {}
 
 /// Where the first seat splits off the seat of an actor that it has not named yet, the rule is kept.

@@ -26,7 +26,7 @@ use Rattle.nm_survey.specs.declared.survey.Survey.{Survey}
 use Rattle.nm_survey.specs.declared.survey.Stage.{Stage}
 use Rattle.nm_survey.specs.declared.survey.Stage.TheVariants.{Locking, Looking, Unlocking}
 use Rattle.nm_survey.specs.declared.survey.SurveyMade.{SurveyMade}
-use Rattle.nm_survey.specs.Surveys.{numbers_from, count_with, count_after, IsSurveyed, Unlocks, LookAt, Looks, AfterLock, IsSurvey, MaySurvey, HasLocked, IsAtLock, survey_stages, survey_action, left_at, looking_from}
+use Rattle.nm_survey.specs.Surveys.{numbers_from, count_with, count_after, IsSurveyed, Unlocks, SurveysAt, SurveyLooks, AfterSurveyLock, IsSurvey, MaySurvey, HasLocked, IsSurveyAtLock, survey_stages, survey_action, survey_left, looking_from}
 
 -- The operation on the page.
 
@@ -54,7 +54,7 @@ fresh-now : (page : ℕ) (first now : View) → now ≡ first → op_on first pa
 fresh-now page first now same fresh = rw same fresh
 
 -- the page was locked
-pub locked-done : (made : SurveyMade) (g : Geometry) (first now later : View) → IsAtLock made g first now → IsActed g now (Lock made.page) Done later → HasLocked made g first later
+pub locked-done : (made : SurveyMade) (g : Geometry) (first now later : View) → IsSurveyAtLock made g first now → IsActed g now (Lock made.page) Done later → HasLocked made g first later
 locked-done made g first now later at acted =
     let L : View → Type 0 = λ v. HasLocked made g first v in
     subst L (sym acted.is) (record {
@@ -111,18 +111,18 @@ numbers-none v n h = let e : n - v ≡ 0 = omega arith in rw e refl
 can-unlocks : (g : Geometry) (page mapped : ℕ) → CanEnd (Unlocks g page mapped)
 can-unlocks g page mapped = can-follow (IsAct (Unlock page) g) (λ reply. Ends (Some mapped)) (some-act (Unlock page) g) (can-ends (Some mapped))
 
-can-looks : (g : Geometry) (made : SurveyMade) (vpage mapped : ℕ) → CanEnd (Looks g made vpage mapped)
-can-looks g made vpage mapped = each-can (LookAt g) (numbers_from vpage (made.vpages - vpage)) mapped (Unlocks g made.page)
+can-looks : (g : Geometry) (made : SurveyMade) (vpage mapped : ℕ) → CanEnd (SurveyLooks g made vpage mapped)
+can-looks g made vpage mapped = each-can (SurveysAt g) (numbers_from vpage (made.vpages - vpage)) mapped (Unlocks g made.page)
     (λ item now later can. can-follow (IsAct (Look item) g) (λ reply. later (count_after reply now)) (some-act (Look item) g) (can (count_after (some-act (Look item) g).outcome now)))
     (λ end. can-unlocks g made.page end)
 
-can-after-lock : (g : Geometry) (made : SurveyMade) (reply : Reply) → CanEnd (AfterLock g made reply)
+can-after-lock : (g : Geometry) (made : SurveyMade) (reply : Reply) → CanEnd (AfterSurveyLock g made reply)
 can-after-lock g made Done = can-looks g made 0 0
 can-after-lock g made _ = can-ends None
 
 -- the pattern has a list
 pub some-survey : (made : SurveyMade) (g : Geometry) → CanEnd (IsSurvey made g)
-some-survey made g = can-follow (IsAct (Lock made.page) g) (AfterLock g made) (some-act (Lock made.page) g) (can-after-lock g made (some-act (Lock made.page) g).outcome)
+some-survey made g = can-follow (IsAct (Lock made.page) g) (AfterSurveyLock g made) (some-act (Lock made.page) g) (can-after-lock g made (some-act (Lock made.page) g).outcome)
 
 -- The pieces.
 
@@ -130,7 +130,7 @@ abbrev pub RunsSurvey : SurveyMade → Stage → (Own → Option ℕ → Type 0)
 RunsSurvey = RunsAt (λ action g view. MayAct g view action) IsAct survey_stages
 
 runs-test : (made : SurveyMade) (g : Geometry) (first now : View) (vpage mapped : ℕ) (test : Bool) → nat_lt vpage made.vpages ≡ test → HasLocked made g first now → mapped ≤ vpage
-    → RunsSurvey made (if test then Looking vpage mapped else Unlocking mapped) (Looks g made vpage mapped) g first now
+    → RunsSurvey made (if test then Looking vpage mapped else Unlocking mapped) (SurveyLooks g made vpage mapped) g first now
 runs-test made g first now vpage mapped true is h m =
     let within = ltb-true vpage made.vpages is in
     record {
@@ -148,7 +148,7 @@ runs-test made g first now vpage mapped false is h m = record {
 
 -- the Look at this virtual page, or the Unlock
 pub runs-from : (made : SurveyMade) (g : Geometry) (first now : View) (vpage mapped : ℕ) → HasLocked made g first now → mapped ≤ vpage
-    → RunsSurvey made (looking_from made vpage mapped) (Looks g made vpage mapped) g first now
+    → RunsSurvey made (looking_from made vpage mapped) (SurveyLooks g made vpage mapped) g first now
 runs-from made g first now vpage mapped h m = runs-test made g first now vpage mapped (nat_lt vpage made.vpages) refl h m
 
 -- the Lock
@@ -162,7 +162,7 @@ runs-first made g view may = record {
 
 -- the survey gives this action, where this was left
 abbrev pub Gives : Survey → Act → (Own → Option ℕ → Type 0) → Geometry → View → View → Type 0
-Gives new act was g first now = IsNewRun (λ (a : Act). a.action) (λ a. Unit {0}) (λ action g view. MayAct g view action) IsAct (IsPieceAt survey_stages new.made new.stage) (left_at new.made new.stage) was act g first now
+Gives new act was g first now = IsNewRun (λ (a : Act). a.action) (λ a. Unit {0}) (λ action g view. MayAct g view action) IsAct (IsPieceAt survey_stages new.made new.stage) (survey_left new.made new.stage) was act g first now
 
 -- as it comes to a stage
 pub gives-now : (old new : Survey) (stage : Stage) (act : Act) (was : Own → Option ℕ → Type 0) (g : Geometry) (first now : View)
@@ -180,34 +180,34 @@ Acted action g view reply left = IsActed g view action reply left
 pub after-lock : (old new : Survey) (act : Act) (end : Reply) (g : Geometry) (first now later : View) (action : Action)
     → old.stage ≡ Locking → end ≡ Done → IsPieceAt survey_stages old.made old.stage g first now action → IsActed g now action end later
     → new ≡ record old { stage = looking_from old.made 0 0 } → act.action ≡ survey_action old.made (looking_from old.made 0 0)
-    → Gives new act (left_at old.made old.stage g end) g first later
+    → Gives new act (survey_left old.made old.stage g end) g first later
 after-lock old new act end g first now later action at ended known acted is acts =
-    by-stage survey_stages Acted (λ stage reply. Gives new act (left_at old.made stage g reply) g first later) old.made old.stage Locking end Done g first now later action at ended known acted
-    (λ k a. gives-now old new (looking_from old.made 0 0) act (Looks g old.made 0 0) g first later is acts (runs-from old.made g first later 0 0 (locked-done old.made g first now later k a) (omega arith)))
+    by-stage survey_stages Acted (λ stage reply. Gives new act (survey_left old.made stage g reply) g first later) old.made old.stage Locking end Done g first now later action at ended known acted
+    (λ k a. gives-now old new (looking_from old.made 0 0) act (SurveyLooks g old.made 0 0) g first later is acts (runs-from old.made g first later 0 0 (locked-done old.made g first now later k a) (omega arith)))
 
 -- the page was busy: the end
 pub after-busy : (old : Survey) (word : ℕ) (end : Reply) (g : Geometry) (first now later : View) (action : Action)
     → old.stage ≡ Locking → end ≡ Busy word → IsPieceAt survey_stages old.made old.stage g first now action → IsActed g now action end later
-    → IsOver (left_at old.made old.stage g end) (λ g view mapped left. IsSurveyed view left) (λ g mapped. Unit {0}) g first later None
+    → IsOver (survey_left old.made old.stage g end) (λ g view mapped left. IsSurveyed view left) (λ g mapped. Unit {0}) g first later None
 after-busy old word end g first now later action at ended known acted =
-    by-stage survey_stages Acted (λ stage reply. IsOver (left_at old.made stage g reply) (λ g view mapped left. IsSurveyed view left) (λ g mapped. Unit {0}) g first later None) old.made old.stage Locking end (Busy word) g first now later action at ended known acted
+    by-stage survey_stages Acted (λ stage reply. IsOver (survey_left old.made stage g reply) (λ g view mapped left. IsSurveyed view left) (λ g mapped. Unit {0}) g first later None) old.made old.stage Locking end (Busy word) g first now later action at ended known acted
     (λ k a. record { shown = ends-now None; left = busy-rest g first now old.made.page word later k.begun a; over = tt })
 
 -- a virtual page was looked at: the next Look, or the Unlock
 pub after-look : (old new : Survey) (act : Act) (vpage mapped word count : ℕ) (end : Reply) (g : Geometry) (first now later : View) (action : Action)
     → old.stage ≡ Looking vpage mapped → end ≡ Word word → count ≡ count_with word mapped → IsPieceAt survey_stages old.made old.stage g first now action → IsActed g now action end later
     → new ≡ record old { stage = looking_from old.made (vpage + 1) count } → act.action ≡ survey_action old.made (looking_from old.made (vpage + 1) count)
-    → Gives new act (left_at old.made old.stage g end) g first later
+    → Gives new act (survey_left old.made old.stage g end) g first later
 after-look old new act vpage mapped word count end g first now later action at ended counts known acted is acts =
-    by-stage survey_stages Acted (λ stage reply. Gives new act (left_at old.made stage g reply) g first later) old.made old.stage (Looking vpage mapped) end (Word word) g first now later action at ended known acted
-    (λ k a. let W : ℕ → Type 0 = λ n. Gives new act (Looks g old.made (vpage + 1) n) g first later in
-    subst W counts (gives-now old new (looking_from old.made (vpage + 1) count) act (Looks g old.made (vpage + 1) count) g first later is acts
+    by-stage survey_stages Acted (λ stage reply. Gives new act (survey_left old.made stage g reply) g first later) old.made old.stage (Looking vpage mapped) end (Word word) g first now later action at ended known acted
+    (λ k a. let W : ℕ → Type 0 = λ n. Gives new act (SurveyLooks g old.made (vpage + 1) n) g first later in
+    subst W counts (gives-now old new (looking_from old.made (vpage + 1) count) act (SurveyLooks g old.made (vpage + 1) count) g first later is acts
     (runs-from old.made g first later (vpage + 1) count (locked-looked old.made g first now later vpage (Word word) k.locked a) (count-most vpage mapped word count counts k.count))))
 
 -- the page was unlocked: the end
 pub after-unlock : (old : Survey) (mapped : ℕ) (end : Reply) (g : Geometry) (first now later : View) (action : Action)
     → old.stage ≡ Unlocking mapped → IsPieceAt survey_stages old.made old.stage g first now action → IsActed g now action end later
-    → IsOver (left_at old.made old.stage g end) (λ g view mapped left. IsSurveyed view left) (λ g mapped. Unit {0}) g first later (Some mapped)
+    → IsOver (survey_left old.made old.stage g end) (λ g view mapped left. IsSurveyed view left) (λ g mapped. Unit {0}) g first later (Some mapped)
 after-unlock old mapped end g first now later action at known acted =
-    by-stage survey_stages Acted (λ stage reply. IsOver (left_at old.made stage g reply) (λ g view mapped left. IsSurveyed view left) (λ g mapped. Unit {0}) g first later (Some mapped)) old.made old.stage (Unlocking mapped) end end g first now later action at refl known acted
+    by-stage survey_stages Acted (λ stage reply. IsOver (survey_left old.made stage g reply) (λ g view mapped left. IsSurveyed view left) (λ g mapped. Unit {0}) g first later (Some mapped)) old.made old.stage (Unlocking mapped) end end g first now later action at refl known acted
     (λ k a. record { shown = ends-now (Some mapped); left = unlocked-rest g first now old.made.page end later k.rest a; over = tt })

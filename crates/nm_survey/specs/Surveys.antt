@@ -38,19 +38,19 @@ abbrev pub Unlocks : Geometry → ℕ → ℕ → Own → Option ℕ → Type 0
 Unlocks g page mapped = Follows (IsAct (Unlock page) g) (λ reply. Ends (Some mapped))
 
 -- a Look at one virtual page, and what comes after it by the count
-abbrev pub LookAt : Geometry → ℕ → ℕ → (ℕ → Own → Option ℕ → Type 0) → Own → Option ℕ → Type 0
-LookAt g vpage mapped after = Follows (IsAct (Look vpage) g) (λ reply. after (count_after reply mapped))
+abbrev pub SurveysAt : Geometry → ℕ → ℕ → (ℕ → Own → Option ℕ → Type 0) → Own → Option ℕ → Type 0
+SurveysAt g vpage mapped after = Follows (IsAct (Look vpage) g) (λ reply. after (count_after reply mapped))
 
--- the Looks from this virtual page on, and the Unlock
-abbrev pub Looks : Geometry → SurveyMade → ℕ → ℕ → Own → Option ℕ → Type 0
-Looks g made vpage mapped = Each (LookAt g) (numbers_from vpage (made.vpages - vpage)) mapped (Unlocks g made.page)
+-- the SurveyLooks from this virtual page on, and the Unlock
+abbrev pub SurveyLooks : Geometry → SurveyMade → ℕ → ℕ → Own → Option ℕ → Type 0
+SurveyLooks g made vpage mapped = Each (SurveysAt g) (numbers_from vpage (made.vpages - vpage)) mapped (Unlocks g made.page)
 
-abbrev pub AfterLock : Geometry → SurveyMade → Reply → Own → Option ℕ → Type 0
-AfterLock g made Done = Looks g made 0 0
-AfterLock g made _ = Ends None
+abbrev pub AfterSurveyLock : Geometry → SurveyMade → Reply → Own → Option ℕ → Type 0
+AfterSurveyLock g made Done = SurveyLooks g made 0 0
+AfterSurveyLock g made _ = Ends None
 
 abbrev pub IsSurvey : SurveyMade → Geometry → Own → Option ℕ → Type 0
-IsSurvey made g = Follows (IsAct (Lock made.page) g) (AfterLock g made)
+IsSurvey made g = Follows (IsAct (Lock made.page) g) (AfterSurveyLock g made)
 
 -- it may begin where the page may be locked
 pub record MaySurvey (made : SurveyMade) (g : Geometry) (view : View) : Type 0 where
@@ -77,11 +77,11 @@ abbrev pub looking_from : SurveyMade → ℕ → ℕ → Stage
 looking_from made vpage mapped = if nat_lt vpage made.vpages then Looking vpage mapped else Unlocking mapped
 
 -- what is left after the action of a stage, by its reply
-abbrev pub left_at : SurveyMade → Stage → Geometry → Reply → Own → Option ℕ → Type 0
-left_at made New g reply = Ends None
-left_at made Locking g reply = AfterLock g made reply
-left_at made (Looking vpage mapped) g reply = Looks g made (vpage + 1) (count_after reply mapped)
-left_at made (Unlocking mapped) g reply = Ends (Some mapped)
+abbrev pub survey_left : SurveyMade → Stage → Geometry → Reply → Own → Option ℕ → Type 0
+survey_left made New g reply = Ends None
+survey_left made Locking g reply = AfterSurveyLock g made reply
+survey_left made (Looking vpage mapped) g reply = SurveyLooks g made (vpage + 1) (count_after reply mapped)
+survey_left made (Unlocking mapped) g reply = Ends (Some mapped)
 
 -- the page is locked and may be unlocked, and all else of the view but its operations is as it was
 pub record HasLocked (made : SurveyMade) (g : Geometry) (first now : View) : Type 0 where
@@ -92,22 +92,22 @@ pub record HasLocked (made : SurveyMade) (g : Geometry) (first now : View) : Typ
   pub rest : now ≡ record first { ops = now.ops }
 
 -- it has begun
-pub record IsAtLock (made : SurveyMade) (g : Geometry) (first now : View) : Type 0 where
+pub record IsSurveyAtLock (made : SurveyMade) (g : Geometry) (first now : View) : Type 0 where
   pub may : MaySurvey made g first
   pub begun : now ≡ first
 
 -- so many of the virtual pages before this one are mapped
-pub record IsAtLook (made : SurveyMade) (vpage mapped : ℕ) (g : Geometry) (first now : View) : Type 0 where
+pub record IsSurveyAtLook (made : SurveyMade) (vpage mapped : ℕ) (g : Geometry) (first now : View) : Type 0 where
   pub locked : HasLocked made g first now
   pub within : vpage < made.vpages
   pub count : mapped ≤ vpage
 
 -- what is known at a stage
-abbrev pub KnownAt : SurveyMade → Stage → Geometry → View → View → Type 0
-KnownAt made New g first now = ⊥
-KnownAt made Locking g first now = IsAtLock made g first now
-KnownAt made (Looking vpage mapped) g first now = IsAtLook made vpage mapped g first now
-KnownAt made (Unlocking mapped) g first now = HasLocked made g first now
+abbrev pub KnownInSurvey : SurveyMade → Stage → Geometry → View → View → Type 0
+KnownInSurvey made New g first now = ⊥
+KnownInSurvey made Locking g first now = IsSurveyAtLock made g first now
+KnownInSurvey made (Looking vpage mapped) g first now = IsSurveyAtLook made vpage mapped g first now
+KnownInSurvey made (Unlocking mapped) g first now = HasLocked made g first now
 
 abbrev pub survey_stages : Stages SurveyMade Stage Action Reply (Option ℕ)
-survey_stages = record { piece = survey_action; left = left_at; known = KnownAt }
+survey_stages = record { piece = survey_action; left = survey_left; known = KnownInSurvey }

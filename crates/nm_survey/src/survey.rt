@@ -85,7 +85,7 @@ impl Survey {
         })
     }
 
-    /// Looks at this virtual page, if there is one, and else unlocks.
+    /// SurveyLooks at this virtual page, if there is one, and else unlocks.
     fn look_from(&mut self, vpage: u32, mapped: u32) -> Act
         ensures stage { self.new ≡ record self.old { stage = looking_from self.old.made vpage mapped } }
         ensures act { result.action ≡ survey_action self.old.made (looking_from self.old.made vpage mapped) }
@@ -106,7 +106,7 @@ impl Plan<Act> for Survey {
     ghost use Rattle.std.specs.Prelude.{◌≡◌};
     ghost use Rattle.nm_survey.specs.declared.survey.Stage.TheVariants.{New};
     ghost use Rattle.nm_compose.specs.Stages.{IsPieceAt};
-    ghost use Rattle.nm_survey.specs.Surveys.{MaySurvey, IsSurvey, IsSurveyed, survey_stages, left_at};
+    ghost use Rattle.nm_survey.specs.Surveys.{MaySurvey, IsSurvey, IsSurveyed, survey_stages, survey_left};
 
     ghost made = { λ s. s.made };
 
@@ -120,7 +120,7 @@ impl Plan<Act> for Survey {
 
     ghost knows = { λ s. IsPieceAt survey_stages s.made s.stage };
 
-    ghost left = { λ s. left_at s.made s.stage };
+    ghost left = { λ s. survey_left s.made s.stage };
 
     ghost ended = { λ s g mapped. Unit {0} };
 

@@ -32,7 +32,7 @@ use Rattle.nm_transfer.specs.declared.transfer.Source.TheVariants as sources
 use Rattle.nm_transfer.specs.declared.transfer.TransferMade.{TransferMade}
 use Rattle.nm_transfer.specs.Transferring.{transfer_made}
 use Rattle.nm_transfer.specs.Moving.{MayTransfer, HasSource, still_owned}
-use Rattle.nm_transfer.specs.Stages.{PieceEnd, PieceLeaves, held, taken_op, HasTaken, IsFlushing, IsOut, KnowsShadow, IsFilling, IsHoming, homed_owned, IsMapped}
+use Rattle.nm_transfer.specs.Stages.{TransferPieceEnd, TransferPieceLeaves, transfer_held, taken_op, HasTaken, IsFlushing, IsPageOut, KnowsShadow, IsFilling, IsHoming, homed_owned, IsMapped}
 use Rattle.nm_transfer.proofs.Lists.{found-word, erase-filled, erase-put}
 use Rattle.nm_transfer.proofs.Held.{edit-one, held-on, after-unshade, after-home}
 use Rattle.nm_transfer.proofs.Taking.{taken-keeps}
@@ -59,7 +59,7 @@ dry-one o dry = λ i d lt due. let e : i ≡ 0 = omega arith in dry-at o dry i d
 
 pub shoot-may : (made : TransferMade) (taken : List (ℕ × ℕ)) (g : Geometry) (view now : View) → IsFlushing made taken g view now → MayShoot made.cpus g now
 shoot-may made taken g view now at =
-    let begin : MayShoot made.cpus g (held (record (taken_op taken at.has.may.op) { wet = []; raised = at.raised }) view.owned view.bumps (view.raises + length made.pages) view) = record {
+    let begin : MayShoot made.cpus g (transfer_held (record (taken_op taken at.has.may.op) { wet = []; raised = at.raised }) view.owned view.bumps (view.raises + length made.pages) view) = record {
       all = cpus-of made g view at.has.may;
       bump = record { few = at.has.may.bumps; dry = dry-one (record (taken_op taken at.has.may.op) { wet = []; raised = at.raised }) refl };
     } in
@@ -84,7 +84,7 @@ taken-due o [] some = absurd (some refl)
 taken-due o (p ∷ taken) some = refl
 
 flushed-out : (made : TransferMade) (taken : List (ℕ × ℕ)) (g : Geometry) (view : View) (has : HasTaken made taken g view) (raised : List (ℕ × ℕ)) (number : ℕ) (o : Op)
-    → IsFlushOf g number (record (taken_op taken has.may.op) { wet = []; raised = raised }) o → IsOut made taken g o
+    → IsFlushOf g number (record (taken_op taken has.may.op) { wet = []; raised = raised }) o → IsPageOut made taken g o
 flushed-out made taken g view has raised number o f =
     let keeps = taken-keeps has.may.op taken in
     let looked = has.may.looked in
@@ -106,8 +106,8 @@ shadow-known : (source : Source) (made : TransferMade) (view : View) (op o : Op)
 shadow-known sources.Copy made view op o same h = same ∙ h.1
 shadow-known sources.Shadow made view op o same h = same ∙ h.1
 
-pub shoot-ended : (made : TransferMade) (source : Source) (taken : List (ℕ × ℕ)) (g : Geometry) (view now : View) (end : PieceEnd) (later : View) → (at : IsFlushing made taken g view now) → made.source ≡ source
-    → PieceLeaves (Other (Other (This made.cpus))) g now end later → IsFilling made source taken g view later
+pub shoot-ended : (made : TransferMade) (source : Source) (taken : List (ℕ × ℕ)) (g : Geometry) (view now : View) (end : TransferPieceEnd) (later : View) → (at : IsFlushing made taken g view now) → made.source ≡ source
+    → TransferPieceLeaves (Other (Other (This made.cpus))) g now end later → IsFilling made source taken g view later
 shoot-ended made source taken g view now (This x) later at is left = absurd left
 shoot-ended made source taken g view now (Other (This x)) later at is left = absurd left
 shoot-ended made source taken g view now (Other (Other (Other x))) later at is left = absurd left
@@ -129,7 +129,7 @@ shoot-ended made source taken g view now (Other (Other (This number))) later at 
 
 -- The copy.
 
-out-unmapped : (made : TransferMade) (taken : List (ℕ × ℕ)) (g : Geometry) (o : Op) → IsOut made taken g o → IsUnmapped g o
+out-unmapped : (made : TransferMade) (taken : List (ℕ × ℕ)) (g : Geometry) (o : Op) → IsPageOut made taken g o → IsUnmapped g o
 out-unmapped made taken g o out = record {
   phase = record { taken = out.phase; uncleared = out.uncleared };
   taken = out.all;
@@ -137,7 +137,7 @@ out-unmapped made taken g o out = record {
   flushed = out.flushed;
 }
 
-home-some : (made : TransferMade) (taken : List (ℕ × ℕ)) (g : Geometry) (o : Op) → IsOut made taken g o → IsSomeAnd o.home (λ h. h ≢ 0)
+home-some : (made : TransferMade) (taken : List (ℕ × ℕ)) (g : Geometry) (o : Op) → IsPageOut made taken g o → IsSomeAnd o.home (λ h. h ≢ 0)
 home-some made taken g o out = let some : home_word made.home ≢ 0 = λ e. omega arith in subst (λ (h : Option ℕ). IsSomeAnd h (λ h. h ≢ 0)) (sym out.home_is) some
 
 pub copy-may : (made : TransferMade) (taken : List (ℕ × ℕ)) (g : Geometry) (view now : View) → IsFilling made sources.Copy taken g view now → MayCopies made.copies.made g now
@@ -146,7 +146,7 @@ copy-may made taken g view now at =
     let on = held-on at.op view.owned (view.bumps + 1) (view.raises + length made.pages) made.page view at.out.page_is in
     let source = subst (λ (s : Source). HasSource s made view may.op) at.source_is may.source in
     let phase : IsCopyingPhase g at.op at.op.phase = subst (IsCopyingPhase g at.op) (sym at.out.phase) (record { unmapped = out-unmapped made taken g at.op at.out; unmoved = at.out.unmoved }) in
-    let begin : MayCopies (record { page = made.page; frame = made.frame; words = g.words }) g (held at.op view.owned (view.bumps + 1) (view.raises + length made.pages) view) = record {
+    let begin : MayCopies (record { page = made.page; frame = made.frame; words = g.words }) g (transfer_held at.op view.owned (view.bumps + 1) (view.raises + length made.pages) view) = record {
       geometry = may.geometry;
       words = refl;
       page = may.page;
@@ -154,14 +154,14 @@ copy-may made taken g view now at =
       fill = source.0;
       op = subst (λ (x : Option Op). IsSomeAnd x (MayCopyPage g)) (sym on) (record { home = home-some made taken g at.op at.out; none = at.copied; last = at.last; flushed = at.out.flushed; phase = phase });
     } in
-    subst (λ (x : View). MayCopies made.copies.made g x) (sym at.is) (subst (λ (m : CopiesMade). MayCopies m g (held at.op view.owned (view.bumps + 1) (view.raises + length made.pages) view)) (sym (copies-of made g view may)) begin)
+    subst (λ (x : View). MayCopies made.copies.made g x) (sym at.is) (subst (λ (m : CopiesMade). MayCopies m g (transfer_held at.op view.owned (view.bumps + 1) (view.raises + length made.pages) view)) (sym (copies-of made g view may)) begin)
 
 whole-copy : (page words : ℕ) → 0 < words → copied_fill page words ≡ Copied page words
 whole-copy page zero lt = absurd (omega arith)
 whole-copy page (suc n) lt = refl
 
-pub copy-ended : (made : TransferMade) (taken : List (ℕ × ℕ)) (g : Geometry) (view now : View) (end : PieceEnd) (later : View) → (at : IsFilling made sources.Copy taken g view now)
-    → PieceLeaves (Other (Other (Other made.copies.made))) g now end later → IsHoming made taken g view later
+pub copy-ended : (made : TransferMade) (taken : List (ℕ × ℕ)) (g : Geometry) (view now : View) (end : TransferPieceEnd) (later : View) → (at : IsFilling made sources.Copy taken g view now)
+    → TransferPieceLeaves (Other (Other (Other made.copies.made))) g now end later → IsHoming made taken g view later
 copy-ended made taken g view now (This x) later at left = absurd left
 copy-ended made taken g view now (Other (This x)) later at left = absurd left
 copy-ended made taken g view now (Other (Other (This x))) later at left = absurd left
@@ -195,7 +195,7 @@ unshade-may made taken g view now at =
     let on = held-on at.op view.owned (view.bumps + 1) (view.raises + length made.pages) made.page view at.out.page_is in
     let some : shadow_word made.page (Some made.frame) ≢ 0 = λ e. omega arith in
     let unshade : MayUnshade made.home at.op = record { home = at.out.home_is; some = subst (λ (s : Option ℕ). IsSomeAnd s (λ word. word ≢ 0)) (sym at.shadow) some } in
-    let begin : MayAct g (held at.op view.owned (view.bumps + 1) (view.raises + length made.pages) view) (SetShadow made.page made.home None) = record {
+    let begin : MayAct g (transfer_held at.op view.owned (view.bumps + 1) (view.raises + length made.pages) view) (SetShadow made.page made.home None) = record {
       quiet = tt;
       allowed = record {
         range = record { page = may.page; master = may.home; shadow = tt };
@@ -208,14 +208,14 @@ unshade-may made taken g view now at =
 pub record HasDone (g : Geometry) (now : View) (action : Action) (later : View) : Type 0 where
   pub is : later ≡ after_of g now action Done
 
-pub unshade-done : (g : Geometry) (now : View) (page master : ℕ) (end : PieceEnd) (later : View) → PieceLeaves (This (SetShadow page master None)) g now end later → HasDone g now (SetShadow page master None) later
+pub unshade-done : (g : Geometry) (now : View) (page master : ℕ) (end : TransferPieceEnd) (later : View) → TransferPieceLeaves (This (SetShadow page master None)) g now end later → HasDone g now (SetShadow page master None) later
 unshade-done g now page master (This Done) later h = record { is = h.is }
 unshade-done g now page master (This (Word w)) later h = absurd h.fits.kind
 unshade-done g now page master (This (Busy w)) later h = absurd h.fits.kind
 unshade-done g now page master (This (Lost w)) later h = absurd h.fits.kind
 unshade-done g now page master (Other x) later h = absurd h
 
-quiet-out : (made : TransferMade) (taken : List (ℕ × ℕ)) (g : Geometry) (o : Op) → IsOut made taken g o → is_quiet g o ≡ true
+quiet-out : (made : TransferMade) (taken : List (ℕ × ℕ)) (g : Geometry) (o : Op) → IsPageOut made taken g o → is_quiet g o ≡ true
 quiet-out made taken g o out =
     let ended = is-IsFlushEnded g o out.flushed in
     ap (λ (p : Phase). is_taken_phase p && (not o.cleared && is_flush_ended g o)) out.phase
@@ -225,8 +225,8 @@ quiet-out made taken g o out =
 pub frames-few : (g : Geometry) → IsGeometry g → (frame : ℕ) → IsFrame g frame → frame + 1 < 2 ^ 32
 frames-few g geometry frame lt = let few = geometry.ranges.1.3 in omega arith
 
-pub unshade-ended : (made : TransferMade) (taken : List (ℕ × ℕ)) (g : Geometry) (view now : View) (end : PieceEnd) (later : View) → (at : IsFilling made sources.Shadow taken g view now)
-    → PieceLeaves (This (SetShadow made.page made.home None)) g now end later → IsHoming made taken g view later
+pub unshade-ended : (made : TransferMade) (taken : List (ℕ × ℕ)) (g : Geometry) (view now : View) (end : TransferPieceEnd) (later : View) → (at : IsFilling made sources.Shadow taken g view now)
+    → TransferPieceLeaves (This (SetShadow made.page made.home None)) g now end later → IsHoming made taken g view later
 unshade-ended made taken g view now end later at left =
     let may = at.has.may in
     let done = unshade-done g now made.page made.home end later left in
@@ -252,7 +252,7 @@ unshade-ended made taken g view now end later at left =
       is = done.is
           ∙ ap (λ (x : View). after_of g x (SetShadow made.page made.home None) Done) at.is
           ∙ after-unshade g at.op view.owned (view.bumps + 1) (view.raises + length made.pages) made.page made.home view at.out.page_is
-          ∙ ap (λ (l : List Owned). held o l (view.bumps + 1) (view.raises + length made.pages) view) gives;
+          ∙ ap (λ (l : List Owned). transfer_held o l (view.bumps + 1) (view.raises + length made.pages) view) gives;
     }
 
 -- The new home.
@@ -264,7 +264,7 @@ some-known P Q (Some x) all h = all x h
 pub home-may : (made : TransferMade) (taken : List (ℕ × ℕ)) (g : Geometry) (view now : View) → IsHoming made taken g view now → MayAct g now (SetHome made.page made.frame)
 home-may made taken g view now at =
     let may = at.has.may in
-    let here : View = held at.op at.owned (view.bumps + 1) (view.raises + length made.pages) view in
+    let here : View = transfer_held at.op at.owned (view.bumps + 1) (view.raises + length made.pages) view in
     let on = held-on at.op at.owned (view.bumps + 1) (view.raises + length made.pages) made.page view at.out.page_is in
     let unmapped = out-unmapped made taken g at.op at.out in
     let fits : MaySetHome g (fill_of here made.frame) at.op = some-known (IsWhole g made.page) (λ fill. HasNewHome g fill at.op) (fill_of here made.frame)
@@ -278,7 +278,7 @@ home-may made taken g view now at =
     } in
     subst (λ (x : View). MayAct g x (SetHome made.page made.frame)) (sym at.is) begin
 
-home-done : (g : Geometry) (now : View) (page frame : ℕ) (end : PieceEnd) (later : View) → PieceLeaves (This (SetHome page frame)) g now end later → HasDone g now (SetHome page frame) later
+home-done : (g : Geometry) (now : View) (page frame : ℕ) (end : TransferPieceEnd) (later : View) → TransferPieceLeaves (This (SetHome page frame)) g now end later → HasDone g now (SetHome page frame) later
 home-done g now page frame (This Done) later h = record { is = h.is }
 home-done g now page frame (This (Word w)) later h = absurd h.fits.kind
 home-done g now page frame (This (Busy w)) later h = absurd h.fits.kind
@@ -291,8 +291,8 @@ goes-home page home owned =
     let same : home_word home - 1 ≡ home = omega arith in
     ap (λ (t : Bool). if t then owned else owning (home_word home - 1) (Equal page) owned) some ∙ ap (λ (f : ℕ). owning f (Equal page) owned) same
 
-pub home-ended : (made : TransferMade) (taken : List (ℕ × ℕ)) (g : Geometry) (view now : View) (end : PieceEnd) (later : View) → IsHoming made taken g view now
-    → PieceLeaves (This (SetHome made.page made.frame)) g now end later → IsMapped made 0 taken g view later
+pub home-ended : (made : TransferMade) (taken : List (ℕ × ℕ)) (g : Geometry) (view now : View) (end : TransferPieceEnd) (later : View) → IsHoming made taken g view now
+    → TransferPieceLeaves (This (SetHome made.page made.frame)) g now end later → IsMapped made 0 taken g view later
 home-ended made taken g view now end later at left =
     let done = home-done g now made.page made.frame end later left in
     let o : Op = homed_at made.frame at.op in
@@ -307,5 +307,5 @@ home-ended made taken g view now end later at left =
       is = done.is
           ∙ ap (λ (x : View). after_of g x (SetHome made.page made.frame) Done) at.is
           ∙ after-home g at.op at.owned (view.bumps + 1) (view.raises + length made.pages) made.page made.frame view at.out.page_is
-          ∙ ap (λ (l : List Owned). held o l (view.bumps + 1) (view.raises + length made.pages) view) goes;
+          ∙ ap (λ (l : List Owned). transfer_held o l (view.bumps + 1) (view.raises + length made.pages) view) goes;
     }

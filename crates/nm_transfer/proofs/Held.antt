@@ -8,7 +8,7 @@ use Rattle.nm_view.specs.Lists.{find, edit, erase}
 use Rattle.nm_view.specs.Views.{Op, View}
 use Rattle.nm_view.specs.Operations.{page_of, owned_frame, op_on, op_under, op_of, known_home}
 use Rattle.nm_event.specs.After.{after_of, edit_under, edit_of, taken_at, shaded, homed_at, mapped_at, spoiled, spoiled_under, let_go, unshaded}
-use Rattle.nm_transfer.specs.Stages.{held}
+use Rattle.nm_transfer.specs.Stages.{transfer_held}
 
 -- One operation.
 
@@ -25,11 +25,11 @@ edit-of-one : (g : Geometry) (v page : ℕ) (f : Op → Op) (o : Op) → backing
 edit-of-one g v page f o of same = ap (λ (p : Option ℕ). edit_under p f (o ∷ [])) of ∙ edit-one f o page same
 
 -- it is the one on its page, and on a virtual page of that
-pub held-on : (o : Op) (owned : List Owned) (bumps raises page : ℕ) (view : View) → o.page ≡ page → op_on (held o owned bumps raises view) page ≡ Some o
+pub held-on : (o : Op) (owned : List Owned) (bumps raises page : ℕ) (view : View) → o.page ≡ page → op_on (transfer_held o owned bumps raises view) page ≡ Some o
 held-on o owned bumps raises page view same = find-one o page same
 
-pub held-of : (g : Geometry) (o : Op) (owned : List Owned) (bumps raises page v : ℕ) (view : View) → backing_page g v ≡ Some page → o.page ≡ page → op_of g (held o owned bumps raises view) v ≡ Some o
-held-of g o owned bumps raises page v view of same = ap (op_under (held o owned bumps raises view)) of ∙ held-on o owned bumps raises page view same
+pub held-of : (g : Geometry) (o : Op) (owned : List Owned) (bumps raises page v : ℕ) (view : View) → backing_page g v ≡ Some page → o.page ≡ page → op_of g (transfer_held o owned bumps raises view) v ≡ Some o
+held-of g o owned bumps raises page v view of same = ap (op_under (transfer_held o owned bumps raises view)) of ∙ held-on o owned bumps raises page view same
 
 -- The actions.
 
@@ -37,23 +37,23 @@ abbrev with_ops : List Op → List Owned → ℕ → ℕ → View → View
 with_ops ops owned bumps raises view = record view { ops = ops; owned = owned; bumps = bumps; raises = raises }
 
 pub after-unmap : (g : Geometry) (o : Op) (owned : List Owned) (bumps raises page v w : ℕ) (view : View) → backing_page g v ≡ Some page → o.page ≡ page
-    → after_of g (held o owned bumps raises view) (Unmap v) (Word w) ≡ held (taken_at v w o) owned bumps raises view
+    → after_of g (transfer_held o owned bumps raises view) (Unmap v) (Word w) ≡ transfer_held (taken_at v w o) owned bumps raises view
 after-unmap g o owned bumps raises page v w view of same = ap (λ (l : List Op). with_ops l owned bumps raises view) (edit-of-one g v page (taken_at v w) o of same)
 
 pub after-map : (g : Geometry) (o : Op) (owned : List Owned) (bumps raises page v w : ℕ) (view : View) → backing_page g v ≡ Some page → o.page ≡ page
-    → after_of g (held o owned bumps raises view) (Map v w) Done ≡ held (mapped_at v w o) (spoiled page owned) bumps raises view
+    → after_of g (transfer_held o owned bumps raises view) (Map v w) Done ≡ transfer_held (mapped_at v w o) (spoiled page owned) bumps raises view
 after-map g o owned bumps raises page v w view of same =
     ap (λ (l : List Op). with_ops l (spoiled_under (backing_page g v) owned) bumps raises view) (edit-of-one g v page (mapped_at v w) o of same)
     ∙ ap (λ (p : Option ℕ). with_ops (mapped_at v w o ∷ []) (spoiled_under p owned) bumps raises view) of
 
 pub after-unshade : (g : Geometry) (o : Op) (owned : List Owned) (bumps raises page master : ℕ) (view : View) → o.page ≡ page
-    → after_of g (held o owned bumps raises view) (SetShadow page master None) Done ≡ held (shaded page None o) (unshaded g page (Some o) owned) bumps raises view
+    → after_of g (transfer_held o owned bumps raises view) (SetShadow page master None) Done ≡ transfer_held (shaded page None o) (unshaded g page (Some o) owned) bumps raises view
 after-unshade g o owned bumps raises page master view same =
-    ap (λ (l : List Op). with_ops l (unshaded g page (op_on (held o owned bumps raises view) page) owned) bumps raises view) (edit-one (shaded page None) o page same)
+    ap (λ (l : List Op). with_ops l (unshaded g page (op_on (transfer_held o owned bumps raises view) page) owned) bumps raises view) (edit-one (shaded page None) o page same)
     ∙ ap (λ (x : Option Op). with_ops (shaded page None o ∷ []) (unshaded g page x owned) bumps raises view) (held-on o owned bumps raises page view same)
 
 pub after-home : (g : Geometry) (o : Op) (owned : List Owned) (bumps raises page frame : ℕ) (view : View) → o.page ≡ page
-    → after_of g (held o owned bumps raises view) (SetHome page frame) Done ≡ held (homed_at frame o) (let_go page o.home (erase owned_frame frame owned)) bumps raises view
+    → after_of g (transfer_held o owned bumps raises view) (SetHome page frame) Done ≡ transfer_held (homed_at frame o) (let_go page o.home (erase owned_frame frame owned)) bumps raises view
 after-home g o owned bumps raises page frame view same =
-    ap (λ (l : List Op). with_ops l (let_go page (known_home (op_on (held o owned bumps raises view) page)) (erase owned_frame frame owned)) bumps raises view) (edit-one (homed_at frame) o page same)
+    ap (λ (l : List Op). with_ops l (let_go page (known_home (op_on (transfer_held o owned bumps raises view) page)) (erase owned_frame frame owned)) bumps raises view) (edit-one (homed_at frame) o page same)
     ∙ ap (λ (x : Option Op). with_ops (homed_at frame o ∷ []) (let_go page (known_home x) (erase owned_frame frame owned)) bumps raises view) (held-on o owned bumps raises page view same)

@@ -18,7 +18,7 @@ use Rattle.nm_mappings.proofs.Lists.{vpage-there}
 use Rattle.nm_transfer.specs.declared.transfer.TransferMade.{TransferMade}
 use Rattle.nm_transfer.specs.Words.{mapped_word}
 use Rattle.nm_transfer.specs.Moving.{IsTransferred}
-use Rattle.nm_transfer.specs.Stages.{PieceEnd, PieceLeaves, held, IsTakenWord, homed_owned, owned_after, IsMapped, IsMapping}
+use Rattle.nm_transfer.specs.Stages.{TransferPieceEnd, TransferPieceLeaves, transfer_held, IsTakenWord, homed_owned, owned_after, IsMapped, IsMappingBack}
 use Rattle.nm_transfer.proofs.Written.{mapped-word}
 use Rattle.nm_transfer.proofs.Lists.{all-in, erase-head, find-head, spoiled-twice}
 use Rattle.nm_transfer.proofs.Held.{held-of, after-map}
@@ -28,7 +28,7 @@ all-firsts : (P : ℕ → Type 0) (taken : List (ℕ × ℕ)) → All P (map fir
 all-firsts P [] h = none_left (λ p. P p.0)
 all-firsts P (p ∷ taken) h = more (λ p. P p.0) p taken (all_head P p.0 (map first taken) h) (all-firsts P taken (all_tail P p.0 (map first taken) h))
 
-map-backing : (made : TransferMade) (index v word : ℕ) (taken : List (ℕ × ℕ)) (g : Geometry) (view now : View) → IsMapping made index v word taken g view now → backing_page g v ≡ Some made.page
+map-backing : (made : TransferMade) (index v word : ℕ) (taken : List (ℕ × ℕ)) (g : Geometry) (view now : View) → IsMappingBack made index v word taken g view now → backing_page g v ≡ Some made.page
 map-backing made index v word taken g view now at =
     let has = at.mapped.has in
     let all = all-firsts (λ u. backing_page g u ≡ Some made.page) taken (subst (All (λ u. backing_page g u ≡ Some made.page)) (sym has.pages) has.may.of) in
@@ -39,7 +39,7 @@ untrue true P e t = cc
 untrue false P e t = cc
 
 -- it may be mapped
-pub map-may : (made : TransferMade) (index v word : ℕ) (taken : List (ℕ × ℕ)) (g : Geometry) (view now : View) → IsMapping made index v word taken g view now → MayAct g now (Map v (mapped_word made.rights made.frame made.hint word))
+pub map-may : (made : TransferMade) (index v word : ℕ) (taken : List (ℕ × ℕ)) (g : Geometry) (view now : View) → IsMappingBack made index v word taken g view now → MayAct g now (Map v (mapped_word made.rights made.frame made.hint word))
 map-may made index v word taken g view now at =
     let has = at.mapped.has in
     let o = at.mapped.op in
@@ -66,13 +66,13 @@ map-may made index v word taken g view now at =
     } in
     let owned = owned_after made.page index (homed_owned made view) in
     let on = held-of g o owned (view.bumps + 1) (view.raises + length made.pages) made.page v view of homed.page_is in
-    let begin : MayAct g (held o owned (view.bumps + 1) (view.raises + length made.pages) view) (Map v m) = record {
+    let begin : MayAct g (transfer_held o owned (view.bumps + 1) (view.raises + length made.pages) view) (Map v m) = record {
       quiet = tt;
       allowed = record { range = vpage-there g v made.page of; permitted = subst (λ (x : Option Op). IsSomeAnd x (MayMap g v m)) (sym on) may };
     } in
     subst (λ (x : View). MayAct g x (Map v m)) (sym at.mapped.is) begin
 
-map-done : (g : Geometry) (now : View) (v m : ℕ) (end : PieceEnd) (later : View) → PieceLeaves (This (Map v m)) g now end later → HasDone g now (Map v m) later
+map-done : (g : Geometry) (now : View) (v m : ℕ) (end : TransferPieceEnd) (later : View) → TransferPieceLeaves (This (Map v m)) g now end later → HasDone g now (Map v m) later
 map-done g now v m (This Done) later h = record { is = h.is }
 map-done g now v m (This (Word w)) later h = absurd h.fits.kind
 map-done g now v m (This (Busy w)) later h = absurd h.fits.kind
@@ -84,8 +84,8 @@ owned-next page zero owned = refl
 owned-next page (suc index) owned = let e : suc index + 1 ≡ suc (suc index) = omega arith in spoiled-twice page owned ∙ ap (λ (n : ℕ). owned_after page n owned) (sym e)
 
 -- it was mapped
-pub map-ended : (made : TransferMade) (index v word : ℕ) (taken : List (ℕ × ℕ)) (g : Geometry) (view now : View) (end : PieceEnd) (later : View) → IsMapping made index v word taken g view now
-    → PieceLeaves (This (Map v (mapped_word made.rights made.frame made.hint word))) g now end later → IsMapped made (index + 1) taken g view later
+pub map-ended : (made : TransferMade) (index v word : ℕ) (taken : List (ℕ × ℕ)) (g : Geometry) (view now : View) (end : TransferPieceEnd) (later : View) → IsMappingBack made index v word taken g view now
+    → TransferPieceLeaves (This (Map v (mapped_word made.rights made.frame made.hint word))) g now end later → IsMapped made (index + 1) taken g view later
 map-ended made index v word taken g view now end later at left =
     let o = at.mapped.op in
     let homed = at.mapped.homed in
@@ -110,7 +110,7 @@ map-ended made index v word taken g view now end later at left =
       is = done.is
           ∙ ap (λ (x : View). after_of g x (Map v m) Done) at.mapped.is
           ∙ after-map g o owned (view.bumps + 1) (view.raises + length made.pages) made.page v m view of homed.page_is
-          ∙ ap (λ (l : List Owned). held (mapped_at v m o) l (view.bumps + 1) (view.raises + length made.pages) view) (owned-next made.page index (homed_owned made view));
+          ∙ ap (λ (l : List Owned). transfer_held (mapped_at v m o) l (view.bumps + 1) (view.raises + length made.pages) view) (owned-next made.page index (homed_owned made view));
     }
 
 -- all are mapped

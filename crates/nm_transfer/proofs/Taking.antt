@@ -15,7 +15,7 @@ use Rattle.nm_permit.specs.Permitted.{IsTakingPhase, MayUnmap, IsWet}
 use Rattle.nm_event.specs.After.{after_of, taken_at}
 use Rattle.nm_compose.specs.Acts.{MayAct}
 use Rattle.nm_compose.specs.declared.or.Or.TheVariants.{This, Other}
-use Rattle.nm_vpages.specs.VPages.{most_vpages, at_least, AreBelow}
+use Rattle.nm_vpages.specs.VPages.{most_vpages, at_or_after, AreBelow}
 use Rattle.nm_vpages.proofs.Numbers.{at-least-zero}
 use Rattle.nm_mappings.specs.declared.visits.Visit.TheVariants as visits
 use Rattle.nm_mappings.specs.Visits.{MayVisit, raises_made, visited}
@@ -23,7 +23,7 @@ use Rattle.nm_mappings.proofs.Lists.{first-least, split-has, below-push, vpage-t
 use Rattle.nm_mappings.proofs.Operations.{raised-dry, raised-same}
 use Rattle.nm_transfer.specs.declared.transfer.TransferMade.{TransferMade}
 use Rattle.nm_transfer.specs.Moving.{MayTransfer}
-use Rattle.nm_transfer.specs.Stages.{PieceEnd, PieceLeaves, told_in, held, raised_without, taken_op, IsTakenWord, IsUnmapping, HasTaken, IsRaising, IsFlushing}
+use Rattle.nm_transfer.specs.Stages.{TransferPieceEnd, TransferPieceLeaves, transfer_told, transfer_held, raised_without, taken_op, IsTakenWord, IsUnmapping, HasTaken, IsRaisingAll, IsFlushing}
 use Rattle.nm_transfer.proofs.Lists.{put-last, all-found}
 use Rattle.nm_transfer.proofs.Held.{edit-one, held-on, held-of, after-unmap}
 
@@ -75,7 +75,7 @@ taken-wet o (p ∷ taken) dry = refl
 
 -- The first word.
 
-pub unmap-first : (made : TransferMade) (g : Geometry) (view : View) (v : ℕ) → MayTransfer made g view → v < most_vpages → at_least 0 made.pages ≡ v ∷ at_least (v + 1) made.pages → IsUnmapping made v [] g view view
+pub unmap-first : (made : TransferMade) (g : Geometry) (view : View) (v : ℕ) → MayTransfer made g view → v < most_vpages → at_or_after 0 made.pages ≡ v ∷ at_or_after (v + 1) made.pages → IsUnmapping made v [] g view view
 unmap-first made g view v may small next = record {
   may = may;
   split = sym (at-least-zero made.pages) ∙ next;
@@ -88,7 +88,7 @@ unmap-first made g view v may small next = record {
 }
 
 pub unmap-backing : (made : TransferMade) (v : ℕ) (taken : List (ℕ × ℕ)) (g : Geometry) (view now : View) → IsUnmapping made v taken g view now → backing_page g v ≡ Some made.page
-unmap-backing made v taken g view now at = split-has (λ u. backing_page g u ≡ Some made.page) made.pages (map first taken) (at_least (v + 1) made.pages) v at.split at.may.of
+unmap-backing made v taken g view now at = split-has (λ u. backing_page g u ≡ Some made.page) made.pages (map first taken) (at_or_after (v + 1) made.pages) v at.split at.may.of
 
 -- it may be taken
 pub unmap-may : (made : TransferMade) (v : ℕ) (taken : List (ℕ × ℕ)) (g : Geometry) (view now : View) → IsUnmapping made v taken g view now → MayAct g now (Unmap v)
@@ -99,7 +99,7 @@ unmap-may made v taken g view now at =
     let keeps = taken-keeps o taken in
     let page : t.page ≡ made.page = keeps.page ∙ at.may.looked.page_is in
     let words = taken-words o taken at.may.looked.taken in
-    let mapped = split-has (λ u. IsSomeAnd (find first u o.looked) (λ p. p.1 ≢ 0)) made.pages (map first taken) (at_least (v + 1) made.pages) v at.split at.may.looked.mapped in
+    let mapped = split-has (λ u. IsSomeAnd (find first u o.looked) (λ p. p.1 ≢ 0)) made.pages (map first taken) (at_or_after (v + 1) made.pages) v at.split at.may.looked.mapped in
     let may : MayUnmap g v t = record {
       mapped = record {
         looked = subst (λ (l : List (ℕ × ℕ)). IsSomeAnd (find first v l) (λ p. p.1 ≢ 0)) (sym keeps.looked) mapped;
@@ -109,20 +109,20 @@ unmap-may made v taken g view now at =
       phase = taken-phase g o taken at.may.looked.phase at.may.looked.uncleared;
     } in
     let on = held-of g t view.owned view.bumps view.raises made.page v view of page in
-    let begin : MayAct g (held t view.owned view.bumps view.raises view) (Unmap v) = record {
+    let begin : MayAct g (transfer_held t view.owned view.bumps view.raises view) (Unmap v) = record {
       quiet = tt;
       allowed = record { range = vpage-there g v made.page of; permitted = subst (λ (x : Option Op). IsSomeAnd x (MayUnmap g v)) (sym on) may };
     } in
     subst (λ (x : View). MayAct g x (Unmap v)) (sym at.is) begin
 
 -- how an Unmap ends
-pub record HasUnmapped (g : Geometry) (now : View) (v : ℕ) (end : PieceEnd) (later : View) : Type 0 where
+pub record HasUnmapped (g : Geometry) (now : View) (v : ℕ) (end : TransferPieceEnd) (later : View) : Type 0 where
   pub word : ℕ
-  pub told_is : told_in end ≡ word
+  pub told_is : transfer_told end ≡ word
   pub taken : IsTakenWord g (v, word)
   pub is : later ≡ after_of g now (Unmap v) (Word word)
 
-pub unmap-ended : (g : Geometry) (now : View) (v : ℕ) (end : PieceEnd) (later : View) → PieceLeaves (This (Unmap v)) g now end later → HasUnmapped g now v end later
+pub unmap-ended : (g : Geometry) (now : View) (v : ℕ) (end : TransferPieceEnd) (later : View) → TransferPieceLeaves (This (Unmap v)) g now end later → HasUnmapped g now v end later
 unmap-ended g now v (This Done) later h = absurd h.fits.kind
 unmap-ended g now v (This (Word w)) later h = record {
   word = w;
@@ -136,28 +136,28 @@ unmap-ended g now v (Other x) later h = absurd h
 
 -- the view with it taken
 unmap-view : (made : TransferMade) (v w : ℕ) (taken : List (ℕ × ℕ)) (g : Geometry) (view now later : View) → (at : IsUnmapping made v taken g view now) → later ≡ after_of g now (Unmap v) (Word w)
-    → later ≡ held (taken_op (taken ++ (v, w) ∷ []) at.may.op) view.owned view.bumps view.raises view
+    → later ≡ transfer_held (taken_op (taken ++ (v, w) ∷ []) at.may.op) view.owned view.bumps view.raises view
 unmap-view made v w taken g view now later at is =
     let o = at.may.op in
     let page : (taken_op taken o).page ≡ made.page = (taken-keeps o taken).page ∙ at.may.looked.page_is in
     is ∙ ap (λ (x : View). after_of g x (Unmap v) (Word w)) at.is
     ∙ after-unmap g (taken_op taken o) view.owned view.bumps view.raises made.page v w view (unmap-backing made v taken g view now at) page
-    ∙ ap (λ (x : Op). held x view.owned view.bumps view.raises view) (taken-push o taken v w at.may.looked.taken at.may.looked.dry at.below)
+    ∙ ap (λ (x : Op). transfer_held x view.owned view.bumps view.raises view) (taken-push o taken v w at.may.looked.taken at.may.looked.dry at.below)
 
 split-next : (pages told more rest others : List ℕ) (v u : ℕ) → pages ≡ told ++ v ∷ rest → rest ≡ u ∷ others → more ≡ told ++ v ∷ [] → pages ≡ more ++ u ∷ others
 split-next pages told more rest others v u split next push = rw (split, next, push) (sym (append_assoc told (v ∷ []) (u ∷ others)))
 
 -- the next word
-pub unmap-next : (made : TransferMade) (v u : ℕ) (taken : List (ℕ × ℕ)) (end : PieceEnd) (g : Geometry) (view now later : View) → (at : IsUnmapping made v taken g view now) → PieceLeaves (This (Unmap v)) g now end later
-    → u < most_vpages → at_least (v + 1) made.pages ≡ u ∷ at_least (u + 1) made.pages → IsUnmapping made u (taken ++ (v, told_in end) ∷ []) g view later
+pub unmap-next : (made : TransferMade) (v u : ℕ) (taken : List (ℕ × ℕ)) (end : TransferPieceEnd) (g : Geometry) (view now later : View) → (at : IsUnmapping made v taken g view now) → TransferPieceLeaves (This (Unmap v)) g now end later
+    → u < most_vpages → at_or_after (v + 1) made.pages ≡ u ∷ at_or_after (u + 1) made.pages → IsUnmapping made u (taken ++ (v, transfer_told end) ∷ []) g view later
 unmap-next made v u taken end g view now later at left small next =
     let h = unmap-ended g now v end later left in
     let more : List (ℕ × ℕ) = taken ++ (v, h.word) ∷ [] in
     let pages : map first more ≡ map first taken ++ v ∷ [] = map-append first taken ((v, h.word) ∷ []) in
-    let up = first-least (v + 1) u made.pages (at_least (u + 1) made.pages) next in
+    let up = first-least (v + 1) u made.pages (at_or_after (u + 1) made.pages) next in
     let done : IsUnmapping made u more g view later = record {
       may = at.may;
-      split = split-next made.pages (map first taken) (map first more) (at_least (v + 1) made.pages) (at_least (u + 1) made.pages) v u at.split next pages;
+      split = split-next made.pages (map first taken) (map first more) (at_or_after (v + 1) made.pages) (at_or_after (u + 1) made.pages) v u at.split next pages;
       small = small;
       below = subst (AreBelow u) (sym pages) (below-push v u (map first taken) (omega arith) at.below);
       few = omega (arith, length-append taken ((v, h.word) ∷ []), at.few);
@@ -172,12 +172,12 @@ some-last [] p e = cc
 some-last (q ∷ taken) p e = cc
 
 -- all words
-pub unmap-all : (made : TransferMade) (v : ℕ) (taken : List (ℕ × ℕ)) (end : PieceEnd) (g : Geometry) (view now later : View) → (at : IsUnmapping made v taken g view now) → PieceLeaves (This (Unmap v)) g now end later
-    → at_least (v + 1) made.pages ≡ [] → IsRaising made (taken ++ (v, told_in end) ∷ []) g view later
+pub unmap-all : (made : TransferMade) (v : ℕ) (taken : List (ℕ × ℕ)) (end : TransferPieceEnd) (g : Geometry) (view now later : View) → (at : IsUnmapping made v taken g view now) → TransferPieceLeaves (This (Unmap v)) g now end later
+    → at_or_after (v + 1) made.pages ≡ [] → IsRaisingAll made (taken ++ (v, transfer_told end) ∷ []) g view later
 unmap-all made v taken end g view now later at left none =
     let h = unmap-ended g now v end later left in
     let more : List (ℕ × ℕ) = taken ++ (v, h.word) ∷ [] in
-    let done : IsRaising made more g view later = record {
+    let done : IsRaisingAll made more g view later = record {
       has = record {
         may = at.may;
         pages = map-append first taken ((v, h.word) ∷ []) ∙ sym (at.split ∙ ap (λ (l : List ℕ). map first taken ++ v ∷ l) none);
@@ -188,7 +188,7 @@ unmap-all made v taken end g view now later at left none =
       };
       is = unmap-view made v h.word taken g view now later at h.is;
     } in
-    subst (λ (w : ℕ). IsRaising made (taken ++ (v, w) ∷ []) g view later) (sym h.told_is) done
+    subst (λ (w : ℕ). IsRaisingAll made (taken ++ (v, w) ∷ []) g view later) (sym h.told_is) done
 
 -- The raises.
 
@@ -197,7 +197,7 @@ pub pages-some : (made : TransferMade) (taken : List (ℕ × ℕ)) (g : Geometry
 pages-some made [] g view has e = has.some refl
 pages-some made (p ∷ taken) g view has e = let h : p.0 ∷ map first taken ≡ [] = has.pages ∙ e in cc
 
-pub raise-may : (made : TransferMade) (taken : List (ℕ × ℕ)) (g : Geometry) (view now : View) → IsRaising made taken g view now → MayVisit (raises_made made.page made.pages) g now
+pub raise-may : (made : TransferMade) (taken : List (ℕ × ℕ)) (g : Geometry) (view now : View) → IsRaisingAll made taken g view now → MayVisit (raises_made made.page made.pages) g now
 raise-may made taken g view now at =
     let o = at.has.may.op in
     let t = taken_op taken o in
@@ -205,14 +205,14 @@ raise-may made taken g view now at =
     let wet : t.wet ≡ made.pages = taken-wet o taken at.has.may.looked.dry ∙ at.has.pages in
     let on = held-on t view.owned view.bumps view.raises made.page view page in
     let all : All (λ v. IsWet v t) made.pages = subst (λ (l : List ℕ). All (λ v. IsSome (find itself v l)) made.pages) (sym wet) (all-found made.pages) in
-    let begin : MayVisit (raises_made made.page made.pages) g (held t view.owned view.bumps view.raises view) = record {
+    let begin : MayVisit (raises_made made.page made.pages) g (transfer_held t view.owned view.bumps view.raises view) = record {
       of = at.has.may.of;
       each = record { wet = subst (λ (x : Option Op). IsSomeAnd x (λ o. All (λ v. IsWet v o) made.pages)) (sym on) all; few = at.has.may.raises };
     } in
     subst (λ (x : View). MayVisit (raises_made made.page made.pages) g x) (sym at.is) begin
 
-pub raise-ended : (made : TransferMade) (taken : List (ℕ × ℕ)) (g : Geometry) (view now : View) (end : PieceEnd) (later : View) → (at : IsRaising made taken g view now)
-    → PieceLeaves (Other (This (raises_made made.page made.pages))) g now end later → IsFlushing made taken g view later
+pub raise-ended : (made : TransferMade) (taken : List (ℕ × ℕ)) (g : Geometry) (view now : View) (end : TransferPieceEnd) (later : View) → (at : IsRaisingAll made taken g view now)
+    → TransferPieceLeaves (Other (This (raises_made made.page made.pages))) g now end later → IsFlushing made taken g view later
 raise-ended made taken g view now (This x) later at left = absurd left
 raise-ended made taken g view now (Other (Other x)) later at left = absurd left
 raise-ended made taken g view now (Other (This found)) later at left =
@@ -229,6 +229,6 @@ raise-ended made taken g view now (Other (This found)) later at left =
       is = left.is
           ∙ ap (λ (x : View). record x { ops = edit page_of made.page (visited visits.Raise left.told) x.ops; raises = x.raises + length left.told }) at.is
           ∙ ap (λ (l : List Op). record view { ops = l; raises = view.raises + length left.told }) (edit-one (visited visits.Raise left.told) t made.page page)
-          ∙ ap (λ (x : Op). held x view.owned view.bumps (view.raises + length left.told) view) same
-          ∙ ap (λ (n : ℕ). held (record t { wet = []; raised = r.raised }) view.owned view.bumps n view) count;
+          ∙ ap (λ (x : Op). transfer_held x view.owned view.bumps (view.raises + length left.told) view) same
+          ∙ ap (λ (n : ℕ). transfer_held (record t { wet = []; raised = r.raised }) view.owned view.bumps n view) count;
     }

@@ -35,11 +35,11 @@ use Rattle.nm_copying.specs.declared.copies.Copies.{Copies}
 use Rattle.nm_copying.specs.declared.copies.CopiesMade.{CopiesMade}
 use Rattle.nm_copying.specs.declared.copies.Stage.TheVariants as copying
 use Rattle.nm_copying.specs.Copying.{told, MayCopies, IsCopying, IsCopied, copies_stages, copies_left}
-use Rattle.nm_vpages.specs.VPages.{most_vpages, at_least, AreBelow}
+use Rattle.nm_vpages.specs.VPages.{most_vpages, at_or_after, AreBelow}
 use Rattle.nm_mappings.specs.declared.visits.VisitsMade.{VisitsMade}
 use Rattle.nm_mappings.specs.declared.visits.VisitPlan.{VisitPlan}
 use Rattle.nm_mappings.specs.Visits.{IsVisits, MayVisit, IsVisited, raises_made}
-use Rattle.nm_mappings.specs.Visiting.{place_of as visits_place, left_at as visits_left, visit_stages}
+use Rattle.nm_mappings.specs.Visiting.{visit_place as visits_place, visit_left as visits_left, visit_stages}
 use Rattle.nm_transfer.specs.declared.transfer.Source.{Source}
 use Rattle.nm_transfer.specs.declared.transfer.Source.TheVariants as sources
 use Rattle.nm_transfer.specs.declared.transfer.Stage.{Stage}
@@ -47,48 +47,48 @@ use Rattle.nm_transfer.specs.declared.transfer.Stage.TheVariants.{New, Unmapping
 use Rattle.nm_transfer.specs.declared.transfer.TransferMade.{TransferMade}
 use Rattle.nm_transfer.specs.declared.transfer.Transfer.{Transfer}
 use Rattle.nm_transfer.specs.Words.{mapped_word}
-use Rattle.nm_transfer.specs.Transferring.{MapsOf, SetsHome, Fills, Flushes, UnmapsOf}
+use Rattle.nm_transfer.specs.Transferring.{MapsOf, HomesPage, Fills, Flushes, UnmapsOf}
 use Rattle.nm_transfer.specs.Moving.{MayTransfer, still_owned}
 
 -- The pieces.
 
-abbrev pub PieceMade : Type 0
-PieceMade = Or Action (Or VisitsMade (Or ℕ CopiesMade))
+abbrev pub TransferPieceMade : Type 0
+TransferPieceMade = Or Action (Or VisitsMade (Or ℕ CopiesMade))
 
-abbrev pub PieceEnd : Type 0
-PieceEnd = Or Reply (Or (List ℕ) (Or ℕ (Unit {0})))
+abbrev pub TransferPieceEnd : Type 0
+TransferPieceEnd = Or Reply (Or (List ℕ) (Or ℕ (Unit {0})))
 
-abbrev pub MayPiece : PieceMade → Geometry → View → Type 0
-MayPiece = MayBeginOr (λ action g view. MayAct g view action) (MayBeginOr MayVisit (MayBeginOr MayShoot MayCopies))
+abbrev pub MayTransferPiece : TransferPieceMade → Geometry → View → Type 0
+MayTransferPiece = MayBeginOr (λ action g view. MayAct g view action) (MayBeginOr MayVisit (MayBeginOr MayShoot MayCopies))
 
-abbrev pub IsPiece : PieceMade → Geometry → Own → PieceEnd → Type 0
-IsPiece = IsOr IsAct (IsOr IsVisits (IsOr (λ cpus g own number. IsShootdown cpus own number) IsCopying))
+abbrev pub IsTransferPiece : TransferPieceMade → Geometry → Own → TransferPieceEnd → Type 0
+IsTransferPiece = IsOr IsAct (IsOr IsVisits (IsOr (λ cpus g own number. IsShootdown cpus own number) IsCopying))
 
-abbrev pub PieceLeaves : PieceMade → Geometry → View → PieceEnd → View → Type 0
-PieceLeaves = LeavesOr (λ action g view reply left. IsActed g view action reply left)
+abbrev pub TransferPieceLeaves : TransferPieceMade → Geometry → View → TransferPieceEnd → View → Type 0
+TransferPieceLeaves = LeavesOr (λ action g view reply left. IsActed g view action reply left)
     (LeavesOr (λ made g view found left. IsVisited made view found left)
     (LeavesOr (λ cpus g view number left. IsFlushed g view number left) (λ made g view end left. IsCopied made view left)))
 
-abbrev pub Piece : Type 0
-Piece = Or Act (Or (Composite VisitPlan Act) (Or Shoot (Composite Copies Act)))
+abbrev pub PieceOfTransfer : Type 0
+PieceOfTransfer = Or Act (Or (Composite VisitPlan Act) (Or Shoot (Composite Copies Act)))
 
 -- the data of a piece, and that it has given no action
-abbrev pub piece_made : Piece → PieceMade
-piece_made = or_made (λ a. a.action) (or_made (λ c. c.plan.made) (or_made cpus_of (λ c. c.plan.made)))
+abbrev pub transfer_piece_made : PieceOfTransfer → TransferPieceMade
+transfer_piece_made = or_made (λ a. a.action) (or_made (λ c. c.plan.made) (or_made cpus_of (λ c. c.plan.made)))
 
-abbrev pub IsNewVisitsPart : Composite VisitPlan Act → Type 0
-IsNewVisitsPart c = HasFirst (λ (a : Act). a.action) (λ a. Unit {0}) (λ action g view. MayAct g view action) IsAct (IsPieceAt visit_stages c.plan.made (visits_place c.plan)) (visits_left c.plan.made (visits_place c.plan)) MayVisit IsVisits c.plan.made c.piece
+abbrev pub IsNewRaises : Composite VisitPlan Act → Type 0
+IsNewRaises c = HasFirst (λ (a : Act). a.action) (λ a. Unit {0}) (λ action g view. MayAct g view action) IsAct (IsPieceAt visit_stages c.plan.made (visits_place c.plan)) (visits_left c.plan.made (visits_place c.plan)) MayVisit IsVisits c.plan.made c.piece
 
 abbrev pub IsNewCopiesPart : Composite Copies Act → Type 0
 IsNewCopiesPart c = HasFirst (λ (a : Act). a.action) (λ a. Unit {0}) (λ action g view. MayAct g view action) IsAct (IsPieceAt copies_stages c.plan.made c.plan.stage) (copies_left c.plan.made c.plan.stage) MayCopies IsCopying c.plan.made c.piece
 
-abbrev pub IsNewPiece : Piece → Type 0
-IsNewPiece = IsNewOr (λ a. Unit {0}) (IsNewOr IsNewVisitsPart (IsNewOr IsNewShoot IsNewCopiesPart))
+abbrev pub IsNewTransferPiece : PieceOfTransfer → Type 0
+IsNewTransferPiece = IsNewOr (λ a. Unit {0}) (IsNewOr IsNewRaises (IsNewOr IsNewShoot IsNewCopiesPart))
 
 -- the word that the reply carries with which a piece ended (0 where it carries none, of which nothing is claimed)
-abbrev pub told_in : PieceEnd → ℕ
-told_in (This reply) = told reply
-told_in (Other end) = 0
+abbrev pub transfer_told : TransferPieceEnd → ℕ
+transfer_told (This reply) = told reply
+transfer_told (Other end) = 0
 
 -- The stages.
 
@@ -98,12 +98,12 @@ taken_in None = []
 taken_in (Some taken) = taken
 
 -- the stage of a transfer, and the words that it holds
-pub record Place : Type 0 where
+pub record TransferPlace : Type 0 where
   pub stage : Stage
   pub taken : Option (List (ℕ × ℕ))
 
-abbrev pub place_of : Transfer → Place
-place_of t = record { stage = t.stage; taken = t.taken }
+abbrev pub transfer_place : Transfer → TransferPlace
+transfer_place t = record { stage = t.stage; taken = t.taken }
 
 -- it has not begun: there is a virtual page, and no word is taken
 pub record IsNewTransfer (t : Transfer) : Type 0 where
@@ -127,7 +127,7 @@ noted v word None = None
 noted v word (Some taken) = Some (taken ++ (v, word) ∷ [])
 
 -- the piece of a stage
-abbrev pub transfer_piece : TransferMade → Stage → PieceMade
+abbrev pub transfer_piece : TransferMade → Stage → TransferPieceMade
 transfer_piece made New = This (Unlock made.page)
 transfer_piece made (Unmapping v) = This (Unmap v)
 transfer_piece made Raising = Other (This (raises_made made.page made.pages))
@@ -137,14 +137,14 @@ transfer_piece made Unshading = This (SetShadow made.page made.home None)
 transfer_piece made Homing = This (SetHome made.page made.frame)
 transfer_piece made (Mapping index v word) = This (Map v (mapped_word made.rights made.frame made.hint word))
 
-abbrev pub place_piece : TransferMade → Place → PieceMade
+abbrev pub place_piece : TransferMade → TransferPlace → TransferPieceMade
 place_piece made place = transfer_piece made place.stage
 
 -- a stage's piece can be made
-abbrev pub MayGo : TransferMade → Stage → Type 0
-MayGo made Raising = made.pages ≢ []
-MayGo made Copying = made.copies.stage ≡ copying.New
-MayGo made _ = Unit {0}
+abbrev pub MayTransferTo : TransferMade → Stage → Type 0
+MayTransferTo made Raising = made.pages ≢ []
+MayTransferTo made Copying = made.copies.stage ≡ copying.New
+MayTransferTo made _ = Unit {0}
 
 -- where the new home gets its words
 abbrev pub filling_from : Source → Stage
@@ -162,12 +162,12 @@ pub record IsMappingFrom (taken : List (ℕ × ℕ)) (index : ℕ) (stage : Stag
   pub next : drop index taken ≡ (vpage, word) ∷ drop (index + 1) taken
 
 -- the next word is mapped
-pub record IsMapRun (old : Transfer) (index : ℕ) (new : Transfer) (piece : Piece) : Type 0 where
+pub record IsMapRun (old : Transfer) (index : ℕ) (new : Transfer) (piece : PieceOfTransfer) : Type 0 where
   pub stage : Stage
   pub from_place : IsMappingFrom (taken_in old.taken) index stage
   pub is : new ≡ record old { stage = stage }
-  pub made : piece_made piece ≡ transfer_piece old.made stage
-  pub new_piece : IsNewPiece piece
+  pub made : transfer_piece_made piece ≡ transfer_piece old.made stage
+  pub new_piece : IsNewTransferPiece piece
 
 -- all words are mapped
 pub record IsMapOver (old : Transfer) (index : ℕ) (new : Transfer) (taken : List (ℕ × ℕ)) : Type 0 where
@@ -176,29 +176,29 @@ pub record IsMapOver (old : Transfer) (index : ℕ) (new : Transfer) (taken : Li
   pub made : new.made ≡ old.made
 
 -- the word of this place is mapped, or the transfer is over
-abbrev pub IsMapNext : Transfer → ℕ → Transfer → Next Piece (List (ℕ × ℕ)) → Type 0
+abbrev pub IsMapNext : Transfer → ℕ → Transfer → Next PieceOfTransfer (List (ℕ × ℕ)) → Type 0
 IsMapNext old index new (Run piece) = IsMapRun old index new piece
 IsMapNext old index new (Over taken) = IsMapOver old index new taken
 
 -- What is left after the piece of a stage.
-abbrev pub left_of : TransferMade → Stage → List (ℕ × ℕ) → Geometry → PieceEnd → Own → List (ℕ × ℕ) → Type 0
-left_of made New taken g end own outcome = ⊥
-left_of made (Unmapping v) taken g end own outcome = UnmapsOf g made (at_least (v + 1) made.pages) (taken ++ (v, told_in end) ∷ []) own outcome
-left_of made Raising taken g end own outcome = Flushes g made taken own outcome
-left_of made Flushing taken g end own outcome = Fills g made taken own outcome
-left_of made Copying taken g end own outcome = SetsHome g made taken own outcome
-left_of made Unshading taken g end own outcome = SetsHome g made taken own outcome
-left_of made Homing taken g end own outcome = MapsOf g made taken taken own outcome
-left_of made (Mapping index v word) taken g end own outcome = MapsOf g made (drop (index + 1) taken) taken own outcome
+abbrev pub transfer_left_of : TransferMade → Stage → List (ℕ × ℕ) → Geometry → TransferPieceEnd → Own → List (ℕ × ℕ) → Type 0
+transfer_left_of made New taken g end own outcome = ⊥
+transfer_left_of made (Unmapping v) taken g end own outcome = UnmapsOf g made (at_or_after (v + 1) made.pages) (taken ++ (v, transfer_told end) ∷ []) own outcome
+transfer_left_of made Raising taken g end own outcome = Flushes g made taken own outcome
+transfer_left_of made Flushing taken g end own outcome = Fills g made taken own outcome
+transfer_left_of made Copying taken g end own outcome = HomesPage g made taken own outcome
+transfer_left_of made Unshading taken g end own outcome = HomesPage g made taken own outcome
+transfer_left_of made Homing taken g end own outcome = MapsOf g made taken taken own outcome
+transfer_left_of made (Mapping index v word) taken g end own outcome = MapsOf g made (drop (index + 1) taken) taken own outcome
 
-abbrev pub left_at : TransferMade → Place → Geometry → PieceEnd → Own → List (ℕ × ℕ) → Type 0
-left_at made place g end = left_of made place.stage (taken_in place.taken) g end
+abbrev pub transfer_left : TransferMade → TransferPlace → Geometry → TransferPieceEnd → Own → List (ℕ × ℕ) → Type 0
+transfer_left made place g end = transfer_left_of made place.stage (taken_in place.taken) g end
 
 -- What is known of the views.
 
 -- the view with this one operation, these frames owned, so many bumps and so many raises
-abbrev pub held : Op → List Owned → ℕ → ℕ → View → View
-held op owned bumps raises view = record view { ops = op ∷ []; owned = owned; bumps = bumps; raises = raises }
+abbrev pub transfer_held : Op → List Owned → ℕ → ℕ → View → View
+transfer_held op owned bumps raises view = record view { ops = op ∷ []; owned = owned; bumps = bumps; raises = raises }
 
 -- the raises noted of virtual pages that were taken since are forgotten
 abbrev pub raised_without : List (ℕ × ℕ) → List (ℕ × ℕ) → List (ℕ × ℕ)
@@ -226,13 +226,13 @@ pub record IsTakenWord (g : Geometry) (p : ℕ × ℕ) : Type 0 where
 -- the word of this virtual page is next to be taken
 pub record IsUnmapping (made : TransferMade) (v : ℕ) (taken : List (ℕ × ℕ)) (g : Geometry) (view now : View) : Type 0 where
   pub may : MayTransfer made g view
-  pub split : made.pages ≡ map first taken ++ v ∷ at_least (v + 1) made.pages
+  pub split : made.pages ≡ map first taken ++ v ∷ at_or_after (v + 1) made.pages
   pub small : v < most_vpages
   pub below : AreBelow v (map first taken)
   pub few : length taken ≤ v
   pub once : Once first taken
   pub words : All (IsTakenWord g) taken
-  pub is : now ≡ held (taken_op taken may.op) view.owned view.bumps view.raises view
+  pub is : now ≡ transfer_held (taken_op taken may.op) view.owned view.bumps view.raises view
 
 -- all words were taken
 pub record HasTaken (made : TransferMade) (taken : List (ℕ × ℕ)) (g : Geometry) (view : View) : Type 0 where
@@ -243,18 +243,18 @@ pub record HasTaken (made : TransferMade) (taken : List (ℕ × ℕ)) (g : Geome
   pub once : Once first taken
   pub words : All (IsTakenWord g) taken
 
-pub record IsRaising (made : TransferMade) (taken : List (ℕ × ℕ)) (g : Geometry) (view now : View) : Type 0 where
+pub record IsRaisingAll (made : TransferMade) (taken : List (ℕ × ℕ)) (g : Geometry) (view now : View) : Type 0 where
   pub has : HasTaken made taken g view
-  pub is : now ≡ held (taken_op taken has.may.op) view.owned view.bumps view.raises view
+  pub is : now ≡ transfer_held (taken_op taken has.may.op) view.owned view.bumps view.raises view
 
 -- they were raised
 pub record IsFlushing (made : TransferMade) (taken : List (ℕ × ℕ)) (g : Geometry) (view now : View) : Type 0 where
   pub has : HasTaken made taken g view
   pub raised : List (ℕ × ℕ)
-  pub is : now ≡ held (record (taken_op taken has.may.op) { wet = []; raised = raised }) view.owned view.bumps (view.raises + length made.pages) view
+  pub is : now ≡ transfer_held (record (taken_op taken has.may.op) { wet = []; raised = raised }) view.owned view.bumps (view.raises + length made.pages) view
 
 -- the operation, once its page is out of the table and no translation of it is left
-pub record IsOut (made : TransferMade) (taken : List (ℕ × ℕ)) (g : Geometry) (o : Op) : Type 0 where
+pub record IsPageOut (made : TransferMade) (taken : List (ℕ × ℕ)) (g : Geometry) (o : Op) : Type 0 where
   pub page_is : o.page ≡ made.page
   pub home_is : o.home ≡ Some (home_word made.home)
   pub over : IsLookedOver g made.page o.looked
@@ -275,22 +275,22 @@ pub record IsFilling (made : TransferMade) (source : Source) (taken : List (ℕ 
   pub has : HasTaken made taken g view
   pub source_is : made.source ≡ source
   pub op : Op
-  pub out : IsOut made taken g op
+  pub out : IsPageOut made taken g op
   pub copied : op.copied ≡ 0
   pub last : op.last ≡ None
   pub shadow : KnowsShadow source made op
-  pub is : now ≡ held op view.owned (view.bumps + 1) (view.raises + length made.pages) view
+  pub is : now ≡ transfer_held op view.owned (view.bumps + 1) (view.raises + length made.pages) view
 
 -- the new home has its words
 pub record IsHoming (made : TransferMade) (taken : List (ℕ × ℕ)) (g : Geometry) (view now : View) : Type 0 where
   pub has : HasTaken made taken g view
   pub op : Op
-  pub out : IsOut made taken g op
+  pub out : IsPageOut made taken g op
   pub shadow : op.shadow ≡ Some 0
   pub owned : List Owned
-  pub whole : IsSomeAnd (fill_of (held op owned (view.bumps + 1) (view.raises + length made.pages) view) made.frame) (IsWhole g made.page)
+  pub whole : IsSomeAnd (fill_of (transfer_held op owned (view.bumps + 1) (view.raises + length made.pages) view) made.frame) (IsWhole g made.page)
   pub rest : erase owned_frame made.frame owned ≡ still_owned made.source made.frame view.owned
-  pub is : now ≡ held op owned (view.bumps + 1) (view.raises + length made.pages) view
+  pub is : now ≡ transfer_held op owned (view.bumps + 1) (view.raises + length made.pages) view
 
 -- the operation, once the new home is set, with these words still out of the table
 pub record IsHomed (made : TransferMade) (rest : List (ℕ × ℕ)) (g : Geometry) (o : Op) : Type 0 where
@@ -318,10 +318,10 @@ pub record IsMapped (made : TransferMade) (index : ℕ) (taken : List (ℕ × �
   pub has : HasTaken made taken g view
   pub op : Op
   pub homed : IsHomed made (drop index taken) g op
-  pub is : now ≡ held op (owned_after made.page index (homed_owned made view)) (view.bumps + 1) (view.raises + length made.pages) view
+  pub is : now ≡ transfer_held op (owned_after made.page index (homed_owned made view)) (view.bumps + 1) (view.raises + length made.pages) view
 
 -- the word of this place is mapped
-pub record IsMapping (made : TransferMade) (index v word : ℕ) (taken : List (ℕ × ℕ)) (g : Geometry) (view now : View) : Type 0 where
+pub record IsMappingBack (made : TransferMade) (index v word : ℕ) (taken : List (ℕ × ℕ)) (g : Geometry) (view now : View) : Type 0 where
   pub mapped : IsMapped made index taken g view now
   pub next : drop index taken ≡ (v, word) ∷ drop (index + 1) taken
 
@@ -329,17 +329,17 @@ pub record IsMapping (made : TransferMade) (index v word : ℕ) (taken : List (�
 abbrev pub KnownIn : TransferMade → Stage → List (ℕ × ℕ) → Geometry → View → View → Type 0
 KnownIn made New taken g view now = ⊥
 KnownIn made (Unmapping v) taken g view now = IsUnmapping made v taken g view now
-KnownIn made Raising taken g view now = IsRaising made taken g view now
+KnownIn made Raising taken g view now = IsRaisingAll made taken g view now
 KnownIn made Flushing taken g view now = IsFlushing made taken g view now
 KnownIn made Copying taken g view now = IsFilling made sources.Copy taken g view now
 KnownIn made Unshading taken g view now = IsFilling made sources.Shadow taken g view now
 KnownIn made Homing taken g view now = IsHoming made taken g view now
-KnownIn made (Mapping index v word) taken g view now = IsMapping made index v word taken g view now
+KnownIn made (Mapping index v word) taken g view now = IsMappingBack made index v word taken g view now
 
 -- and the transfer holds the words that were taken
-abbrev pub KnownAt : TransferMade → Stage → Option (List (ℕ × ℕ)) → Geometry → View → View → Type 0
-KnownAt made stage None g view now = ⊥
-KnownAt made stage (Some taken) g view now = KnownIn made stage taken g view now
+abbrev pub KnownInTransfer : TransferMade → Stage → Option (List (ℕ × ℕ)) → Geometry → View → View → Type 0
+KnownInTransfer made stage None g view now = ⊥
+KnownInTransfer made stage (Some taken) g view now = KnownIn made stage taken g view now
 
-abbrev pub transfer_stages : Stages TransferMade Place PieceMade PieceEnd (List (ℕ × ℕ))
-transfer_stages = record { piece = place_piece; left = left_at; known = λ made place g view now. KnownAt made place.stage place.taken g view now }
+abbrev pub transfer_stages : Stages TransferMade TransferPlace TransferPieceMade TransferPieceEnd (List (ℕ × ℕ))
+transfer_stages = record { piece = place_piece; left = transfer_left; known = λ made place g view now. KnownInTransfer made place.stage place.taken g view now }

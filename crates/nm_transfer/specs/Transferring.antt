@@ -38,13 +38,13 @@ abbrev pub MapsOf : Geometry → TransferMade → List (ℕ × ℕ) → List (�
 MapsOf g made rest taken = Each (MapAt g made) rest tt (λ kept. Ends taken)
 
 -- 4. The new home is set.
-abbrev pub SetsHome : Geometry → TransferMade → List (ℕ × ℕ) → Own → List (ℕ × ℕ) → Type 0
-SetsHome g made taken = Follows (IsAct (SetHome made.page made.frame) g) (λ reply. MapsOf g made taken taken)
+abbrev pub HomesPage : Geometry → TransferMade → List (ℕ × ℕ) → Own → List (ℕ × ℕ) → Type 0
+HomesPage g made taken = Follows (IsAct (SetHome made.page made.frame) g) (λ reply. MapsOf g made taken taken)
 
 -- 3. The page is copied into it, or it is the shadow of the old home, which is given up.
 abbrev pub FillsFrom : Source → Geometry → TransferMade → List (ℕ × ℕ) → Own → List (ℕ × ℕ) → Type 0
-FillsFrom sources.Copy g made taken = Follows (IsCopying made.copies.made g) (λ copied. SetsHome g made taken)
-FillsFrom sources.Shadow g made taken = Follows (IsAct (SetShadow made.page made.home None) g) (λ reply. SetsHome g made taken)
+FillsFrom sources.Copy g made taken = Follows (IsCopying made.copies.made g) (λ copied. HomesPage g made taken)
+FillsFrom sources.Shadow g made taken = Follows (IsAct (SetShadow made.page made.home None) g) (λ reply. HomesPage g made taken)
 
 abbrev pub Fills : Geometry → TransferMade → List (ℕ × ℕ) → Own → List (ℕ × ℕ) → Type 0
 Fills g made taken = FillsFrom made.source g made taken

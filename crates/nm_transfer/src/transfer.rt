@@ -10,7 +10,7 @@ ghost use Rattle.nm_transfer.specs.Words.{mapped_word};
 ghost use Rattle.nm_transfer.specs.Transferring.{transfer_made};
 ghost use Rattle.nm_shoot.specs.Asking.{cpus_of, IsNewShoot};
 ghost use Rattle.nm_copying.specs.declared.copies.Stage.TheVariants as copying;
-ghost use Rattle.nm_transfer.specs.Stages.{IsNewTransfer, transfer_piece, piece_made, IsNewPiece, MayGo, filling_stage, taken_in, told_in, noted, CanNote, HoldsWords, IsMappingFrom, IsMapNext};
+ghost use Rattle.nm_transfer.specs.Stages.{IsNewTransfer, transfer_piece, transfer_piece_made, IsNewTransferPiece, MayTransferTo, filling_stage, taken_in, transfer_told, noted, CanNote, HoldsWords, IsMappingFrom, IsMapNext};
 
 use crate::words::TakenWords;
 use nm_base::{Geometry, PageWord, table_word};
@@ -98,7 +98,7 @@ pub struct Transfer {
 }
 
 /// How a piece of a transfer ends.
-pub type PieceEnd = Or<Reply, Or<VPageSet, Or<u64, ()>>>;
+pub type TransferPieceEnd = Or<Reply, Or<VPageSet, Or<u64, ()>>>;
 
 impl Transfer {
     /// A transfer of a page, from the frame of its home to another frame. `pages` are the virtual pages of the page that
@@ -170,9 +170,9 @@ impl Transfer {
 
     /// The piece of a stage.
     fn piece_of(&self, stage: Stage) -> TransferPiece
-        requires { MayGo self.now.made stage }
-        ensures made { piece_made result ≡ transfer_piece self.now.made stage }
-        ensures new { IsNewPiece result }
+        requires { MayTransferTo self.now.made stage }
+        ensures made { transfer_piece_made result ≡ transfer_piece self.now.made stage }
+        ensures new { IsNewTransferPiece result }
     {
         let page = self.made.page;
         match stage {
@@ -199,10 +199,10 @@ impl Transfer {
 
     /// Comes to a stage, and gives its piece.
     fn go(&mut self, stage: Stage) -> TransferPiece
-        requires { MayGo self.old.made stage }
+        requires { MayTransferTo self.old.made stage }
         ensures stage { self.new ≡ record self.old { stage = stage } }
-        ensures made { piece_made result ≡ transfer_piece self.old.made stage }
-        ensures new { IsNewPiece result }
+        ensures made { transfer_piece_made result ≡ transfer_piece self.old.made stage }
+        ensures new { IsNewTransferPiece result }
     {
         self.stage = stage;
         self.piece_of(stage)
@@ -259,8 +259,8 @@ impl Transfer {
 }
 
 /// The word that the reply carries with which a piece ended (0 where it carries none, of which nothing is claimed).
-fn told_in(end: PieceEnd) -> u64
-    ensures { result ≡ told_in end }
+fn transfer_told(end: TransferPieceEnd) -> u64
+    ensures { result ≡ transfer_told end }
 {
     match end {
         Or::This(reply) => match reply {
@@ -273,8 +273,8 @@ fn told_in(end: PieceEnd) -> u64
 
 /// The piece that makes an action.
 fn action(action: Action) -> TransferPiece
-    ensures made { piece_made result ≡ Or.This action }
-    ensures new { IsNewPiece result }
+    ensures made { transfer_piece_made result ≡ Or.This action }
+    ensures new { IsNewTransferPiece result }
 {
     Or::This(Act::new(action))
 }
@@ -282,8 +282,8 @@ fn action(action: Action) -> TransferPiece
 /// The piece that raises virtual pages.
 fn raises(plan: VisitPlan) -> TransferPiece
     requires { IsNewVisits plan }
-    ensures made { piece_made result ≡ Or.Other (Or.This plan.made) }
-    ensures new { IsNewPiece result }
+    ensures made { transfer_piece_made result ≡ Or.Other (Or.This plan.made) }
+    ensures new { IsNewTransferPiece result }
 {
     Or::Other(Or::This(Composite::new(plan)))
 }
@@ -291,8 +291,8 @@ fn raises(plan: VisitPlan) -> TransferPiece
 /// The piece that runs a shootdown.
 fn shoots(shoot: Shoot) -> TransferPiece
     requires { IsNewShoot shoot }
-    ensures made { piece_made result ≡ Or.Other (Or.Other (Or.This (cpus_of shoot))) }
-    ensures new { IsNewPiece result }
+    ensures made { transfer_piece_made result ≡ Or.Other (Or.Other (Or.This (cpus_of shoot))) }
+    ensures new { IsNewTransferPiece result }
 {
     Or::Other(Or::Other(Or::This(shoot)))
 }
@@ -300,8 +300,8 @@ fn shoots(shoot: Shoot) -> TransferPiece
 /// The piece that copies a page.
 fn copies(plan: Copies) -> TransferPiece
     requires { plan.stage ≡ copying.New }
-    ensures made { piece_made result ≡ Or.Other (Or.Other (Or.Other plan.made)) }
-    ensures new { IsNewPiece result }
+    ensures made { transfer_piece_made result ≡ Or.Other (Or.Other (Or.Other plan.made)) }
+    ensures new { IsNewTransferPiece result }
 {
     Or::Other(Or::Other(Or::Other(Composite::new(plan))))
 }
@@ -314,7 +314,7 @@ impl Plan<TransferPiece> for Transfer {
     ghost use Rattle.nm_compose.specs.Stages.{IsPieceAt};
     ghost use Rattle.nm_transfer.specs.Transferring.{IsTransfer};
     ghost use Rattle.nm_transfer.specs.Moving.{MayTransfer, IsTransferred};
-    ghost use Rattle.nm_transfer.specs.Stages.{place_of, IsNewTransfer, left_at, transfer_stages};
+    ghost use Rattle.nm_transfer.specs.Stages.{transfer_place, IsNewTransfer, transfer_left, transfer_stages};
 
     ghost made = { λ t. t.made };
 
@@ -326,9 +326,9 @@ impl Plan<TransferPiece> for Transfer {
 
     ghost leaves = { λ made g view taken left. IsTransferred made g view taken left };
 
-    ghost knows = { λ t. IsPieceAt transfer_stages t.made (place_of t) };
+    ghost knows = { λ t. IsPieceAt transfer_stages t.made (transfer_place t) };
 
-    ghost left = { λ t. left_at t.made (place_of t) };
+    ghost left = { λ t. transfer_left t.made (transfer_place t) };
 
     ghost ended = { λ t g taken. Unit {0} };
 
@@ -339,11 +339,11 @@ impl Plan<TransferPiece> for Transfer {
         self.go(Stage::Unmapping(vpage))
     }
 
-    fn go_on(&mut self, _piece: &TransferPiece, end: PieceEnd) -> Next<TransferPiece, TakenWords> {
+    fn go_on(&mut self, _piece: &TransferPiece, end: TransferPieceEnd) -> Next<TransferPiece, TakenWords> {
         match self.stage {
             Stage::New => unreachable!(),
             Stage::Unmapping(vpage) => {
-                self.note(vpage, told_in(end));
+                self.note(vpage, transfer_told(end));
                 match self.made.pages.next(vpage + 1) {
                     Some(next) => Next::Run(self.go(Stage::Unmapping(next))),
                     None => Next::Run(self.go(Stage::Raising)),

@@ -6,7 +6,7 @@ use Rattle.std.proofs.lemmas.List.Elements.{filter-append}
 use Rattle.std.proofs.Common.{not, Option, Some, None, IsTrue, IfSome, IfNone, ◌↔◌}
 use Rattle.std.specs.Option.{is_some}
 use Rattle.nm_vpages.specs.Bits.{has_bit, members_from}
-use Rattle.nm_vpages.specs.VPages.{at_least}
+use Rattle.nm_vpages.specs.VPages.{at_or_after}
 
 -- One number more.
 
@@ -73,35 +73,35 @@ bit-holds P ws first (suc more) h u ge lt set =
 
 -- The numbers that are at least one.
 
-at-least-cond-no : (ws : List ℕ) (k first more : ℕ) (t : Bool) → nat_le k first ≡ false → at_least k (members_from ws (first + 1) more) ≡ []
-    → at_least k (cond t (first ∷ members_from ws (first + 1) more) (members_from ws (first + 1) more)) ≡ []
+at-least-cond-no : (ws : List ℕ) (k first more : ℕ) (t : Bool) → nat_le k first ≡ false → at_or_after k (members_from ws (first + 1) more) ≡ []
+    → at_or_after k (cond t (first ∷ members_from ws (first + 1) more) (members_from ws (first + 1) more)) ≡ []
 at-least-cond-no ws k first more true skips rest = rw skips rest
 at-least-cond-no ws k first more false skips rest = rest
 
-at-least-cond-yes : (ws : List ℕ) (k first more : ℕ) (t : Bool) → nat_le k first ≡ true → at_least k (members_from ws (first + 1) more) ≡ members_from ws (first + 1) more
-    → at_least k (cond t (first ∷ members_from ws (first + 1) more) (members_from ws (first + 1) more)) ≡ cond t (first ∷ members_from ws (first + 1) more) (members_from ws (first + 1) more)
+at-least-cond-yes : (ws : List ℕ) (k first more : ℕ) (t : Bool) → nat_le k first ≡ true → at_or_after k (members_from ws (first + 1) more) ≡ members_from ws (first + 1) more
+    → at_or_after k (cond t (first ∷ members_from ws (first + 1) more) (members_from ws (first + 1) more)) ≡ cond t (first ∷ members_from ws (first + 1) more) (members_from ws (first + 1) more)
 at-least-cond-yes ws k first more true keeps rest = rw keeps (ap (λ (l : List ℕ). first ∷ l) rest)
 at-least-cond-yes ws k first more false keeps rest = rest
 
-at-least-none : (ws : List ℕ) (k first more : ℕ) → first + more ≤ k → at_least k (members_from ws first more) ≡ []
+at-least-none : (ws : List ℕ) (k first more : ℕ) → first + more ≤ k → at_or_after k (members_from ws first more) ≡ []
 at-least-none ws k first zero h = refl
 at-least-none ws k first (suc more) h = at-least-cond-no ws k first more (has_bit ws first) (grind (arith, nat_tests)) (at-least-none ws k (first + 1) more (omega arith))
 
-at-least-all : (ws : List ℕ) (k first more : ℕ) → k ≤ first → at_least k (members_from ws first more) ≡ members_from ws first more
+at-least-all : (ws : List ℕ) (k first more : ℕ) → k ≤ first → at_or_after k (members_from ws first more) ≡ members_from ws first more
 at-least-all ws k first zero h = refl
 at-least-all ws k first (suc more) h = at-least-cond-yes ws k first more (has_bit ws first) (grind (arith, nat_tests)) (at-least-all ws k (first + 1) more (omega arith))
 
-pub at-least-from : (ws : List ℕ) (k all : ℕ) → k ≤ all → at_least k (members_from ws 0 all) ≡ members_from ws k (all - k)
+pub at-least-from : (ws : List ℕ) (k all : ℕ) → k ≤ all → at_or_after k (members_from ws 0 all) ≡ members_from ws k (all - k)
 at-least-from ws k all h =
     let split = members-split ws 0 k (all - k) all (omega arith) in
     let at : 0 + k ≡ k = omega arith in
-    ap (at_least k) split
+    ap (at_or_after k) split
     ∙ filter-append (nat_le k) (members_from ws 0 k) (members_from ws (0 + k) (all - k))
-    ∙ ap (λ (l : List ℕ). l ++ at_least k (members_from ws (0 + k) (all - k))) (at-least-none ws k 0 k (omega arith))
+    ∙ ap (λ (l : List ℕ). l ++ at_or_after k (members_from ws (0 + k) (all - k))) (at-least-none ws k 0 k (omega arith))
     ∙ at-least-all ws k (0 + k) (all - k) (omega arith)
     ∙ ap (λ (n : ℕ). members_from ws n (all - k)) at
 
-pub at-least-past : (ws : List ℕ) (k all : ℕ) → all ≤ k → at_least k (members_from ws 0 all) ≡ []
+pub at-least-past : (ws : List ℕ) (k all : ℕ) → all ≤ k → at_or_after k (members_from ws 0 all) ≡ []
 at-least-past ws k all h = at-least-none ws k 0 all (omega arith)
 
 few-cond : (t : Bool) (x : ℕ) (xs : List ℕ) (n : ℕ) → length xs ≤ n → length (cond t (x ∷ xs) xs) ≤ suc n
@@ -114,27 +114,27 @@ members-few ws first zero = omega arith
 members-few ws first (suc more) = few-cond (has_bit ws first) first (members_from ws (first + 1) more) more (members-few ws (first + 1) more)
 
 -- all numbers are at least 0
-pub at-least-zero : (pages : List ℕ) → at_least 0 pages ≡ pages
+pub at-least-zero : (pages : List ℕ) → at_or_after 0 pages ≡ pages
 at-least-zero [] = refl
 at-least-zero (v ∷ pages) =
     let kept : nat_le 0 v ≡ true = grind (arith, nat_tests) in
-    ap (λ (t : Bool). cond t (v ∷ at_least 0 pages) (at_least 0 pages)) kept ∙ ap (λ (l : List ℕ). v ∷ l) (at-least-zero pages)
+    ap (λ (t : Bool). cond t (v ∷ at_or_after 0 pages) (at_or_after 0 pages)) kept ∙ ap (λ (l : List ℕ). v ∷ l) (at-least-zero pages)
 
 -- the first of them: there is none exactly where the list is empty
-pub none-first : (pages : List ℕ) (next : Option ℕ) (none : Bool) → is_some next ≡ not none → IfSome next (λ v. at_least 0 pages ≡ v ∷ at_least (v + 1) pages) → IfNone next (at_least 0 pages ≡ [])
+pub none-first : (pages : List ℕ) (next : Option ℕ) (none : Bool) → is_some next ≡ not none → IfSome next (λ v. at_or_after 0 pages ≡ v ∷ at_or_after (v + 1) pages) → IfNone next (at_or_after 0 pages ≡ [])
     → IsTrue none ↔ (pages ≡ [])
 none-first pages None true e some nothing = (λ t. sym (at-least-zero pages) ∙ nothing, λ is. refl)
 none-first pages None false e some nothing = cc
 none-first pages (Some v) true e some nothing = cc
-none-first pages (Some v) false e some nothing = (λ t. cc, λ is. let h : v ∷ at_least (v + 1) pages ≡ [] = sym some ∙ at-least-zero pages ∙ is in cc)
+none-first pages (Some v) false e some nothing = (λ t. cc, λ is. let h : v ∷ at_or_after (v + 1) pages ≡ [] = sym some ∙ at-least-zero pages ∙ is in cc)
 
 -- and there is none after it exactly where it is the only one
-pub none-after : (pages : List ℕ) (v least : ℕ) (next : Option ℕ) (none : Bool) → at_least 0 pages ≡ least ∷ at_least (least + 1) pages → least ≡ v
-    → is_some next ≡ not none → IfSome next (λ u. at_least (least + 1) pages ≡ u ∷ at_least (u + 1) pages) → IfNone next (at_least (least + 1) pages ≡ [])
+pub none-after : (pages : List ℕ) (v least : ℕ) (next : Option ℕ) (none : Bool) → at_or_after 0 pages ≡ least ∷ at_or_after (least + 1) pages → least ≡ v
+    → is_some next ≡ not none → IfSome next (λ u. at_or_after (least + 1) pages ≡ u ∷ at_or_after (u + 1) pages) → IfNone next (at_or_after (least + 1) pages ≡ [])
     → IsTrue none ↔ (pages ≡ v ∷ [])
 none-after pages v least None true is-first same e some nothing =
     (λ t. sym (at-least-zero pages) ∙ is-first ∙ ap (λ (l : List ℕ). least ∷ l) nothing ∙ ap (λ (n : ℕ). n ∷ []) same, λ is. refl)
 none-after pages v least None false is-first same e some nothing = cc
 none-after pages v least (Some u) true is-first same e some nothing = cc
 none-after pages v least (Some u) false is-first same e some nothing =
-    (λ t. cc, λ is. let h : least ∷ (u ∷ at_least (u + 1) pages) ≡ v ∷ [] = ap (λ (l : List ℕ). least ∷ l) (sym some) ∙ sym is-first ∙ at-least-zero pages ∙ is in cc)
+    (λ t. cc, λ is. let h : least ∷ (u ∷ at_or_after (u + 1) pages) ≡ v ∷ [] = ap (λ (l : List ℕ). least ∷ l) (sym some) ∙ sym is-first ∙ at-least-zero pages ∙ is in cc)

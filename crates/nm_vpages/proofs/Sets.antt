@@ -7,7 +7,7 @@ use Rattle.std.proofs.lemmas.Nat.Bits.{bit_at-zero, bit_at_set_same, bit_at_set_
 use Rattle.std.specs.Int.{bit_at, w64, trailing_zeros}
 use Rattle.std.specs.Prelude.{bit_or}
 use Rattle.nm_vpages.specs.Bits.{has_bit, members_from, members, IsNextSet, HasNoneSet}
-use Rattle.nm_vpages.specs.VPages.{at_least, AreBelow}
+use Rattle.nm_vpages.specs.VPages.{at_or_after, AreBelow}
 use Rattle.nm_vpages.proofs.Numbers.{members-same, members-none, members-first, members-split, bit-holds, at-least-from, at-least-past, members-few}
 
 -- No number.
@@ -163,7 +163,7 @@ next-bit ws from at bit start within next none =
     }
 
 -- from it on there are itself, and the numbers after it
-pub members-next : (ws : List ℕ) (from v : ℕ) → IsNextBit ws from v → at_least from (members ws) ≡ v ∷ at_least (v + 1) (members ws)
+pub members-next : (ws : List ℕ) (from v : ℕ) → IsNextBit ws from v → at_or_after from (members ws) ≡ v ∷ at_or_after (v + 1) (members ws)
 unfolding members
 members-next ws from v h =
     let all : ℕ = 64 * length ws in
@@ -180,14 +180,14 @@ members-next ws from v h =
     ∙ members-first ws v more h.is
     ∙ ap (λ (l : List ℕ). v ∷ l) (sym (at-least-from ws (v + 1) all (omega arith)))
 
-none-left : (ws : List ℕ) (from all : ℕ) → ((u : ℕ) → from ≤ u → u < all → has_bit ws u ≡ false) → at_least from (members_from ws 0 all) ≡ []
+none-left : (ws : List ℕ) (from all : ℕ) → ((u : ℕ) → from ≤ u → u < all → has_bit ws u ≡ false) → at_or_after from (members_from ws 0 all) ≡ []
 none-left ws from all none = elim (cases_lt from all) [
   | inl low ↦ at-least-from ws from all (omega arith) ∙ members-none ws from (all - from) (λ u ge lt. none u ge (omega arith))
   | inr past ↦ at-least-past ws from all past
 ]
 
 -- from one on there are none
-pub members-end : (ws : List ℕ) (from at : ℕ) → 64 * length ws ≤ at → ((u : ℕ) → from ≤ u → u < at → has_bit ws u ≡ false) → at_least from (members ws) ≡ []
+pub members-end : (ws : List ℕ) (from at : ℕ) → 64 * length ws ≤ at → ((u : ℕ) → from ≤ u → u < at → has_bit ws u ≡ false) → at_or_after from (members ws) ≡ []
 unfolding members
 members-end ws from at end none = none-left ws from (64 * length ws) (λ u ge lt. none u ge (omega arith))
 

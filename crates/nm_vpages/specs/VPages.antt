@@ -19,8 +19,8 @@ abbrev pub vpages_of : Geometry → ℕ → List ℕ
 vpages_of g page = vpages_among page g.vpages 0
 
 -- those of a list that are at least this one
-abbrev pub at_least : ℕ → List ℕ → List ℕ
-at_least v pages = filter (nat_le v) pages
+abbrev pub at_or_after : ℕ → List ℕ → List ℕ
+at_or_after v pages = filter (nat_le v) pages
 
 -- every one of a list is below this one
 abbrev pub AreBelow : ℕ → List ℕ → Type 0

@@ -2,7 +2,7 @@
 
 ghost use Rattle.std.specs.Prelude.{◌≡◌, ◌+◌, ◌<◌, ◌≤◌, ◌↔◌, [], ◌∷◌, ◌++◌, length, IsTrue, IfSome, IfNone, Contains};
 ghost use Rattle.nm_vpages.specs.Bits.{IsNextSet, HasNoneSet};
-ghost use Rattle.nm_vpages.specs.VPages.{vpages_of, at_least, most_vpages, AreBelow};
+ghost use Rattle.nm_vpages.specs.VPages.{vpages_of, at_or_after, most_vpages, AreBelow};
 
 use nm_base::Geometry;
 use std::marker::Model;
@@ -89,9 +89,9 @@ impl VPageSet {
 
     /// The least member that is at least `from`. None exactly where there is none.
     pub fn next(&self, from: u32) -> Option<u32>
-        ensures some { IfSome result (λ v. at_least from self.now ≡ v ∷ at_least (v + 1) self.now) }
+        ensures some { IfSome result (λ v. at_or_after from self.now ≡ v ∷ at_or_after (v + 1) self.now) }
         ensures small { IfSome result (λ v. v < most_vpages) }
-        ensures none { IfNone result (at_least from self.now ≡ []) }
+        ensures none { IfNone result (at_or_after from self.now ≡ []) }
     {
         let mut at = from;
         while at < MOST_VPAGES {

@@ -19,4 +19,4 @@ pub returns : goal.returns
 returns c =
     let xs = c.args.views.now in
     let all : take c.loop-view.view-index xs ≡ xs = take_all c.loop-view.view-index xs (omega arith) in
-    (λ told. subst (All IsThere) all c.loop-view.invariant, λ told. search rules)
+    (λ told_of. subst (All IsThere) all c.loop-view.invariant, λ told_of. search rules)

@@ -33,7 +33,7 @@ returns-clause-first c =
       table = c.split_off-own.ensures.table.0 ∙ ap (λ x. x.table) face ∙ c.requires.first.table;
       first = refl;
       count = ap length seats ∙ length-set s.seats c.args.actor Out ∙ c.requires.first.count;
-      unsplit = λ q p told. unsplit-out c.args.self.now.geometry s.seats c.args.actor c.requires.first.unsplit q p (sym (ap (λ ks. seat_of ks q) seats) ∙ told);
+      unsplit = λ q p told_of. unsplit-out c.args.self.now.geometry s.seats c.args.actor c.requires.first.unsplit q p (sym (ap (λ ks. seat_of ks q) seats) ∙ told_of);
     }
 
 pub returns-clause-actor : goal.returns-clause-actor

@@ -11,6 +11,6 @@ returns c =
     let seats : k.seats ≡ c.args.self.now.seats = ap (λ s. s.seats) face in
     let mirrors = first_mirrors c.self.inside.held c.in-First.views k c.in-First.is c.self.invariant.1 in
     let are : c.deref.result.now ≡ map view_in c.args.self.now.seats = c.deref.ensures.value ∙ mirrors.views ∙ ap (map view_in) seats in (
-      λ told. all_back c.args.self.now.seats c.deref.result.now are (c.are_there.ensures.0 told),
+      λ told_of. all_back c.args.self.now.seats c.deref.result.now are (c.are_there.ensures.0 told_of),
       λ back. c.are_there.ensures.1 (all_there c.args.self.now.seats c.deref.result.now are back),
     )

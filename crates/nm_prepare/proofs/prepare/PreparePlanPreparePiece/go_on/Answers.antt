@@ -8,7 +8,7 @@ use Rattle.nm_prepare.specs.declared.prepare.Early.TheVariants.{NoFrame, Gone}
 use Rattle.nm_prepare.specs.declared.prepare.Prepared.TheVariants as ends
 use Rattle.nm_prepare.specs.declared.prepare.Stage.{Stage}
 use Rattle.nm_prepare.specs.declared.prepare.Stage.TheVariants.{Locking, Marking, Unlocking, ReadingHome, Looking, Arming, ReadingShadow, Taking, ArmingOne, Unshading, PuttingBack, Clearing, Raising}
-use Rattle.nm_prepare.specs.Stages.{piece_made, told_in, found_in, home_stage, looked_stage, prepare_left}
+use Rattle.nm_prepare.specs.Stages.{piece_made, told_in, prepare_found, home_stage, looked_stage, prepare_left}
 use Rattle.nm_part.proofs.Patterns.{ends-now}
 use Rattle.nm_prepare.proofs.Runs.{step-prepare, over-prepare, RunsPrepare}
 use Rattle.nm_prepare.proofs.Closing.{runs-locked, busy-left}
@@ -57,7 +57,7 @@ pub returns-in-Looking-clause-next : goal.returns-in-Looking-clause-next
 returns-in-Looking-clause-next c = λ g first now later own known shown left over. record {
   new = c.go-in-Looking.ensures.new;
   run = step-prepare c.args.self.now c.go-in-Looking.new.self (Looking c.in-Looking.home) c.looked_stage-stage.result c.args.end c.args.end _ (piece_made c.go-in-Looking.result) g first now later own c.in-Looking.is refl known left shown c.go-in-Looking.ensures.stage c.go-in-Looking.ensures.made
-      (λ k a. let S : Stage → Type 0 = λ s. RunsPrepare c.args.self.now.made s (prepare_left c.args.self.now.made (Looking c.in-Looking.home) g c.args.end) g first later in let e : c.looked_stage-stage.result ≡ looked_stage g c.args.self.now.made c.in-Looking.home (found_in c.args.end) = c.looked_stage-stage.ensures ∙ (ap (λ (l : List ℕ). looked_stage c.args.self.now.geometry.now c.args.self.now.made c.in-Looking.home l) c.found_in.ensures ∙ ap (λ (h : Geometry). looked_stage h c.args.self.now.made c.in-Looking.home (found_in c.args.end)) known.geometry) in subst S (sym e) (after-looking c.args.self.now.made g first now later own c.in-Looking.home c.args.end k a));
+      (λ k a. let S : Stage → Type 0 = λ s. RunsPrepare c.args.self.now.made s (prepare_left c.args.self.now.made (Looking c.in-Looking.home) g c.args.end) g first later in let e : c.looked_stage-stage.result ≡ looked_stage g c.args.self.now.made c.in-Looking.home (prepare_found c.args.end) = c.looked_stage-stage.ensures ∙ (ap (λ (l : List ℕ). looked_stage c.args.self.now.geometry.now c.args.self.now.made c.in-Looking.home l) c.prepare_found.ensures ∙ ap (λ (h : Geometry). looked_stage h c.args.self.now.made c.in-Looking.home (prepare_found c.args.end)) known.geometry) in subst S (sym e) (after-looking c.args.self.now.made g first now later own c.in-Looking.home c.args.end k a));
 }
 
 pub returns-in-Arming-clause-next : goal.returns-in-Arming-clause-next

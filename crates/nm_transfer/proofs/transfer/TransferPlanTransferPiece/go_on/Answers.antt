@@ -1,5 +1,5 @@
 use Rattle.std.proofs.Common.{◌≡◌, ℕ, ◌+◌, ◌∷◌, [], ap, ◌∙◌, subst, arith}
-use Rattle.nm_vpages.specs.VPages.{at_least}
+use Rattle.nm_vpages.specs.VPages.{at_or_after}
 use Rattle.nm_transfer.specs.declared.transfer.Stage.TheVariants.{Unmapping, Raising}
 use Rattle.nm_transfer.specs.declared.transfer.TransferMade.{TransferMade}
 use Rattle.nm_transfer.specs.declared.transfer.Transfer.{Transfer}
@@ -17,9 +17,9 @@ pub returns-in-Some-clause-next : goal.returns-in-Some-clause-next
 returns-in-Some-clause-next c = λ g first now later own known shown left over.
     let old = c.args.self.now in
     let made-is = ap (λ (t : Transfer). t.made) c.note.ensures in
-    let next = subst (λ (m : TransferMade). at_least (c.in-Unmapping.vpage + 1) m.pages ≡ c.in-Some.next ∷ at_least (c.in-Some.next + 1) m.pages) made-is c.in-Some.ensures.some in
+    let next = subst (λ (m : TransferMade). at_or_after (c.in-Unmapping.vpage + 1) m.pages ≡ c.in-Some.next ∷ at_or_after (c.in-Some.next + 1) m.pages) made-is c.in-Some.ensures.some in
     let runs = c.go.ensures.made ∙ ap (λ (m : TransferMade). transfer_piece m (Unmapping c.in-Some.next)) made-is in
-    let taken = ap (λ (t : Transfer). t.taken) c.go.ensures.stage ∙ ap (λ (t : Transfer). t.taken) c.note.ensures ∙ ap (λ (w : ℕ). noted c.in-Unmapping.vpage w old.taken) c.told_in.ensures in
+    let taken = ap (λ (t : Transfer). t.taken) c.go.ensures.stage ∙ ap (λ (t : Transfer). t.taken) c.note.ensures ∙ ap (λ (w : ℕ). noted c.in-Unmapping.vpage w old.taken) c.transfer_told.ensures in
     after-unmap-next old c.go.new.self c.go.result c.in-Unmapping.vpage c.in-Some.next c.args.end g first now later _ c.in-Unmapping.is known left
     (ap (λ (t : Transfer). t.made) c.go.ensures.stage ∙ made-is) (ap (λ (t : Transfer). t.stage) c.go.ensures.stage) taken runs c.go.ensures.new c.in-Some.ensures.small next
 
@@ -28,9 +28,9 @@ returns-in-None-clause-next c = λ g first now later own known shown left over.
     let old = c.args.self.now in
     let made-is = ap (λ (t : Transfer). t.made) c.note.ensures in
     let go = c.go-in-None in
-    let none = subst (λ (m : TransferMade). at_least (c.in-Unmapping.vpage + 1) m.pages ≡ []) made-is c.in-None.ensures.none in
+    let none = subst (λ (m : TransferMade). at_or_after (c.in-Unmapping.vpage + 1) m.pages ≡ []) made-is c.in-None.ensures.none in
     let runs = go.ensures.made ∙ ap (λ (m : TransferMade). transfer_piece m Raising) made-is in
-    let taken = ap (λ (t : Transfer). t.taken) go.ensures.stage ∙ ap (λ (t : Transfer). t.taken) c.note.ensures ∙ ap (λ (w : ℕ). noted c.in-Unmapping.vpage w old.taken) c.told_in.ensures in
+    let taken = ap (λ (t : Transfer). t.taken) go.ensures.stage ∙ ap (λ (t : Transfer). t.taken) c.note.ensures ∙ ap (λ (w : ℕ). noted c.in-Unmapping.vpage w old.taken) c.transfer_told.ensures in
     after-unmap-all old go.new.self go.result c.in-Unmapping.vpage c.args.end g first now later _ c.in-Unmapping.is known left
     (ap (λ (t : Transfer). t.made) go.ensures.stage ∙ made-is) (ap (λ (t : Transfer). t.stage) go.ensures.stage) taken runs go.ensures.new none
 
