@@ -1,5 +1,5 @@
 -- From a command with its fields to the form of the words.
-use Rattle.std.proofs.Common.{◌≡◌, ◌≢◌, ℕ, ◌==◌, ◌≤◌, false, List, [], ◌∷◌, ◌↔◌, String, map, string_bytes, Option, Some, None, length, codes, refl, sym, ap, subst, ◌∙◌, inl, inr, arith}
+use Rattle.std.proofs.Common.{◌≡◌, ◌≢◌, ℕ, ◌==◌, ◌+◌, ◌≤◌, false, List, [], ◌∷◌, ◌↔◌, String, map, string_bytes, Option, Some, None, length, codes, refl, sym, ap, subst, ◌∙◌, inl, inr, arith}
 use Rattle.std.specs.declared.alloc.Global.{Global}
 use Rattle.std.proofs.lemmas.Fmt.{decimal_injective}
 use Rattle.std.proofs.lemmas.Bool.Decides.{eqb_tells}
@@ -10,7 +10,7 @@ use Rattle.nm_text.proofs.CutLemmas.{Lacks-first}
 use Rattle.nm_command.specs.declared.form.Form.{Form}
 use Rattle.nm_command.specs.declared.form.Form.TheVariants as forms
 use Rattle.nm_command.specs.Line.{Splits, is_refused}
-use Rattle.nm_command.specs.Words.{IsSim, IsGen, AreNumbers}
+use Rattle.nm_command.specs.Words.{IsSim, IsGen, IsImportWords, AreNumbers, AreTierSizes}
 
 -- a field is the spelling of one number
 pub same_number : (field : List ℕ) (m n : ℕ) → IsNumber field m → IsNumber field n → m ≡ n
@@ -27,6 +27,19 @@ form_is first second number size n s f g low high = (
       let a = same_number first number n f h.is_number in
       let b = same_number second size s g h.is_size in
       ap (λ m. Some (forms.Gen m size)) a ∙ ap (λ t. Some (forms.Gen n t)) b,
+)
+
+pub sizes_are : (first second : List ℕ) (fast slow f s : ℕ) → IsNumber first fast → IsNumber second slow → 1 ≤ fast → 1 ≤ slow → fast + slow ≤ 4096
+    → (Some (forms.Import fast slow) ≡ Some (forms.Import f s)) ↔ AreTierSizes first second f s
+sizes_are first second fast slow f s g h low small sum = (
+  λ e.
+      let a : fast ≡ f = cc in
+      let b : slow ≡ s = cc in
+      subst (λ n. AreTierSizes first second n s) a (subst (λ n. AreTierSizes first second fast n) b (record { is_fast = g; is_slow = h; some_fast = low; some_slow = small; sum = sum })),
+  λ k.
+      let a = same_number first fast f g k.is_fast in
+      let b = same_number second slow s h k.is_slow in
+      ap (λ m. Some (forms.Import m slow)) a ∙ ap (λ n. Some (forms.Import f n)) b,
 )
 
 not_eq : (x y : ℕ) → x ≢ y → (x == y) ≡ false
@@ -49,6 +62,10 @@ pub none_gen : (words : List (String Global)) (n s : ℕ) → Splits (map string
 none_gen words n s none h =
     (none (rw h.are (refl, (number_field h.number n h.numbers.is_number, (number_field h.size s h.numbers.is_size, tt))))).1 h.number h.size h.are
 
+pub none_import : (words : List (String Global)) (f s : ℕ) → Splits (map string_bytes words) None → IsImportWords words f s → ⊥
+none_import words f s none h =
+    (none (rw h.are (refl, (number_field h.first f h.sizes.is_fast, (number_field h.second s h.sizes.is_slow, tt))))).2 h.first h.second h.are
+
 -- the texts behind the first, and the first of them
 abbrev rest_of : List (List ℕ) → List (List ℕ)
 rest_of [] = []
@@ -58,11 +75,16 @@ abbrev head_of : List (List ℕ) → List ℕ
 head_of [] = []
 head_of (x ∷ xs) = x
 
--- the word sim is no gen
-pub apart : (texts : List (List ℕ)) (a b : List ℕ) → texts ≡ codes "sim" ∷ [] → texts ≡ codes "gen" ∷ a ∷ b ∷ [] → ⊥
-apart texts a b h k =
+-- the words of one command are not those of another
+pub sim_apart : (texts : List (List ℕ)) (name a b : List ℕ) → texts ≡ codes "sim" ∷ [] → texts ≡ name ∷ a ∷ b ∷ [] → ⊥
+sim_apart texts name a b h k =
     let one : length texts ≡ 1 = ap length h in
     let three : length texts ≡ 3 = ap length k in absurd (omega (arith, one, three))
+
+pub pair_apart : (texts : List (List ℕ)) (a b c d : List ℕ) → texts ≡ codes "gen" ∷ a ∷ b ∷ [] → texts ≡ codes "import" ∷ c ∷ d ∷ [] → ⊥
+pair_apart texts a b c d h k =
+    let three : length (head_of texts) ≡ 3 = ap (λ t. length (head_of t)) h in
+    let six : length (head_of texts) ≡ 6 = ap (λ t. length (head_of t)) k in absurd (omega (arith, three, six))
 
 -- the fields that were read are those of the words
 pub gen_is : (words : List (String Global)) (r : Option Form) (number size : List ℕ) → map string_bytes words ≡ codes "gen" ∷ number ∷ size ∷ [] → ((n s : ℕ) → (r ≡ Some (forms.Gen n s)) ↔ AreNumbers number size n s) → (n s : ℕ) → (r ≡ Some (forms.Gen n s)) ↔ IsGen words n s
@@ -73,4 +95,15 @@ gen_is words r number size are read n s = (
       let first : h.number ≡ number = ap (λ t. head_of (rest_of t)) both in
       let second : h.size ≡ size = ap (λ t. head_of (rest_of (rest_of t))) both in
       (read n s).1 (subst (λ t. AreNumbers number t n s) second (subst (λ t. AreNumbers t h.size n s) first h.numbers)),
+)
+
+pub import_is : (words : List (String Global)) (r : Option Form) (fast slow : List ℕ) → map string_bytes words ≡ codes "import" ∷ fast ∷ slow ∷ []
+    → ((f s : ℕ) → (r ≡ Some (forms.Import f s)) ↔ AreTierSizes fast slow f s) → (f s : ℕ) → (r ≡ Some (forms.Import f s)) ↔ IsImportWords words f s
+import_is words r fast slow are read f s = (
+  λ e. record { first = fast; second = slow; are = are; sizes = (read f s).0 e },
+  λ h.
+      let both = sym h.are ∙ are in
+      let first : h.first ≡ fast = ap (λ t. head_of (rest_of t)) both in
+      let second : h.second ≡ slow = ap (λ t. head_of (rest_of (rest_of t))) both in
+      (read f s).1 (subst (λ t. AreTierSizes fast t f s) second (subst (λ t. AreTierSizes t h.second f s) first h.sizes)),
 )

@@ -25,8 +25,8 @@ use Rattle.clap.specs.declared.builder.command.Command.{Command}
 use Rattle.clap.specs.declared.builder.command.Command.TheViews.{out-Command}
 use Rattle.clap.specs.declared.parser.matches.ArgMatches.{ArgMatches}
 use Rattle.nm_command.specs.declared.line.Fields.{Fields}
-use Rattle.nm_command.specs.declared.line.Fields.TheVariants.{Sim, Gen}
-use Rattle.nm_command.specs.Line.{Splits, SaysFields, bare, is_refused, nomad}
+use Rattle.nm_command.specs.declared.line.Fields.TheVariants.{Sim, Gen, Import}
+use Rattle.nm_command.specs.Line.{Splits, SaysFields, HasValues, bare, is_refused, nomad}
 
 -- a word that is no option
 record IsField (w : Text) : Type 0 where
@@ -87,7 +87,7 @@ abbrev level : Shape → Bool → Kinds → Kinds → Held → Kinds
 level s has below words end =
     or_else words (or_else below (or_else (settle_fault s.rules s.args_override_self end) (or_else (defaults_fault (settled s.rules end).rows s.rules) (check_fault s (finished s.rules end) has))))
 
--- the command line and its two subcommands, built
+-- the command line and its subcommands, built
 abbrev line : App
 line = built nomad
 
@@ -112,29 +112,56 @@ sim_walk : (rest : List Text) → walk line.top.rules names nothing_held (codes 
 unfolding clap_on_literals
 sim_walk rest = stopped_walk line.top.rules names (walk_from nothing_held) (codes "sim") [] rest
 
-gen_walk : (rest : List Text) → walk line.top.rules names nothing_held (codes "gen" ∷ rest) ≡ stopped (codes "gen") rest
+-- the subcommands with two fields
+pub data Pair : Type 0 where
+  OfGen : Pair
+  OfImport : Pair
+
+abbrev pub name_of : Pair → Text
+name_of OfGen = codes "gen"
+name_of OfImport = codes "import"
+
+abbrev pub first_id : Pair → Text
+first_id OfGen = codes "N"
+first_id OfImport = codes "F"
+
+abbrev pub second_id : Pair → Text
+second_id OfGen = codes "SIZE"
+second_id OfImport = codes "S"
+
+abbrev shape_of : Pair → Shape
+shape_of OfGen = sub_at 1
+shape_of OfImport = sub_at 2
+
+abbrev rules_of : Pair → List Rule
+rules_of p = (shape_of p).rules
+
+pair_walk : (p : Pair) (rest : List Text) → walk line.top.rules names nothing_held (name_of p ∷ rest) ≡ stopped (name_of p) rest
 unfolding clap_on_literals
-gen_walk rest = stopped_walk line.top.rules names (walk_from nothing_held) (codes "gen") [] rest
+pair_walk OfGen rest = stopped_walk line.top.rules names (walk_from nothing_held) (codes "gen") [] rest
+pair_walk OfImport rest = stopped_walk line.top.rules names (walk_from nothing_held) (codes "import") [] rest
 
 sim_met : (rest : List Text) → walk_fault line.top names (walk_from nothing_held) (codes "sim" ∷ rest) ≡ []
 unfolding clap_on_literals
 sim_met rest = stopped_fault line.top names (walk_from nothing_held) (codes "sim", []) rest
 
-gen_met : (rest : List Text) → walk_fault line.top names (walk_from nothing_held) (codes "gen" ∷ rest) ≡ []
+pair_met : (p : Pair) (rest : List Text) → walk_fault line.top names (walk_from nothing_held) (name_of p ∷ rest) ≡ []
 unfolding clap_on_literals
-gen_met rest = stopped_fault line.top names (walk_from nothing_held) (codes "gen", []) rest
+pair_met OfGen rest = stopped_fault line.top names (walk_from nothing_held) (codes "gen", []) rest
+pair_met OfImport rest = stopped_fault line.top names (walk_from nothing_held) (codes "import", []) rest
 
 sim_fault : (rest : List Text) → fault_of nomad (codes "sim" ∷ rest) ≡ or_else (level_fault (sub_at 0) [] nothing_held rest false []) []
 unfolding clap_on_literals
 sim_fault rest = fault_as (codes "sim" ∷ rest) [] (stopped (codes "sim") rest) (sim_met rest) (sim_walk rest)
 
-gen_fault : (rest : List Text) → fault_of nomad (codes "gen" ∷ rest) ≡ or_else (level_fault (sub_at 1) [] nothing_held rest false []) []
+pair_fault : (p : Pair) (rest : List Text) → fault_of nomad (name_of p ∷ rest) ≡ or_else (level_fault (shape_of p) [] nothing_held rest false []) []
 unfolding clap_on_literals
-gen_fault rest = fault_as (codes "gen" ∷ rest) [] (stopped (codes "gen") rest) (gen_met rest) (gen_walk rest)
+pair_fault OfGen rest = fault_as (codes "gen" ∷ rest) [] (stopped (codes "gen") rest) (pair_met OfGen rest) (pair_walk OfGen rest)
+pair_fault OfImport rest = fault_as (codes "import" ∷ rest) [] (stopped (codes "import") rest) (pair_met OfImport rest) (pair_walk OfImport rest)
 
--- a word that is neither is refused
-none_met : (w : Text) → bytes_eq (codes "sim") w ≡ false → bytes_eq (codes "gen") w ≡ false → subcommand_met names idle w ≡ None
-none_met w e f = rw (e, f) refl
+-- a word that is none of them is refused
+none_met : (w : Text) → bytes_eq (codes "sim") w ≡ false → bytes_eq (codes "gen") w ≡ false → bytes_eq (codes "import") w ≡ false → subcommand_met names idle w ≡ None
+none_met w e f g = rw (e, f, g) refl
 
 stray_first : (w : Text) (rest : List Text) → IsField w → subcommand_met names idle w ≡ None → HasFault (fault_of nomad (w ∷ rest))
 stray_first w rest f none =
@@ -154,8 +181,9 @@ field_fault s h position w rest f =
 sim_stray : HasFault (step_fault (sub_at 0) 1 nothing_held value)
 sim_stray e = cc e
 
-gen_stray : (h : Held) → HasFault (step_fault (sub_at 1) 3 h value)
-gen_stray h e = cc e
+pair_stray : (p : Pair) (h : Held) → HasFault (step_fault (shape_of p) 3 h value)
+pair_stray OfGen h e = cc e
+pair_stray OfImport h e = cc e
 
 -- sim has no fields
 sim_more : (w : Text) (rest : List Text) → IsField w → HasFault (level_fault (sub_at 0) [] nothing_held (w ∷ rest) false [])
@@ -164,68 +192,75 @@ sim_more w rest f =
     let here : HasFault (walk_fault (sub_at 0) [] (walk_from nothing_held) (w ∷ rest)) = subst HasFault (sym (field_fault (sub_at 0) nothing_held 1 w rest f)) (some_first (step_fault (sub_at 0) 1 nothing_held value) (walk_fault (sub_at 0) [] after rest) sim_stray) in
     some_first _ _ here
 
-abbrev rules : List Rule
-rules = (sub_at 1).rules
+-- what is held after one field, and after two
+abbrev held_one : Pair → Text → Held
+held_one p a = (to_positional (rules_of p) (arg_by_index (rules_of p) 1) a (between nothing_held 1) nothing_held).held
 
--- what gen holds after one field, and after two
-abbrev held_one : Text → Held
-held_one a = (to_positional rules (arg_by_index rules 1) a (between nothing_held 1) nothing_held).held
+abbrev held_two : Pair → Text → Text → Held
+held_two p a b = (to_positional (rules_of p) (arg_by_index (rules_of p) 2) b (between (held_one p a) 2) (held_one p a)).held
 
-abbrev held_two : Text → Text → Held
-held_two a b = (to_positional rules (arg_by_index rules 2) b (between (held_one a) 2) (held_one a)).held
+one_walk : (p : Pair) (a : Text) → IsField a → walk (rules_of p) [] nothing_held (a ∷ []) ≡ between (held_one p a) 2
+one_walk OfGen a f = value_walked (rules_of OfGen) [] nothing_held 1 a f refl
+one_walk OfImport a f = value_walked (rules_of OfImport) [] nothing_held 1 a f refl
 
-one_walk : (a : Text) → IsField a → walk rules [] nothing_held (a ∷ []) ≡ between (held_one a) 2
-one_walk a f = value_walked rules [] nothing_held 1 a f refl
+two_walk : (p : Pair) (a b : Text) → IsField a → IsField b → walk (rules_of p) [] nothing_held (a ∷ b ∷ []) ≡ between (held_two p a b) 3
+two_walk OfGen a b f g = ap (λ v. walked (rules_of OfGen) [] v b) (one_walk OfGen a f) ∙ value_walked (rules_of OfGen) [] (held_one OfGen a) 2 b g refl
+two_walk OfImport a b f g = ap (λ v. walked (rules_of OfImport) [] v b) (one_walk OfImport a f) ∙ value_walked (rules_of OfImport) [] (held_one OfImport a) 2 b g refl
 
-two_walk : (a b : Text) → IsField a → IsField b → walk rules [] nothing_held (a ∷ b ∷ []) ≡ between (held_two a b) 3
-two_walk a b f g = ap (λ v. walked rules [] v b) (one_walk a f) ∙ value_walked rules [] (held_one a) 2 b g refl
+one_met : (p : Pair) (a : Text) (rest : List Text) → IsField a → walk_fault (shape_of p) [] (walk_from nothing_held) (a ∷ rest) ≡ walk_fault (shape_of p) [] (between (held_one p a) 2) rest
+one_met OfGen a rest f = field_fault (sub_at 1) nothing_held 1 a rest f
+one_met OfImport a rest f = field_fault (sub_at 2) nothing_held 1 a rest f
 
-one_met : (a : Text) (rest : List Text) → IsField a → walk_fault (sub_at 1) [] (walk_from nothing_held) (a ∷ rest) ≡ walk_fault (sub_at 1) [] (between (held_one a) 2) rest
-one_met a rest f = field_fault (sub_at 1) nothing_held 1 a rest f
-
-two_met : (a b : Text) (rest : List Text) → IsField a → IsField b → walk_fault (sub_at 1) [] (walk_from nothing_held) (a ∷ b ∷ rest) ≡ walk_fault (sub_at 1) [] (between (held_two a b) 3) rest
+two_met : (p : Pair) (a b : Text) (rest : List Text) → IsField a → IsField b → walk_fault (shape_of p) [] (walk_from nothing_held) (a ∷ b ∷ rest) ≡ walk_fault (shape_of p) [] (between (held_two p a b) 3) rest
 unfolding clap_on_literals
-two_met a b rest f g = one_met a (b ∷ rest) f ∙ field_fault (sub_at 1) (held_one a) 2 b rest g
+two_met OfGen a b rest f g = one_met OfGen a (b ∷ rest) f ∙ field_fault (sub_at 1) (held_one OfGen a) 2 b rest g
+two_met OfImport a b rest f g = one_met OfImport a (b ∷ rest) f ∙ field_fault (sub_at 2) (held_one OfImport a) 2 b rest g
 
-no_field : HasFault (level_fault (sub_at 1) [] nothing_held [] false [])
+no_field : (p : Pair) → HasFault (level_fault (shape_of p) [] nothing_held [] false [])
 unfolding clap_on_literals
-no_field e = cc e
+no_field OfGen e = cc e
+no_field OfImport e = cc e
 
-one_field : (a : Text) → IsField a → HasFault (level_fault (sub_at 1) [] nothing_held (a ∷ []) false [])
+one_field : (p : Pair) (a : Text) → IsField a → HasFault (level_fault (shape_of p) [] nothing_held (a ∷ []) false [])
 unfolding clap_on_literals
-one_field a f = subst HasFault (sym (leaf_as (sub_at 1) (a ∷ []) [] (between (held_one a) 2) (one_met a [] f) (one_walk a f))) (λ e. cc e)
+one_field OfGen a f = subst HasFault (sym (leaf_as (sub_at 1) (a ∷ []) [] (between (held_one OfGen a) 2) (one_met OfGen a [] f) (one_walk OfGen a f))) (λ e. cc e)
+one_field OfImport a f = subst HasFault (sym (leaf_as (sub_at 2) (a ∷ []) [] (between (held_one OfImport a) 2) (one_met OfImport a [] f) (one_walk OfImport a f))) (λ e. cc e)
 
-two_fields : (a b : Text) → IsField a → IsField b → level_fault (sub_at 1) [] nothing_held (a ∷ b ∷ []) false [] ≡ []
+two_fields : (p : Pair) (a b : Text) → IsField a → IsField b → level_fault (shape_of p) [] nothing_held (a ∷ b ∷ []) false [] ≡ []
 unfolding clap_on_literals
-two_fields a b f g = leaf_as (sub_at 1) (a ∷ b ∷ []) [] (between (held_two a b) 3) (two_met a b [] f g) (two_walk a b f g)
+two_fields OfGen a b f g = leaf_as (sub_at 1) (a ∷ b ∷ []) [] (between (held_two OfGen a b) 3) (two_met OfGen a b [] f g) (two_walk OfGen a b f g)
+two_fields OfImport a b f g = leaf_as (sub_at 2) (a ∷ b ∷ []) [] (between (held_two OfImport a b) 3) (two_met OfImport a b [] f g) (two_walk OfImport a b f g)
 
-more_fields : (a b c : Text) (rest : List Text) → IsField a → IsField b → IsField c → HasFault (level_fault (sub_at 1) [] nothing_held (a ∷ b ∷ c ∷ rest) false [])
-more_fields a b c rest f g h =
-    let held = held_two a b in
-    let after = to_positional rules (arg_by_index rules 3) c (between held 3) held in
-    let here : HasFault (walk_fault (sub_at 1) [] (walk_from nothing_held) (a ∷ b ∷ c ∷ rest)) = subst HasFault (sym (two_met a b (c ∷ rest) f g ∙ field_fault (sub_at 1) held 3 c rest h)) (some_first (step_fault (sub_at 1) 3 held value) (walk_fault (sub_at 1) [] after rest) (gen_stray held)) in
+more_fields : (p : Pair) (a b c : Text) (rest : List Text) → IsField a → IsField b → IsField c → HasFault (level_fault (shape_of p) [] nothing_held (a ∷ b ∷ c ∷ rest) false [])
+more_fields p a b c rest f g h =
+    let held = held_two p a b in
+    let after = to_positional (rules_of p) (arg_by_index (rules_of p) 3) c (between held 3) held in
+    let here : HasFault (walk_fault (shape_of p) [] (walk_from nothing_held) (a ∷ b ∷ c ∷ rest)) = subst HasFault (sym (two_met p a b (c ∷ rest) f g ∙ field_fault (shape_of p) held 3 c rest h)) (some_first (step_fault (shape_of p) 3 held value) (walk_fault (shape_of p) [] after rest) (pair_stray p held)) in
     some_first _ _ here
 
 -- ---- the rows
 
-gen_rows : (a b : Text) → IsField a → IsField b → rows_after rules [] (a ∷ b ∷ []) ≡ finished rules (held_two a b)
-gen_rows a b f g = ap (λ (w : Walk). finished rules w.held) (two_walk a b f g)
+pair_rows : (p : Pair) (a b : Text) → IsField a → IsField b → rows_after (rules_of p) [] (a ∷ b ∷ []) ≡ finished (rules_of p) (held_two p a b)
+pair_rows p a b f g = ap (λ (w : Walk). finished (rules_of p) w.held) (two_walk p a b f g)
 
 sim_entered : subcommand_of nomad (codes "sim" ∷ []) ≡ Some (codes "sim", [])
 unfolding clap_on_literals
 sim_entered = refl
 
-gen_entered : (rest : List Text) → subcommand_of nomad (codes "gen" ∷ rest) ≡ Some (codes "gen", rows_after rules [] rest)
+pair_entered : (p : Pair) (rest : List Text) → subcommand_of nomad (name_of p ∷ rest) ≡ Some (name_of p, rows_after (rules_of p) [] rest)
 unfolding clap_on_literals
-gen_entered rest = ap (λ (w : Walk). entered line w.stopped) (gen_walk rest)
+pair_entered OfGen rest = ap (λ (w : Walk). entered line w.stopped) (pair_walk OfGen rest)
+pair_entered OfImport rest = ap (λ (w : Walk). entered line w.stopped) (pair_walk OfImport rest)
 
-first_row : (a b : Text) → first_of (codes "N") (finished rules (held_two a b)) ≡ Some a
+first_row : (p : Pair) (a b : Text) → first_of (first_id p) (finished (rules_of p) (held_two p a b)) ≡ Some a
 unfolding clap_on_literals
-first_row a b = refl
+first_row OfGen a b = refl
+first_row OfImport a b = refl
 
-second_row : (a b : Text) → first_of (codes "SIZE") (finished rules (held_two a b)) ≡ Some b
+second_row : (p : Pair) (a b : Text) → first_of (second_id p) (finished (rules_of p) (held_two p a b)) ≡ Some b
 unfolding clap_on_literals
-second_row a b = refl
+second_row OfGen a b = refl
+second_row OfImport a b = refl
 
 -- ---- both ways
 
@@ -245,64 +280,70 @@ sim_taken = refl
 abbrev pub AreFields : List Text → Type 0
 AreFields words = AllByRecursion (λ w. is_refused w ≡ false) words
 
-pub gen_taken : (a b : Text) → AreFields (codes "gen" ∷ a ∷ b ∷ []) → fault_of nomad (codes "gen" ∷ a ∷ b ∷ []) ≡ []
-gen_taken a b h =
-    gen_fault (a ∷ b ∷ []) ∙ ap (λ k. or_else k []) (two_fields a b (is_field a h.1.0) (is_field b h.1.1.0))
+pub pair_taken : (p : Pair) (a b : Text) → AreFields (name_of p ∷ a ∷ b ∷ []) → fault_of nomad (name_of p ∷ a ∷ b ∷ []) ≡ []
+pair_taken p a b h =
+    pair_fault p (a ∷ b ∷ []) ∙ ap (λ k. or_else k []) (two_fields p a b (is_field a h.1.0) (is_field b h.1.1.0))
 
-pub record IsGenTaken (words : List Text) : Type 0 where
+pub record IsPairTaken (p : Pair) (words : List Text) : Type 0 where
   pub first : Text
   pub second : Text
   pub rows : List Row
-  pub are : words ≡ codes "gen" ∷ first ∷ second ∷ []
-  pub entered : subcommand_of nomad words ≡ Some (codes "gen", rows)
-  pub number : first_of (codes "N") rows ≡ Some first
-  pub size : first_of (codes "SIZE") rows ≡ Some second
+  pub are : words ≡ name_of p ∷ first ∷ second ∷ []
+  pub entered : subcommand_of nomad words ≡ Some (name_of p, rows)
+  pub values : HasValues (first_id p) (second_id p) rows first second
 
 pub record IsSimTaken (words : List Text) : Type 0 where
   pub are : words ≡ codes "sim" ∷ []
   pub entered : subcommand_of nomad words ≡ Some (codes "sim", [])
 
 abbrev pub IsTaken : List Text → Type 0
-IsTaken words = IsSimTaken words ⊎ IsGenTaken words
+IsTaken words = IsSimTaken words ⊎ ((p : Pair) × IsPairTaken p words)
 
 sim_only : (rest : List Text) → AreFields rest → fault_of nomad (codes "sim" ∷ rest) ≡ [] → IsTaken (codes "sim" ∷ rest)
 sim_only [] h e = inl (record { are = refl; entered = sim_entered })
 sim_only (x ∷ xs) h e = absurd (some_first _ _ (sim_more x xs (is_field x h.0)) (sym (sim_fault (x ∷ xs)) ∙ e))
 
-gen_only : (rest : List Text) → AreFields rest → fault_of nomad (codes "gen" ∷ rest) ≡ [] → IsTaken (codes "gen" ∷ rest)
-gen_only [] h e = absurd (some_first _ _ no_field (sym (gen_fault []) ∙ e))
-gen_only (a ∷ []) h e = absurd (some_first _ _ (one_field a (is_field a h.0)) (sym (gen_fault (a ∷ [])) ∙ e))
-gen_only (a ∷ b ∷ []) h e =
+pair_only : (p : Pair) (rest : List Text) → AreFields rest → fault_of nomad (name_of p ∷ rest) ≡ [] → IsTaken (name_of p ∷ rest)
+pair_only p [] h e = absurd (some_first _ _ (no_field p) (sym (pair_fault p []) ∙ e))
+pair_only p (a ∷ []) h e = absurd (some_first _ _ (one_field p a (is_field a h.0)) (sym (pair_fault p (a ∷ [])) ∙ e))
+pair_only p (a ∷ b ∷ []) h e =
     let f = is_field a h.0 in
     let g = is_field b h.1.0 in
-    inr (record {
-      first = a;
-      second = b;
-      rows = finished rules (held_two a b);
-      are = refl;
-      entered = gen_entered (a ∷ b ∷ []) ∙ ap (λ (r : List Row). Some (codes "gen", r)) (gen_rows a b f g);
-      number = first_row a b;
-      size = second_row a b;
-    })
-gen_only (a ∷ b ∷ c ∷ rest) h e =
+    inr (
+      p,
+      record {
+        first = a;
+        second = b;
+        rows = finished (rules_of p) (held_two p a b);
+        are = refl;
+        entered = pair_entered p (a ∷ b ∷ []) ∙ ap (λ (r : List Row). Some (name_of p, r)) (pair_rows p a b f g);
+        values = (first_row p a b, second_row p a b);
+      },
+    )
+pair_only p (a ∷ b ∷ c ∷ rest) h e =
     let f = is_field a h.0 in
     let g = is_field b h.1.0 in
     let k = is_field c h.1.1.0 in
-    absurd (some_first _ _ (more_fields a b c rest f g k) (sym (gen_fault (a ∷ b ∷ c ∷ rest)) ∙ e))
+    absurd (some_first _ _ (more_fields p a b c rest f g k) (sym (pair_fault p (a ∷ b ∷ c ∷ rest)) ∙ e))
 
-first_only : (w : Text) (rest : List Text) (s g : Bool) → bytes_eq (codes "sim") w ≡ s → bytes_eq (codes "gen") w ≡ g → AreFields (w ∷ rest) → fault_of nomad (w ∷ rest) ≡ [] → IsTaken (w ∷ rest)
-first_only w rest true g p q h e =
-    let is : codes "sim" ≡ w = (bytes_eq-Decides (codes "sim") w).0 p in
+pair_named : (p : Pair) (w : Text) (rest : List Text) → bytes_eq (name_of p) w ≡ true → AreFields (w ∷ rest) → fault_of nomad (w ∷ rest) ≡ [] → IsTaken (w ∷ rest)
+pair_named p w rest q h e =
+    let is : name_of p ≡ w = (bytes_eq-Decides (name_of p) w).0 q in
+    subst (λ (v : Text). IsTaken (v ∷ rest)) is (pair_only p rest h.1 (subst (λ (v : Text). fault_of nomad (v ∷ rest) ≡ []) (sym is) e))
+
+first_only : (w : Text) (rest : List Text) (s g i : Bool) → bytes_eq (codes "sim") w ≡ s → bytes_eq (codes "gen") w ≡ g → bytes_eq (codes "import") w ≡ i
+    → AreFields (w ∷ rest) → fault_of nomad (w ∷ rest) ≡ [] → IsTaken (w ∷ rest)
+first_only w rest true g i q r t h e =
+    let is : codes "sim" ≡ w = (bytes_eq-Decides (codes "sim") w).0 q in
     subst (λ (v : Text). IsTaken (v ∷ rest)) is (sim_only rest h.1 (subst (λ (v : Text). fault_of nomad (v ∷ rest) ≡ []) (sym is) e))
-first_only w rest false true p q h e =
-    let is : codes "gen" ≡ w = (bytes_eq-Decides (codes "gen") w).0 q in
-    subst (λ (v : Text). IsTaken (v ∷ rest)) is (gen_only rest h.1 (subst (λ (v : Text). fault_of nomad (v ∷ rest) ≡ []) (sym is) e))
-first_only w rest false false p q h e = absurd (stray_first w rest (is_field w h.0) (none_met w p q) e)
+first_only w rest false true i q r t h e = pair_named OfGen w rest r h e
+first_only w rest false false true q r t h e = pair_named OfImport w rest t h e
+first_only w rest false false false q r t h e = absurd (stray_first w rest (is_field w h.0) (none_met w q r t) e)
 
 -- words that are taken are a command with its fields
 pub only_taken : (words : List Text) → (words ≡ [] → ⊥) → AreFields words → fault_of nomad words ≡ [] → IsTaken words
 only_taken [] some h e = absurd (some refl)
-only_taken (w ∷ rest) some h e = first_only w rest _ _ refl refl h e
+only_taken (w ∷ rest) some h e = first_only w rest _ _ _ refl refl refl h e
 
 -- ---- for the calls of clap
 
@@ -334,7 +375,7 @@ no_kind : {kinds : Kinds} (k : ErrorKind) → (k ≡ OutOfMemory → ⊥) → (k
 no_kind k not (inl h) e = not h
 no_kind k not (inr h) e = subst (IsAmong k) e h
 
--- the two subcommands have two names
+-- the subcommands have names with different first letters
 abbrev letter : Text → ℕ
 letter [] = 0
 letter (x ∷ xs) = x
@@ -343,10 +384,8 @@ abbrev first_letter : Option (Text × List Row) → ℕ
 first_letter None = 0
 first_letter (Some p) = letter p.0
 
-sim_gen : (met : Option (Text × List Row)) (x y : List Row) → met ≡ Some (codes "sim", x) → met ≡ Some (codes "gen", y) → ⊥
-sim_gen met x y e f =
-    let first : first_letter met ≡ 115 = ap first_letter e in
-    let second : first_letter met ≡ 103 = ap first_letter f in absurd (omega (arith, first, second))
+same_letter : (met : Option (Text × List Row)) (a b : Text) (x y : List Row) → met ≡ Some (a, x) → met ≡ Some (b, y) → letter a ≡ letter b
+same_letter met a b x y e f = sym (ap first_letter e) ∙ ap first_letter f
 
 abbrev rows_in : Option (Text × List Row) → List Row
 rows_in None = []
@@ -356,29 +395,51 @@ abbrev text_in : Option Text → Text
 text_in None = []
 text_in (Some x) = x
 
+-- the values that were read of matches are those of the words
+values_taken : (p : Pair) (words : List Text) (met : Option (Text × List Row)) → IsPairTaken p words → met ≡ subcommand_of nomad words
+    → (rows : List Row) (a b : Text) → met ≡ Some (name_of p, rows) → HasValues (first_id p) (second_id p) rows a b → words ≡ name_of p ∷ a ∷ b ∷ []
+values_taken p words met g e rows a b entered read =
+    let same : rows ≡ g.rows = ap rows_in (sym entered ∙ e ∙ g.entered) in
+    let first : a ≡ g.first = ap text_in (sym read.0 ∙ ap (first_of (first_id p)) same ∙ g.values.0) in
+    let second : b ≡ g.second = ap text_in (sym read.1 ∙ ap (first_of (second_id p)) same ∙ g.values.1) in
+    rw (first, second) g.are
+
 -- what was read of matches is what the words say
 pub splits_taken : (words : List Text) (met : Option (Text × List Row)) (r : Option Fields) → IsTaken words → met ≡ subcommand_of nomad words → SaysFields met r → Splits words r
 splits_taken words met (Some Sim) (inl s) e t = s.are
-splits_taken words met (Some Sim) (inr g) e t = absurd (sim_gen met t.0 g.rows t.1 (e ∙ g.entered))
-splits_taken words met (Some (Gen n z)) (inl s) e t = absurd (sim_gen met [] t.0 (e ∙ s.entered) t.1)
-splits_taken words met (Some (Gen n z)) (inr g) e t =
-    let same : t.0 ≡ g.rows = ap rows_in (sym t.1 ∙ e ∙ g.entered) in
-    let first : n.now ≡ g.first = ap text_in (sym t.2.0 ∙ ap (first_of (codes "N")) same ∙ g.number) in
-    let second : z.now ≡ g.second = ap text_in (sym t.2.1 ∙ ap (first_of (codes "SIZE")) same ∙ g.size) in
-    rw (first, second) g.are
+splits_taken words met (Some Sim) (inr (OfGen, g)) e t =
+    let bad : 115 ≡ 103 = same_letter met (codes "sim") (codes "gen") t.0 g.rows t.1 (e ∙ g.entered) in absurd (omega (arith, bad))
+splits_taken words met (Some Sim) (inr (OfImport, g)) e t =
+    let bad : 115 ≡ 105 = same_letter met (codes "sim") (codes "import") t.0 g.rows t.1 (e ∙ g.entered) in absurd (omega (arith, bad))
+splits_taken words met (Some (Gen n z)) (inl s) e t =
+    let bad : 103 ≡ 115 = same_letter met (codes "gen") (codes "sim") t.0 [] t.1 (e ∙ s.entered) in absurd (omega (arith, bad))
+splits_taken words met (Some (Gen n z)) (inr (OfGen, g)) e t = values_taken OfGen words met g e t.0 n.now z.now t.1 t.2
+splits_taken words met (Some (Gen n z)) (inr (OfImport, g)) e t =
+    let bad : 103 ≡ 105 = same_letter met (codes "gen") (codes "import") t.0 g.rows t.1 (e ∙ g.entered) in absurd (omega (arith, bad))
+splits_taken words met (Some (Import f z)) (inl s) e t =
+    let bad : 105 ≡ 115 = same_letter met (codes "import") (codes "sim") t.0 [] t.1 (e ∙ s.entered) in absurd (omega (arith, bad))
+splits_taken words met (Some (Import f z)) (inr (OfGen, g)) e t =
+    let bad : 105 ≡ 103 = same_letter met (codes "import") (codes "gen") t.0 g.rows t.1 (e ∙ g.entered) in absurd (omega (arith, bad))
+splits_taken words met (Some (Import f z)) (inr (OfImport, g)) e t = values_taken OfImport words met g e t.0 f.now z.now t.1 t.2
 splits_taken words met None (inl s) e t = absurd ((t []).0 (e ∙ s.entered))
-splits_taken words met None (inr g) e t = absurd ((t g.rows).1 (e ∙ g.entered) g.first g.second g.number g.size)
+splits_taken words met None (inr (OfGen, g)) e t = absurd ((t g.rows).1 (e ∙ g.entered) g.first g.second g.values)
+splits_taken words met None (inr (OfImport, g)) e t = absurd ((t g.rows).2 (e ∙ g.entered) g.first g.second g.values)
+
+pair_refused : (p : Pair) (words : List Text) (k : ErrorKind) → (k ≡ OutOfMemory → ⊥) → (k ≡ OutOfMemory) ⊎ IsAmong k (fault_of nomad words)
+    → AreFields words → (a b : Text) → words ≡ name_of p ∷ a ∷ b ∷ [] → ⊥
+pair_refused p words k not fails fields a b e =
+    no_kind k not (subst (λ ws. (k ≡ OutOfMemory) ⊎ IsAmong k (fault_of nomad ws)) e fails) (pair_taken p a b (subst AreFields e fields))
 
 -- words that were refused for no want of memory name no command
 pub splits_refused : (words : List Text) (k : ErrorKind) → (k ≡ OutOfMemory → ⊥) → (k ≡ OutOfMemory) ⊎ IsAmong k (fault_of nomad words) → Splits words None
 splits_refused words k not fails = λ fields. (
   λ e. no_kind k not (subst (λ ws. (k ≡ OutOfMemory) ⊎ IsAmong k (fault_of nomad ws)) e fails) sim_taken,
-  λ a b e.
-      no_kind k not (subst (λ ws. (k ≡ OutOfMemory) ⊎ IsAmong k (fault_of nomad ws)) e fails) (gen_taken a b (subst AreFields e fields)),
+  λ a b e. pair_refused OfGen words k not fails fields a b e,
+  λ a b e. pair_refused OfImport words k not fails fields a b e,
 )
 
 pub splits_empty : (ws : List (String Global)) → length ws ≡ 0 → Splits (map string_bytes ws) None
-splits_empty [] e = λ fields. ((λ h. cc h), (λ a b h. cc h))
+splits_empty [] e = λ fields. ((λ h. cc h), (λ a b h. cc h), (λ a b h. cc h))
 splits_empty (w ∷ ws) e = absurd (omega (arith, e))
 
 -- the words are some
@@ -386,7 +447,7 @@ pub words_some : (ws : List (String Global)) → (length ws ≡ 0 → ⊥) → m
 words_some [] h e = h refl
 words_some (w ∷ ws) h e = absurd (cc e)
 
--- what is read of the matches of gen
+-- what is read of the matches of a subcommand
 pub none_read : (m : ArgMatches) (id : Text) (o : Option (Bor Text)) → option_map (λ s. s.now) o ≡ first_value (found_of m) id → o ≡ None → (a : Text) → first_of id (rows_of (found_of m)) ≡ Some a → ⊥
 none_read m id o e none a h =
     let bad : None ≡ Some a = ap (option_map (λ s. s.now)) (sym none) ∙ e ∙ first_value-rows (found_of m) id ∙ h in absurd (none-some _ bad)

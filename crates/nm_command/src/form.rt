@@ -1,7 +1,7 @@
 //! What the words ask for.
 
-ghost use Rattle.std.specs.Prelude.{◌≡◌, ◌≢◌, ◌↔◌, ℕ, Some, IfOk};
-ghost use Rattle.nm_command.specs.Words.{IsSim, IsGen, AreNumbers};
+ghost use Rattle.std.specs.Prelude.{◌≡◌, ◌≢◌, ◌↔◌, ◌+◌, ◌≤◌, ℕ, Some, IfOk, IsTrue};
+ghost use Rattle.nm_command.specs.Words.{IsSim, IsGen, IsImportWords, AreNumbers, AreTierSizes};
 
 use crate::line::{Fields, fields_of};
 use nm_text::read_number;
@@ -9,6 +9,8 @@ use std::alloc::{AllocError, Global};
 
 /// The most lines of programs of a generated script.
 const MOST_LINES: u64 = 100_000;
+/// The most frames of two tiers together.
+const MOST_FRAMES: u64 = 4096;
 
 /// What the words ask for.
 #[derive(Clone, Copy, Debug, PartialEq, Eq)]
@@ -22,17 +24,26 @@ pub enum Form {
         /// The lines of programs, 1 to 100,000.
         size: u32,
     },
+    /// `import F S`
+    Import {
+        /// The frames of the fast tier, 1 to 4,095. With those of the slow one at most 4,096.
+        fast: u32,
+        /// The frames of the slow tier, 1 to 4,095.
+        slow: u32,
+    },
 }
 
 /// The form of the words. None exactly where they have none. `AllocError` comes where there is no memory to read them.
 pub fn form_of(alloc: Global, words: &[String]) -> Result<Option<Form>, AllocError>
     ensures sim { IfOk result (λ o. (o ≡ Some Form.Sim) ↔ IsSim words.now) }
     ensures generated { IfOk result (λ o. (n size : ℕ) → (o ≡ Some (Form.Gen n size)) ↔ IsGen words.now n size) }
+    ensures imported { IfOk result (λ o. (f s : ℕ) → (o ≡ Some (Form.Import f s)) ↔ IsImportWords words.now f s) }
 {
     match fields_of(alloc, words)? {
         None => Ok(None),
         Some(Fields::Sim) => Ok(Some(Form::Sim)),
         Some(Fields::Gen { number, size }) => Ok(gen_form(number, size)),
+        Some(Fields::Import { fast, slow }) => Ok(import_form(fast, slow)),
     }
 }
 
@@ -40,6 +51,7 @@ pub fn form_of(alloc: Global, words: &[String]) -> Result<Option<Form>, AllocErr
 fn gen_form(number: &str, size: &str) -> Option<Form>
     ensures sim { result ≢ Some Form.Sim }
     ensures generated { (n s : ℕ) → (result ≡ Some (Form.Gen n s)) ↔ AreNumbers number.now size.now n s }
+    ensures imported { (f s : ℕ) → result ≢ Some (Form.Import f s) }
 {
     let number = read_number(number.as_bytes())?;
     let size = read_number(size.as_bytes())?;
@@ -53,4 +65,34 @@ fn gen_form(number: &str, size: &str) -> Option<Form>
         number,
         size: size as u32,
     })
+}
+
+/// The form of the fields of `import`.
+fn import_form(fast: &str, slow: &str) -> Option<Form>
+    ensures sim { result ≢ Some Form.Sim }
+    ensures generated { (n s : ℕ) → result ≢ Some (Form.Gen n s) }
+    ensures imported { (f s : ℕ) → (result ≡ Some (Form.Import f s)) ↔ AreTierSizes fast.now slow.now f s }
+{
+    let fast = read_number(fast.as_bytes())?;
+    let slow = read_number(slow.as_bytes())?;
+    if !are_tier_sizes(fast, slow) {
+        return None;
+    }
+    Some(Form::Import {
+        fast: fast as u32,
+        slow: slow as u32,
+    })
+}
+
+/// Whether two tiers can have this many frames.
+fn are_tier_sizes(fast: u64, slow: u64) -> bool
+    ensures { IsTrue result ↔ ((1 ≤ fast) × (1 ≤ slow) × (fast + slow ≤ 4096)) }
+{
+    if fast > MOST_FRAMES {
+        return false;
+    }
+    if slow > MOST_FRAMES {
+        return false;
+    }
+    1 <= fast && 1 <= slow && fast + slow <= MOST_FRAMES
 }

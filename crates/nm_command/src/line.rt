@@ -1,8 +1,8 @@
 //! The words as a command line: a command with its fields.
 
-ghost use Rattle.std.specs.Prelude.{◌≡◌, ◌↔◌, IsTrue, IfOk, All, false, map, string_bytes};
+ghost use Rattle.std.specs.Prelude.{◌≡◌, ◌↔◌, IsTrue, IfOk, IfSome, IfNone, All, false, map, string_bytes};
 ghost use Rattle.clap.specs.Words.{app_of, found_of, rows_of, subcommand_rows_of};
-ghost use Rattle.nm_command.specs.Line.{nomad, is_refused, Splits, SaysFields, SaysGenFields};
+ghost use Rattle.nm_command.specs.Line.{nomad, is_refused, IsTwoFieldCommand, Splits, SaysFields, HasValues, LacksValues};
 
 use clap::error::ErrorKind;
 use clap::{Arg, ArgMatches, Command};
@@ -19,6 +19,13 @@ pub enum Fields<'a> {
         number: &'a str,
         /// The field SIZE.
         size: &'a str,
+    },
+    /// `import F S`
+    Import {
+        /// The field F.
+        fast: &'a str,
+        /// The field S.
+        slow: &'a str,
     },
 }
 
@@ -47,22 +54,30 @@ fn fields_in<'a>(matches: &ArgMatches<'a>) -> Option<Fields<'a>>
 {
     match matches.subcommand()? {
         ("sim", _) => Some(Fields::Sim),
-        ("gen", inner) => gen_fields(inner),
+        ("gen", inner) => {
+            let (number, size) = two_values(inner, "N", "SIZE")?;
+            Some(Fields::Gen { number, size })
+        }
+        ("import", inner) => {
+            let (fast, slow) = two_values(inner, "F", "S")?;
+            Some(Fields::Import { fast, slow })
+        }
         _ => None,
     }
 }
 
-/// The fields of `gen`.
-fn gen_fields<'a>(matches: &ArgMatches<'a>) -> Option<Fields<'a>>
-    ensures { SaysGenFields (rows_of (found_of matches.now)) result }
+/// The values of two fields.
+fn two_values<'a>(matches: &ArgMatches<'a>, first: &str, second: &str) -> Option<(&'a str, &'a str)>
+    ensures some { IfSome result (λ f. HasValues first.now second.now (rows_of (found_of matches.now)) f.0.now f.1.now) }
+    ensures none { IfNone result (LacksValues first.now second.now (rows_of (found_of matches.now))) }
 {
-    let Some(number) = matches.get_str("N") else {
+    let Some(a) = matches.get_str(first) else {
         return None;
     };
-    let Some(size) = matches.get_str("SIZE") else {
+    let Some(b) = matches.get_str(second) else {
         return None;
     };
-    Some(Fields::Gen { number, size })
+    Some((a, b))
 }
 
 /// Whether no word begins with `-` or is `help`.
@@ -83,14 +98,28 @@ fn is_refused(word: &str) -> bool
 fn make_command<'a>(alloc: Global) -> Result<Command<'a>, AllocError>
     ensures { IfOk result (λ c. app_of c ≡ nomad) }
 {
-    let number = Arg::new(alloc, "N").required(true);
-    let size = Arg::new(alloc, "SIZE").required(true);
-    let generate = Command::new(alloc, "gen").arg(number)?.arg(size)?;
     let sim = Command::new(alloc, "sim");
+    let generate = two_field_command(alloc, "gen", "N", "SIZE")?;
+    let importing = two_field_command(alloc, "import", "F", "S")?;
     Command::new(alloc, "nomad")
         .no_binary_name(true)
         .disable_help_flag(true)
         .disable_help_subcommand(true)
         .subcommand(sim)?
-        .subcommand(generate)
+        .subcommand(generate)?
+        .subcommand(importing)
+}
+
+/// A subcommand with two fields.
+fn two_field_command<'a>(
+    alloc: Global,
+    name: &'a str,
+    first: &'a str,
+    second: &'a str,
+) -> Result<Command<'a>, AllocError>
+    ensures { IfOk result (IsTwoFieldCommand name.entry.now first.entry.now second.entry.now) }
+{
+    let first = Arg::new(alloc, first).required(true);
+    let second = Arg::new(alloc, second).required(true);
+    Command::new(alloc, name).arg(first)?.arg(second)
 }

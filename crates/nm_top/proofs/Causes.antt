@@ -15,11 +15,11 @@ use Rattle.nm_script.specs.Grammar.{IsScriptText}
 use Rattle.nm_script.specs.Faults as script_faults
 use Rattle.nm_script.specs.Faults.{IsFirstFault}
 use Rattle.nm_gen.specs.Generated.{generated}
-use Rattle.nm_top.specs.Answer.{GenCause, IsAccepted, IsGenCall, IsOrMemory, IsReading, IsScriptCall, IsSimCall, IsWritten, ReadAnswers, ReadCause, SimAnswers, SimCause}
+use Rattle.nm_top.specs.Answer.{IsAccepted, IsGenCall, IsOrMemory, IsReading, IsScriptCall, IsSimCall, IsWritten, ReadAnswers, ReadCause, SimAnswers, SimCause, TextCause}
 use Rattle.nm_top.specs.Output.{IsOutputOf, IsServed}
 use Rattle.nm_top.specs.Status.{status_of_text}
 use Rattle.nm_top.specs.declared.status.Status.{Status}
-use Rattle.nm_top.specs.declared.status.Status.TheVariants.{Done, Usage, Script, NotBuilt, ReadFault, WriteFault, Memory}
+use Rattle.nm_top.specs.declared.status.Status.TheVariants.{Done, Usage, Script, NotBuilt, ReadFault, WriteFault, Memory, Trace}
 
 -- ---- what parsing says
 
@@ -56,7 +56,7 @@ refused_none (refusals.At g k) s h = absurd (ok-err (Ok s) s (g, k) refl h)
 -- ---- reading a script
 
 -- all that was left was lost
-lost_all : (old new : Option (List ℕ)) (bytes : List ℕ) → length bytes ≤ MOST_BYTES → GivesAll old new bytes → LosesSome old new
+pub lost_all : (old new : Option (List ℕ)) (bytes : List ℕ) → length bytes ≤ MOST_BYTES → GivesAll old new bytes → LosesSome old new
 lost_all None new bytes few all = (bytes, tt, few)
 lost_all (Some left) new bytes few all = (bytes, subst (λ n. Consumes (Some left) n bytes) (sym all.1) (sym all.0 ∙ sym (append-nil bytes)), few)
 
@@ -67,10 +67,10 @@ pub record HasRead {S : Type 0} (m : SourceTells S) (old new : S) (bytes : List 
   pub all : GivesAll (m.left old) (m.left new) bytes
   pub kept : m.faults new ≡ m.faults old
 
-whole : {S : Type 0} (m : SourceTells S) (old new : S) (bytes : List ℕ) (P : List ℕ → Type 0) → HasRead m old new bytes → P bytes → ReadsWhole m old new P
+pub whole : {S : Type 0} (m : SourceTells S) (old new : S) (bytes : List ℕ) (P : List ℕ → Type 0) → HasRead m old new bytes → P bytes → ReadsWhole m old new P
 whole m old new bytes P h p = record { bytes = bytes; few = h.few; reads = h.reads; all = h.all; kept = h.kept; holds = p }
 
-left_all : (old new : Option (List ℕ)) (bytes : List ℕ) (P : List ℕ → Type 0) → GivesAll old new bytes → P bytes → IfSome old P
+pub left_all : (old new : Option (List ℕ)) (bytes : List ℕ) (P : List ℕ → Type 0) → GivesAll old new bytes → P bytes → IfSome old P
 left_all None new bytes P all h = tt
 left_all (Some left) new bytes P all h = subst P all.0 h
 
@@ -108,32 +108,36 @@ IsReading-refused m old new bytes e h fault only first = record {
 
 -- ---- writing a text
 
-written_complete : {K : Type 0} (k : SinkTells K) (sink sink' : K) (text : List ℕ) (status : Status) → IsWritten k sink sink' text status
-    → (Rose (k.faults sink) (k.faults sink') → ⊥) → IsOrMemory status Done
-written_complete k sink sink' text Done h none = inl refl
-written_complete k sink sink' text Usage h none = absurd h
-written_complete k sink sink' text (Script f n) h none = absurd h
-written_complete k sink sink' text NotBuilt h none = absurd h
-written_complete k sink sink' text ReadFault h none = absurd h
-written_complete k sink sink' text WriteFault h none = absurd (none h.rose)
-written_complete k sink sink' text Memory h none = absurd h
+-- a text was written, or a write failed
+pub TextCause-written : {K : Type 0} (k : SinkTells K) (sink sink' : K) (text : List ℕ) (status : Status) → IsWritten k sink sink' text status
+    → TextCause k sink sink' text status
+TextCause-written k sink sink' text Done h = h
+TextCause-written k sink sink' text Usage h = h
+TextCause-written k sink sink' text (Script f l) h = h
+TextCause-written k sink sink' text NotBuilt h = h
+TextCause-written k sink sink' text ReadFault h = h
+TextCause-written k sink sink' text WriteFault h = h
+TextCause-written k sink sink' text Memory h = absurd h
+TextCause-written k sink sink' text (Trace f n) h = h
 
-gen_cause : {K : Type 0} (k : SinkTells K) (n size : ℕ) (sink sink' : K) (status : Status) → IsWritten k sink sink' (script_text (generated n size)) status
-    → GenCause k n size sink sink' status
-gen_cause k n size sink sink' Done h = h
-gen_cause k n size sink sink' Usage h = h
-gen_cause k n size sink sink' (Script f l) h = h
-gen_cause k n size sink sink' NotBuilt h = h
-gen_cause k n size sink sink' ReadFault h = h
-gen_cause k n size sink sink' WriteFault h = h
-gen_cause k n size sink sink' Memory h = absurd h
+-- where no write fails it is done, unless memory is wanting
+pub text_complete : {K : Type 0} (k : SinkTells K) (sink sink' : K) (text : List ℕ) (status : Status) → TextCause k sink sink' text status
+    → (Rose (k.faults sink) (k.faults sink') → ⊥) → IsOrMemory status Done
+text_complete k sink sink' text Done h none = inl refl
+text_complete k sink sink' text Usage h none = absurd h
+text_complete k sink sink' text (Script f n) h none = absurd h
+text_complete k sink sink' text NotBuilt h none = absurd h
+text_complete k sink sink' text ReadFault h none = absurd h
+text_complete k sink sink' text WriteFault h none = absurd (none h.rose)
+text_complete k sink sink' text Memory h none = inr refl
+text_complete k sink sink' text (Trace f n) h none = absurd h
 
 -- the text of a generated script was written, or a write failed
-pub IsGenCall-written : {K : Type 0} (k : SinkTells K) (n size : ℕ) (sink sink' : K) (text : List ℕ) (status : Status) → text ≡ script_text (generated n size)
-    → IsWritten k sink sink' text status → IsGenCall k n size sink sink' status
-IsGenCall-written k n size sink sink' text status is h =
-    let written = subst (λ t. IsWritten k sink sink' t status) is h in
-    record { cause = gen_cause k n size sink sink' status written; complete = written_complete k sink sink' _ status written }
+pub IsGenCall-text : {K : Type 0} (k : SinkTells K) (n size : ℕ) (sink sink' : K) (s : plain.Script) (status : Status) → s ≡ generated n size
+    → TextCause k sink sink' (script_text s) status → IsGenCall k n size sink sink' status
+IsGenCall-text k n size sink sink' s status is h =
+    let cause = subst (λ t. TextCause k sink sink' (script_text t) status) is h in
+    record { cause = cause; complete = text_complete k sink sink' (script_text (generated n size)) status cause }
 
 -- the same for the number and the size that the words say
 pub IsGenCall-same : {K : Type 0} (k : SinkTells K) (number n size s : ℕ) (sink sink' : K) (status : Status) → number ≡ n → size ≡ s
@@ -151,10 +155,11 @@ IsScriptCall-written k s sink sink' text NotBuilt served output h = absurd h
 IsScriptCall-written k s sink sink' text ReadFault served output h = absurd h
 IsScriptCall-written k s sink sink' text WriteFault served output h = (served, (text, output, h))
 IsScriptCall-written k s sink sink' text Memory served output h = absurd h
+IsScriptCall-written k s sink sink' text (Trace f n) served output h = absurd h
 
 -- ---- sim
 
-along : {S : Type 0} (m : SourceTells S) (old new : S) (P Q : List ℕ → Type 0) → ((bytes : List ℕ) → P bytes → Q bytes) → ReadsWhole m old new P → ReadsWhole m old new Q
+pub along : {S : Type 0} (m : SourceTells S) (old new : S) (P Q : List ℕ → Type 0) → ((bytes : List ℕ) → P bytes → Q bytes) → ReadsWhole m old new P → ReadsWhole m old new Q
 along m old new P Q step h = record { bytes = h.bytes; few = h.few; reads = h.reads; all = h.all; kept = h.kept; holds = step h.bytes h.holds }
 
 -- the script that was read decides the cause
@@ -168,6 +173,7 @@ script_cause m k old new sink sink' s NotBuilt h call = (along m old new _ _ (λ
 script_cause m k old new sink sink' s ReadFault h call = absurd call.1.2
 script_cause m k old new sink sink' s WriteFault h call =
     along m old new _ _ (λ bytes says. (call.1.0, record { script = s; says = says; served = call.0; output = call.1.1 }, call.1.2)) h
+script_cause m k old new sink sink' s (Trace f n) h call = call.1.2
 script_cause m k old new sink sink' s Memory h call = record { unwritten = call.1; read = record { lost = lost_all _ _ h.bytes h.few h.all; kept = h.kept } }
 
 unserved_answer : {K : Type 0} (k : SinkTells K) (s : plain.Script) (sink sink' : K) (status : Status) → IsScriptCall k s sink sink' status → (IsServed s → ⊥) → status ≡ NotBuilt
@@ -178,6 +184,7 @@ unserved_answer k s sink sink' NotBuilt h none = refl
 unserved_answer k s sink sink' ReadFault h none = absurd (none h.0)
 unserved_answer k s sink sink' WriteFault h none = absurd (none h.0)
 unserved_answer k s sink sink' Memory h none = absurd (none h.0)
+unserved_answer k s sink sink' (Trace f n) h none = absurd (none h.0)
 
 served_answer : {K : Type 0} (k : SinkTells K) (s : plain.Script) (sink sink' : K) (status : Status) → IsScriptCall k s sink sink' status → IsServed s
     → (status ≡ Done) ⊎ (status ≡ WriteFault) ⊎ (status ≡ Memory)
@@ -188,6 +195,7 @@ served_answer k s sink sink' NotBuilt h served = absurd (h.0 served)
 served_answer k s sink sink' ReadFault h served = absurd h.1.2
 served_answer k s sink sink' WriteFault h served = inr (inl refl)
 served_answer k s sink sink' Memory h served = inr (inr refl)
+served_answer k s sink sink' (Trace f n) h served = absurd h.1.2
 
 script_answers : {K : Type 0} (k : SinkTells K) (s : plain.Script) (sink sink' : K) (status : Status) → IsScriptCall k s sink sink' status
     → (bytes : List ℕ) → ReadAnswers bytes (Ok s) → SimAnswers bytes status
@@ -206,7 +214,7 @@ refused_answers status bytes h = record {
   accepted = λ few u. inr (inr (h.only few u.0 u.1));
 }
 
-answers_along : (left : Option (List ℕ)) (P Q : List ℕ → Type 0) → ((bytes : List ℕ) → P bytes → Q bytes) → IfSome left P → IfSome left Q
+pub answers_along : (left : Option (List ℕ)) (P Q : List ℕ → Type 0) → ((bytes : List ℕ) → P bytes → Q bytes) → IfSome left P → IfSome left Q
 answers_along None P Q step h = tt
 answers_along (Some left) P Q step h = step left h
 
@@ -251,6 +259,7 @@ unread_sim m k old new sink NotBuilt h = absurd h
 unread_sim m k old new sink ReadFault h = (h, refl)
 unread_sim m k old new sink WriteFault h = absurd h
 unread_sim m k old new sink Memory h = record { unwritten = refl; read = h }
+unread_sim m k old new sink (Trace f n) h = h
 
 -- no script was read
 pub IsSimCall-refused : {S K : Type 0} (m : SourceTells S) (k : SinkTells K) (old new : S) (sink : K) (status : Status)

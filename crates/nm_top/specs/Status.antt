@@ -7,8 +7,12 @@ use Rattle.nm_script.specs.declared.fault.ScriptRefusal.{ScriptRefusal}
 use Rattle.nm_script.specs.declared.fault.ScriptRefusal.TheVariants as refusals
 use Rattle.nm_io.specs.declared.faults.ReadRefusal.{ReadRefusal}
 use Rattle.nm_io.specs.declared.faults.ReadRefusal.TheVariants as reads
+use Rattle.nm_trace.specs.declared.fault.TraceFault.{TraceFault}
+use Rattle.nm_trace.specs.declared.fault.TraceFault.TheVariants as traces
+use Rattle.nm_trace.specs.declared.fault.TraceRefusal.{TraceRefusal}
+use Rattle.nm_trace.specs.declared.fault.TraceRefusal.TheVariants as trace_refusals
 use Rattle.nm_top.specs.declared.status.Status.{Status}
-use Rattle.nm_top.specs.declared.status.Status.TheVariants.{Done, Usage, Script, NotBuilt, ReadFault, WriteFault, Memory}
+use Rattle.nm_top.specs.declared.status.Status.TheVariants.{Done, Usage, Script, NotBuilt, ReadFault, WriteFault, Memory, Trace}
 
 -- the number with which the program ends
 abbrev pub exit_number : Status → ℕ
@@ -19,6 +23,7 @@ exit_number NotBuilt = 3
 exit_number ReadFault = 4
 exit_number WriteFault = 5
 exit_number Memory = 6
+exit_number (Trace fault row) = 7
 
 -- the name of a fault
 abbrev pub fault_name : ScriptFault → List ℕ
@@ -36,6 +41,16 @@ fault_name TooManyPages = codes "TooManyPages"
 fault_name TooManyTiers = codes "TooManyTiers"
 fault_name TooFewTiers = codes "TooFewTiers"
 
+-- the name of a trace's fault
+abbrev pub trace_fault_name : TraceFault → List ℕ
+trace_fault_name traces.BadHeader = codes "BadHeader"
+trace_fault_name traces.BadRecord = codes "BadRecord"
+trace_fault_name traces.BadNumber = codes "BadNumber"
+trace_fault_name traces.OutOfRange = codes "OutOfRange"
+trace_fault_name traces.TooManyPages = codes "TooManyPages"
+trace_fault_name traces.Empty = codes "Empty"
+trace_fault_name traces.ScriptTooLong = codes "ScriptTooLong"
+
 -- the line on standard error, without its newline; none for Done
 abbrev pub status_line : Status → List ℕ
 status_line Done = []
@@ -45,6 +60,7 @@ status_line NotBuilt = codes "nomad: not built"
 status_line ReadFault = codes "nomad: read fault"
 status_line WriteFault = codes "nomad: write fault"
 status_line Memory = codes "nomad: memory"
+status_line (Trace fault row) = codes "nomad: trace row " ++ decimal row ++ codes ": " ++ trace_fault_name fault
 
 -- the status of a source that was not read to its end
 abbrev pub status_of_read : ReadRefusal → Status
@@ -56,3 +72,8 @@ status_of_read reads.Memory = Memory
 abbrev pub status_of_text : ScriptRefusal → Status
 status_of_text (refusals.At fault line) = Script fault line
 status_of_text refusals.Memory = Memory
+
+-- the status of a trace that was refused
+abbrev pub status_of_trace : TraceRefusal → Status
+status_of_trace (trace_refusals.At fault row) = Trace fault row
+status_of_trace trace_refusals.Memory = Memory

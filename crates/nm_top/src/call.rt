@@ -1,11 +1,12 @@
 //! The calls of the program, over a source and a sink.
 
 ghost use Rattle.std.specs.Prelude.{◌≡◌, ◌≢◌, ℕ, ◌⊎◌, List};
-ghost use Rattle.nm_command.specs.Words.{IsSim, IsGen, IsForm};
-ghost use Rattle.nm_top.specs.Answer.{IsUsageCall, IsSimCall, IsGenCall, IsWanting};
+ghost use Rattle.nm_command.specs.Words.{IsSim, IsGen, IsImportWords, IsForm};
+ghost use Rattle.nm_top.specs.Answer.{IsUsageCall, IsSimCall, IsGenCall, IsImportCall, IsWanting};
 ghost use Rattle.nm_top.specs.Output.{IsOutput};
 
 use crate::generated::gen_call;
+use crate::importing::import_call;
 use crate::sim::sim_call;
 use crate::status::Status;
 use nm_command::{Form, form_of};
@@ -35,7 +36,11 @@ pub fn nomad_main<T: Threads + Wait + Sync, G: Gate, S: Source, K: Sink>(
     ensures generated { (n size : ℕ) → IsGen words.now n size
         → IsGenCall (record { held = K.held; faults = K.faults; takes = K.write_takes })
         n size sink.old sink.new result }
-    ensures unread { (IsSim words.now → ⊥) → source.new ≡ source.old }
+    ensures imported { (fast slow : ℕ) → IsImportWords words.now fast slow
+        → IsImportCall (record { left = S.left; faults = S.faults; gives = S.read_gives })
+        (record { held = K.held; faults = K.faults; takes = K.write_takes })
+        fast slow source.old source.new sink.old sink.new result }
+    ensures unread { (IsSim words.now → ⊥) → ((fast slow : ℕ) → IsImportWords words.now fast slow → ⊥) → source.new ≡ source.old }
 
     // Where it is not known whether the words have a form, memory is wanting.
     ensures known { result ≢ Status.Memory → IsForm words.now ⊎ (IsForm words.now → ⊥) }
@@ -47,10 +52,11 @@ pub fn nomad_main<T: Threads + Wait + Sync, G: Gate, S: Source, K: Sink>(
 }
 
 /// The commands that need no threads. `sim` reads a script from the source, runs it and writes its output to the sink;
-/// `gen N SIZE` reads nothing and writes the script of the number N, with SIZE lines of programs.
+/// `gen N SIZE` reads nothing and writes the script of the number N, with SIZE lines of programs. `import F S` reads a trace
+/// from the source and writes the text of its script, with tiers of F and S frames.
 ///
 /// The order of the answers is: Usage, or Memory where there is none to read the words; then reading, with ReadFault,
-/// Script with TooLong, and Memory as they come; then Script with the first fault; then NotBuilt; then Memory; and
+/// Script with TooLong, and Memory as they come; then Script or Trace with the first fault; then NotBuilt; then Memory; and
 /// WriteFault last. Nothing is written before the whole text stands.
 pub fn plain_call<S: Source, K: Sink>(
     alloc: Global,
@@ -68,7 +74,11 @@ pub fn plain_call<S: Source, K: Sink>(
     ensures generated { (n size : ℕ) → IsGen words.now n size
         → IsGenCall (record { held = K.held; faults = K.faults; takes = K.write_takes })
         n size sink.old sink.new result }
-    ensures unread { (IsSim words.now → ⊥) → source.new ≡ source.old }
+    ensures imported { (fast slow : ℕ) → IsImportWords words.now fast slow
+        → IsImportCall (record { left = S.left; faults = S.faults; gives = S.read_gives })
+        (record { held = K.held; faults = K.faults; takes = K.write_takes })
+        fast slow source.old source.new sink.old sink.new result }
+    ensures unread { (IsSim words.now → ⊥) → ((fast slow : ℕ) → IsImportWords words.now fast slow → ⊥) → source.new ≡ source.old }
 
     // Where it is not known whether the words have a form, memory is wanting.
     ensures known { result ≢ Status.Memory → IsForm words.now ⊎ (IsForm words.now → ⊥) }
@@ -84,6 +94,7 @@ pub fn plain_call<S: Source, K: Sink>(
         None => Status::Usage,
         Some(Form::Sim) => sim_call(alloc, source, sink),
         Some(Form::Gen { number, size }) => gen_call(alloc, number, size, sink),
+        Some(Form::Import { fast, slow }) => import_call(alloc, fast, slow, source, sink),
     }
 }
 

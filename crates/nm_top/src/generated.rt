@@ -1,15 +1,15 @@
 //! The command `gen`.
 
 ghost use Rattle.std.specs.Prelude.{◌≡◌, ◌≤◌, IfOk};
-ghost use Rattle.nm_script.specs.Script.{script_text};
+ghost use Rattle.nm_script.specs.Script.{IsScript};
 ghost use Rattle.nm_gen.specs.Generated.{generated};
 ghost use Rattle.nm_top.specs.Answer.{IsGenCall};
 
 use crate::status::Status;
-use crate::writing::write_text;
+use crate::writing::print_call;
 use nm_gen::{generate, is_script};
 use nm_io::Sink;
-use nm_script::print;
+use nm_script::Script;
 use std::alloc::{AllocError, Global};
 
 /// The command `gen`: the text of the script of a number.
@@ -19,19 +19,19 @@ pub fn gen_call<K: Sink>(alloc: Global, number: u64, size: u32, sink: &mut K) ->
     ensures { IsGenCall (record { held = K.held; faults = K.faults; takes = K.write_takes })
         number size sink.old sink.new result }
 {
-    match generated_text(alloc, number, size) {
-        Ok(text) => write_text(sink, &text),
+    match generated_script(alloc, number, size) {
+        Ok(script) => print_call(alloc, &script, sink),
         Err(AllocError) => Status::Memory,
     }
 }
 
-/// The text of the script of a number.
-fn generated_text(alloc: Global, number: u64, size: u32) -> Result<Vec<u8>, AllocError>
+/// The script of a number.
+fn generated_script(alloc: Global, number: u64, size: u32) -> Result<Script, AllocError>
     requires low { 1 ≤ size }
     requires high { size ≤ 100000 }
-    ensures { IfOk result (λ text. text.items ≡ script_text (generated number size)) }
+    ensures script { IfOk result IsScript }
+    ensures is { IfOk result (λ s. s ≡ generated number size) }
 {
-    let script = generate(alloc, number, size)?;
     is_script();
-    print(alloc, &script)
+    generate(alloc, number, size)
 }

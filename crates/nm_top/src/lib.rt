@@ -3,6 +3,7 @@
 
 mod call;
 mod generated;
+mod importing;
 mod run;
 mod sim;
 pub mod status;

@@ -1,10 +1,11 @@
 //! How a call of the program ended.
 
 ghost use Rattle.std.specs.Prelude.{◌≡◌, Some};
-ghost use Rattle.nm_top.specs.Status.{exit_number, fault_name, status_line, status_of_read, status_of_text};
+ghost use Rattle.nm_top.specs.Status.{exit_number, fault_name, trace_fault_name, status_line, status_of_read, status_of_text, status_of_trace};
 
 use nm_io::ReadRefusal;
 use nm_script::{ScriptFault, ScriptRefusal};
+use nm_trace::{TraceFault, TraceRefusal};
 use std::fmt;
 
 /// How a call ended.
@@ -29,10 +30,17 @@ pub enum Status {
     WriteFault,
     /// There is no memory. Nothing was written.
     Memory,
+    /// The bytes that `import` read have this first fault as a trace. Nothing was written.
+    Trace {
+        /// The fault.
+        fault: TraceFault,
+        /// The number of the record where it is, the header being record 1; 0 where the script is too long.
+        row: u32,
+    },
 }
 
 impl Status {
-    /// The number with which the program ends: 0, or 2 to 6.
+    /// The number with which the program ends: 0, or 2 to 7.
     pub fn number(&self) -> u8
         ensures { result ≡ exit_number self.now }
     {
@@ -43,6 +51,7 @@ impl Status {
             Status::ReadFault => 4,
             Status::WriteFault => 5,
             Status::Memory => 6,
+            Status::Trace { .. } => 7,
         }
     }
 }
@@ -63,6 +72,10 @@ impl fmt::Display for Status {
             Status::ReadFault => write!(f, "nomad: read fault"),
             Status::WriteFault => write!(f, "nomad: write fault"),
             Status::Memory => write!(f, "nomad: memory"),
+            Status::Trace { fault, row } => {
+                let name = name_of_trace_fault(*fault);
+                write!(f, "nomad: trace row {row}: {name}")
+            }
         }
     }
 }
@@ -88,6 +101,21 @@ fn name_of(fault: ScriptFault) -> &'static str
     }
 }
 
+/// The name of a trace's fault.
+fn name_of_trace_fault(fault: TraceFault) -> &'static str
+    ensures { result.now ≡ trace_fault_name fault }
+{
+    match fault {
+        TraceFault::BadHeader => "BadHeader",
+        TraceFault::BadRecord => "BadRecord",
+        TraceFault::BadNumber => "BadNumber",
+        TraceFault::OutOfRange => "OutOfRange",
+        TraceFault::TooManyPages => "TooManyPages",
+        TraceFault::Empty => "Empty",
+        TraceFault::ScriptTooLong => "ScriptTooLong",
+    }
+}
+
 /// The status of a source that was not read to its end.
 pub(crate) fn status_of_read(refusal: ReadRefusal) -> Status
     ensures { result ≡ status_of_read refusal }
@@ -109,5 +137,15 @@ pub(crate) fn status_of_text(refusal: ScriptRefusal) -> Status
     match refusal {
         ScriptRefusal::At { fault, line } => Status::Script { fault, line },
         ScriptRefusal::Memory => Status::Memory,
+    }
+}
+
+/// The status of a trace that was refused.
+pub(crate) fn status_of_trace(refusal: TraceRefusal) -> Status
+    ensures { result ≡ status_of_trace refusal }
+{
+    match refusal {
+        TraceRefusal::At { fault, row } => Status::Trace { fault, row },
+        TraceRefusal::Memory => Status::Memory,
     }
 }

@@ -12,3 +12,4 @@ pub mod Outcome
 pub mod Numbers
 pub mod Again
 pub mod ReadAgain
+pub mod OneImport

@@ -1,4 +1,4 @@
--- What is true of every import, and of a trace that is read again.
+-- What is true of every text, of every import, and of a trace that is read again.
 use Rattle.std.specs.Prelude.{◌≡◌, ℕ, ◌<◌, ◌↔◌, ◌⊎◌, List, length, slice_index_or}
 use Rattle.std.specs.List.{AllByRecursion}
 use Rattle.nm_script.specs.Plain.{Script}
@@ -22,3 +22,10 @@ pub record IsReadAgain (s : Script) : Type 0 where
   pub each : AllByRecursion IsReference (references_from 0 s.programs)
   pub script : (fast slow : ℕ) (t : Script) → IsImport (trace_text s) fast slow t → t ≡ script_for fast slow (references_from 0 s.programs)
   pub faults : (fast slow : ℕ) (f : TraceFault) (n : ℕ) → IsFirstTraceFault (trace_text s) fast slow f n → (f ≡ faults.TooManyPages) ⊎ (f ≡ faults.Empty) ⊎ (f ≡ faults.ScriptTooLong)
+
+-- the bytes are the trace of one script, or have one first fault at one record, and never both
+pub record HasOneImport (bytes : List ℕ) (fast slow : ℕ) : Type 0 where
+  pub some : ((s : Script) × IsImport bytes fast slow s) ⊎ ((f : TraceFault) × (n : ℕ) × IsFirstTraceFault bytes fast slow f n)
+  pub apart : (s : Script) (f : TraceFault) (n : ℕ) → IsImport bytes fast slow s → IsFirstTraceFault bytes fast slow f n → ⊥
+  pub one_script : (s t : Script) → IsImport bytes fast slow s → IsImport bytes fast slow t → s ≡ t
+  pub one_fault : (f g : TraceFault) (n m : ℕ) → IsFirstTraceFault bytes fast slow f n → IsFirstTraceFault bytes fast slow g m → (f ≡ g) × (n ≡ m)

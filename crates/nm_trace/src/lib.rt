@@ -11,6 +11,6 @@ mod writing;
 
 pub use fault::{TraceFault, TraceRefusal};
 pub use importing::import;
-pub use laws::{page_numbers, read_again};
+pub use laws::{one_import, page_numbers, read_again};
 pub use reference::Reference;
 pub use writing::to_trace;

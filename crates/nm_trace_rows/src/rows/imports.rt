@@ -5,7 +5,7 @@ ghost use Rattle.nm_script.specs.Script.{IsScript};
 
 use nm_script::{Script, print};
 use nm_trace::{TraceFault, TraceRefusal, import};
-use std::alloc::Global;
+use std::alloc::{AllocError, Global};
 use std::test::Fail;
 
 /// The header of every trace.
@@ -99,7 +99,7 @@ const SCRIPTS: [(&[u8], &[u8]); 4] = [
 fn imported(alloc: Global, text: &[u8]) -> Result<Script, TraceRefusal>
     ensures { IfOk result IsScript }
 {
-    if text.len() > 1000 {
+    if text.len() > 20_000_000 {
         return Err(TraceRefusal::Memory);
     }
     import(alloc, text, FAST, SLOW)
@@ -150,6 +150,39 @@ fn scripts(rt: HostRuntime) -> Result<(), Fail> {
     for (text, script) in SCRIPTS {
         let printed = printed(rt.alloc(), text)?;
         assert_eq!(rt; printed.as_slice(), script);
+    }
+    Ok(())
+}
+
+/// Records after 1,864,126 loads of word 0, which give 72 bytes of head and 9 for each line, and the fault that comes.
+const LENGTHS: [(&[u8], Option<TraceRefusal>); 3] = [
+    (b"0,r,8,\n", None),
+    (b"0,r,80,\n", None),
+    (
+        b"0,r,800,\n",
+        Some(TraceRefusal::At {
+            fault: TraceFault::ScriptTooLong,
+            row: 0,
+        }),
+    ),
+];
+
+/// Loads of word 0, and these records.
+fn loads(alloc: Global, last: &[u8]) -> Result<Vec<u8>, AllocError> {
+    let mut text = Vec::new(alloc);
+    for _ in 0..1_864_126 {
+        text.extend_from_slice(b"0,r,0,\n")?;
+    }
+    text.extend_from_slice(last)?;
+    Ok(text)
+}
+
+#[test]
+fn lengths(rt: HostRuntime) -> Result<(), Fail> {
+    for (last, refusal) in LENGTHS {
+        let text = loads(rt.alloc(), last)?;
+        let answer = headed(rt.alloc(), &text).err();
+        assert_eq!(rt; answer, refusal);
     }
     Ok(())
 }
