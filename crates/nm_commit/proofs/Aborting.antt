@@ -29,8 +29,8 @@ use Rattle.nm_mappings.proofs.Lists.{vpage-there}
 use Rattle.nm_commit.specs.declared.decide.DecideMade.{DecideMade}
 use Rattle.nm_commit.specs.declared.decide.Decided.TheVariants.{Aborted}
 use Rattle.nm_commit.specs.declared.decide.DecideStage.TheVariants.{MappingBack, UnlockingOld, PuttingBack}
-use Rattle.nm_commit.specs.Deciding.{Aborts, UnlocksOld, GivesBack, IsSwapped, MayDecide, IsDecided}
-use Rattle.nm_commit.specs.Stages.{decide_piece, DecideKnown, changed, IsAt}
+use Rattle.nm_commit.specs.Deciding.{Aborts, UnlocksOld, GivesBack, IsSwapped, MayDecide, IsDecision}
+use Rattle.nm_commit.specs.Stages.{decide_piece, DecideKnown, page_changed, IsAt}
 use Rattle.nm_commit.proofs.Changed.{some-changed, some-more, erase-edit, spoil-twice, erase-spoiled}
 use Rattle.nm_commit.proofs.Runs.{can-unlocks-old, can-gives-back, decide-act, decide-task, RunsDecide, done-acted}
 
@@ -79,7 +79,7 @@ runs-mapping-back made g view may dirty =
 
 -- a Map, by the page of its virtual page
 pub mapped-view : (g : Geometry) (page v word : ℕ) (view : View) → backing_page g v ≡ Some page
-    → record view { ops = edit_under (backing_page g v) (mapped_at v word) view.ops; owned = spoiled_under (backing_page g v) view.owned } ≡ changed page (mapped_at v word) (spoiled page view.owned) view
+    → record view { ops = edit_under (backing_page g v) (mapped_at v word) view.ops; owned = spoiled_under (backing_page g v) view.owned } ≡ page_changed page (mapped_at v word) (spoiled page view.owned) view
 mapped-view g page v word view e = ap (λ (o : Option ℕ). record view { ops = edit_under o (mapped_at v word) view.ops; owned = spoiled_under o view.owned }) e
 
 may-unlock-old : (g : Geometry) (page v word home : ℕ) (o : Op) → IsSwapped g page v word home o → MayUnlock g (mapped_at v word o)
@@ -94,7 +94,7 @@ pub runs-unlocking-old : (made : DecideMade) (g : Geometry) (first now later : V
 runs-unlocking-old made g first now later reply h acted =
     let V : View → Type 0 = λ v. IsActed g v (Map made.vpage made.word) Done later in
     let a = subst V h.same (done-acted (Map made.vpage made.word) g now later reply acted.fits.kind acted) in
-    let is : later ≡ changed made.page (mapped_at made.vpage made.word) (spoiled made.page first.owned) first = a.is ∙ mapped-view g made.page made.vpage made.word first h.may.backing in
+    let is : later ≡ page_changed made.page (mapped_at made.vpage made.word) (spoiled made.page first.owned) first = a.is ∙ mapped-view g made.page made.vpage made.word first h.may.backing in
     decide-act (IsPlaced decide_piece DecideKnown g made UnlockingOld) (λ g. GivesBack g made) (Unlock made.page) g first later
     tt
     (record {
@@ -105,8 +105,8 @@ runs-unlocking-old made g first now later reply h acted =
     (record { geometry = refl; is = refl; holds = record { may = h.may; same = is } })
     (can-gives-back g made)
 
--- an operation that was changed is closed
-pub closed-view : (page : ℕ) (change : Op → Op) (owned : List Owned) (view now : View) → now ≡ changed page change (spoiled page owned) view → ((o : Op) → page_of (change o) ≡ page_of o)
+-- an operation that was page_changed is closed
+pub closed-view : (page : ℕ) (change : Op → Op) (owned : List Owned) (view now : View) → now ≡ page_changed page change (spoiled page owned) view → ((o : Op) → page_of (change o) ≡ page_of o)
     → record now { ops = erase page_of page now.ops; owned = spoiled page now.owned } ≡ record view { ops = erase page_of page view.ops; owned = spoiled page owned }
 closed-view page change owned view now is same =
     ap (λ (v : View). record v { ops = erase page_of page v.ops; owned = spoiled page v.owned }) is
@@ -126,7 +126,7 @@ spoiled-there : (page frame : ℕ) (owned : List Owned) → IsSome (find owned_f
 spoiled-there page frame owned h = let S : Option Owned → Type 0 = λ o. IsSome o in subst S (sym (find_map owned_frame (spoiled_frame page) frame owned (λ w. refl))) (some-map (spoiled_frame page) (find owned_frame frame owned) h)
 
 -- after the Unlock: the new frame is put back
-pub runs-putting-back : (made : DecideMade) (g : Geometry) (first now later : View) (reply : Reply) → IsAt made g first now (changed made.page (mapped_at made.vpage made.word) (spoiled made.page first.owned) first) → IsActed g now (Unlock made.page) reply later
+pub runs-putting-back : (made : DecideMade) (g : Geometry) (first now later : View) (reply : Reply) → IsAt made g first now (page_changed made.page (mapped_at made.vpage made.word) (spoiled made.page first.owned) first) → IsActed g now (Unlock made.page) reply later
     → RunsDecide made PuttingBack (GivesBack g made) g first later
 runs-putting-back made g first now later reply h acted =
     let a = done-acted (Unlock made.page) g now later reply acted.fits.kind acted in
@@ -144,7 +144,7 @@ runs-putting-back made g first now later reply h acted =
 
 -- after the frame was put back
 pub aborted-left : (made : DecideMade) (g : Geometry) (first now later : View) (own : Own) (end : PoolEnd) → IsAt made g first now (record first { ops = erase page_of made.page first.ops; owned = spoiled made.page first.owned }) → Leaves g (Back made.frame) now end later → IsPool g (Back made.frame) own end
-    → IsDecided made first later
+    → IsDecision made first later
 aborted-left made g first now later own (pools.Got f) h left shown = absurd shown.work
 aborted-left made g first now later own (pools.AtFloor n) h left shown = absurd shown.work
 aborted-left made g first now later own (pools.Level n) h left shown = absurd shown.work

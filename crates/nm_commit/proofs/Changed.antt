@@ -1,4 +1,4 @@
--- A view in which the operation on a page, and the owned frames, have changed.
+-- A view in which the operation on a page, and the owned frames, have page_changed.
 use Rattle.std.proofs.Common.{◌≡◌, ℕ, ◌+◌, ◌-◌, ◌==◌, if◌then◌else◌, Bool, true, false, List, [], ◌∷◌, Option, Some, None, option_map, IsSome, IsSomeAnd, refl, sym, ap, ◌∙◌, subst, arith}
 use Rattle.nm_base.specs.HomeWord.{home_word}
 use Rattle.nm_view.specs.declared.view.Fill.{Fill}
@@ -9,10 +9,10 @@ use Rattle.nm_view.specs.Views.{Op, View}
 use Rattle.nm_view.specs.Operations.{page_of, owned_frame, op_on}
 use Rattle.nm_view.proofs.Finds.{find_edit}
 use Rattle.nm_event.specs.After.{spoiled_fill, spoiled_frame, spoiled, owning, let_go}
-use Rattle.nm_commit.specs.Stages.{changed}
+use Rattle.nm_commit.specs.Stages.{page_changed}
 
 -- the operation on the page
-pub on-changed : (page : ℕ) (change : Op → Op) (owned : List Owned) (view now : View) → now ≡ changed page change owned view → ((o : Op) → page_of (change o) ≡ page_of o) → op_on now page ≡ option_map change (op_on view page)
+pub on-changed : (page : ℕ) (change : Op → Op) (owned : List Owned) (view now : View) → now ≡ page_changed page change owned view → ((o : Op) → page_of (change o) ≡ page_of o) → op_on now page ≡ option_map change (op_on view page)
 on-changed page change owned view now is same = ap (λ (v : View). op_on v page) is ∙ find_edit page_of page change view.ops same
 
 some-mapped : {A B : Type 0} (change : A → B) (P : A → Type 0) (Q : B → Type 0) (o : Option A) → IsSomeAnd o P → ((x : A) → P x → Q (change x)) → IsSomeAnd (option_map change o) Q
@@ -20,7 +20,7 @@ some-mapped change P Q None h step = h
 some-mapped change P Q (Some x) h step = step x h
 
 -- what holds of it
-pub some-changed : (page : ℕ) (change : Op → Op) (owned : List Owned) (view now : View) (P Q : Op → Type 0) → now ≡ changed page change owned view → ((o : Op) → page_of (change o) ≡ page_of o) → IsSomeAnd (op_on view page) P → ((o : Op) → P o → Q (change o)) → IsSomeAnd (op_on now page) Q
+pub some-changed : (page : ℕ) (change : Op → Op) (owned : List Owned) (view now : View) (P Q : Op → Type 0) → now ≡ page_changed page change owned view → ((o : Op) → page_of (change o) ≡ page_of o) → IsSomeAnd (op_on view page) P → ((o : Op) → P o → Q (change o)) → IsSomeAnd (op_on now page) Q
 some-changed page change owned view now P Q is same h step =
     let O : Option Op → Type 0 = λ o. IsSomeAnd o Q in
     subst O (sym (on-changed page change owned view now is same)) (some-mapped change P Q (op_on view page) h step)
@@ -33,7 +33,7 @@ pub some-there : {A : Type 0} (P : A → Type 0) (o : Option A) → IsSomeAnd o 
 some-there P None h = absurd h
 some-there P (Some x) h = refl
 
--- an operation that was changed is closed as it was
+-- an operation that was page_changed is closed as it was
 pub erase-edit : {A : Type 0} (key : A → ℕ) (k : ℕ) (f : A → A) (xs : List A) → ((x : A) → key (f x) ≡ key x) → erase key k (edit key k f xs) ≡ erase key k xs
 erase-edit key k f [] same = refl
 erase-edit key k f (x ∷ xs) same = grind (arith, same x, erase-edit key k f xs same)

@@ -31,8 +31,8 @@ use Rattle.nm_mappings.proofs.Lists.{vpage-there}
 use Rattle.nm_commit.specs.declared.decide.DecideMade.{DecideMade}
 use Rattle.nm_commit.specs.declared.decide.Decided.TheVariants.{Committed}
 use Rattle.nm_commit.specs.declared.decide.DecideStage.TheVariants.{SettingHome, Reading, Shading, Mapping, Marking, Unlocking}
-use Rattle.nm_commit.specs.Deciding.{moved_word, Commits, Reads, Shades, Maps, Marks, Unlocks, IsSwapped, MayDecide, IsDecided}
-use Rattle.nm_commit.specs.Stages.{decide_piece, DecideKnown, changed, homed, shadowed, remapped, frames_left, IsAt}
+use Rattle.nm_commit.specs.Deciding.{moved_word, Commits, ReadsShadowWord, Shades, Maps, Marks, UnlocksPage, IsSwapped, MayDecide, IsDecision}
+use Rattle.nm_commit.specs.Stages.{decide_piece, DecideKnown, page_changed, homed, shadowed, remapped, frames_left, IsAt}
 use Rattle.nm_commit.proofs.Moved.{moved-clean, or-cases}
 use Rattle.nm_commit.proofs.Changed.{on-changed, some-changed, some-more, some-there, let-go-home}
 use Rattle.nm_commit.proofs.Aborting.{found-one, taken-erased, mapped-view, closed-view}
@@ -61,7 +61,7 @@ may-set-home g page v word home fill o e clean h = some-and (λ known. HasNewHom
 -- the new home is set
 pub runs-setting-home : (made : DecideMade) (g : Geometry) (view : View) → MayDecide g made g view → is_dirty made.word ≡ false → RunsDecide made SettingHome (Commits g made) g view view
 runs-setting-home made g view may clean =
-    decide-act (IsPlaced decide_piece DecideKnown g made SettingHome) (λ g. Reads g made) (SetHome made.page made.frame) g view view
+    decide-act (IsPlaced decide_piece DecideKnown g made SettingHome) (λ g. ReadsShadowWord g made) (SetHome made.page made.frame) g view view
     tt
     (record {
       range = record { page = may.page; frame = may.frame };
@@ -74,14 +74,14 @@ let-go-known : (g : Geometry) (page v word home : ℕ) (owned : List Owned) (o :
 let-go-known g page v word home owned None h = absurd h
 let-go-known g page v word home owned (Some o) h = ap (λ (k : Option ℕ). let_go page k owned) h.home_is ∙ let-go-home page home owned
 
-homed-now : (made : DecideMade) (g : Geometry) (first now later : View) (reply : Reply) → IsAt made g first now first → IsActed g now (SetHome made.page made.frame) reply later → later ≡ changed made.page (homed made) (owning made.home (Equal made.page) (frames_left made first)) first
+homed-now : (made : DecideMade) (g : Geometry) (first now later : View) (reply : Reply) → IsAt made g first now first → IsActed g now (SetHome made.page made.frame) reply later → later ≡ page_changed made.page (homed made) (owning made.home (Equal made.page) (frames_left made first)) first
 homed-now made g first now later reply h acted =
     let V : View → Type 0 = λ v. IsActed g v (SetHome made.page made.frame) Done later in
     let a = subst V h.same (done-acted (SetHome made.page made.frame) g now later reply acted.fits.kind acted) in
     a.is ∙ ap (λ (l : List Owned). record first { ops = edit page_of made.page (homed_at made.frame) first.ops; owned = l }) (let-go-known g made.page made.vpage made.word made.home (frames_left made first) (op_on first made.page) h.may.op)
 
 -- after the SetHome: the shadow word of the new home is read
-pub runs-reading : (made : DecideMade) (g : Geometry) (first now later : View) (reply : Reply) → IsAt made g first now first → IsActed g now (SetHome made.page made.frame) reply later → RunsDecide made Reading (Reads g made) g first later
+pub runs-reading : (made : DecideMade) (g : Geometry) (first now later : View) (reply : Reply) → IsAt made g first now first → IsActed g now (SetHome made.page made.frame) reply later → RunsDecide made Reading (ReadsShadowWord g made) g first later
 runs-reading made g first now later reply h acted =
     let is = homed-now made g first now later reply h acted in
     decide-act (IsPlaced decide_piece DecideKnown g made Reading) (λ g. Shades g made) (Read made.page (cells.Shadow made.frame)) g first later
@@ -99,8 +99,8 @@ read-zero : (g : Geometry) (view : View) (frame word : ℕ) (o : Option Op) (mad
 read-zero g view frame word None made h some = cc
 read-zero g view frame word (Some o) made h some = h.known
 
-read-now : (made : DecideMade) (g : Geometry) (first now later : View) (reply : Reply) → IsAt made g first now (changed made.page (homed made) (owning made.home (Equal made.page) (frames_left made first)) first) → IsActed g now (Read made.page (cells.Shadow made.frame)) reply later
-    → later ≡ changed made.page (homed made) (owning made.home (Equal made.page) (frames_left made first)) first
+read-now : (made : DecideMade) (g : Geometry) (first now later : View) (reply : Reply) → IsAt made g first now (page_changed made.page (homed made) (owning made.home (Equal made.page) (frames_left made first)) first) → IsActed g now (Read made.page (cells.Shadow made.frame)) reply later
+    → later ≡ page_changed made.page (homed made) (owning made.home (Equal made.page) (frames_left made first)) first
 read-now made g first now later Done h acted = absurd acted.fits.kind
 read-now made g first now later (Word word) h acted =
     let owned = owning made.home (Equal made.page) (frames_left made first) in
@@ -114,7 +114,7 @@ read-now made g first now later (Word word) h acted =
 read-now made g first now later (Busy word) h acted = absurd acted.fits.kind
 read-now made g first now later (Lost word) h acted = absurd acted.fits.kind
 
-home-fill : (made : DecideMade) (g : Geometry) (first now : View) → IsAt made g first now (changed made.page (homed made) (owning made.home (Equal made.page) (frames_left made first)) first) → fill_of now made.home ≡ Some (Equal made.page)
+home-fill : (made : DecideMade) (g : Geometry) (first now : View) → IsAt made g first now (page_changed made.page (homed made) (owning made.home (Equal made.page) (frames_left made first)) first) → fill_of now made.home ≡ Some (Equal made.page)
 home-fill made g first now h =
     ap (λ (v : View). fill_of v made.home) h.same ∙ ap (option_map (λ (w : Owned). w.fill)) (find_put owned_frame (record { frame = made.home; fill = Equal made.page }) (frames_left made first))
 
@@ -129,11 +129,11 @@ may-shade made g now o fill faster h = record {
 }
 
 -- after the Read: the old home becomes the shadow
-pub runs-shading : (made : DecideMade) (g : Geometry) (first now later : View) (reply : Reply) → IsAt made g first now (changed made.page (homed made) (owning made.home (Equal made.page) (frames_left made first)) first) → IsActed g now (Read made.page (cells.Shadow made.frame)) reply later
+pub runs-shading : (made : DecideMade) (g : Geometry) (first now later : View) (reply : Reply) → IsAt made g first now (page_changed made.page (homed made) (owning made.home (Equal made.page) (frames_left made first)) first) → IsActed g now (Read made.page (cells.Shadow made.frame)) reply later
     → RunsDecide made Shading (Shades g made) g first later
 runs-shading made g first now later reply h acted =
     let is = read-now made g first now later reply h acted in
-    let at : IsAt made g first later (changed made.page (homed made) (owning made.home (Equal made.page) (frames_left made first)) first) = record { may = h.may; same = is } in
+    let at : IsAt made g first later (page_changed made.page (homed made) (owning made.home (Equal made.page) (frames_left made first)) first) = record { may = h.may; same = is } in
     decide-act (IsPlaced decide_piece DecideKnown g made Shading) (λ g. Maps g made) (SetShadow made.page made.frame (Some made.home)) g first later
     tt
     (record {
@@ -144,8 +144,8 @@ runs-shading made g first now later reply h acted =
     (record { geometry = refl; is = refl; holds = at })
     (can-maps g made)
 
-shaded-now : (made : DecideMade) (g : Geometry) (first now later : View) (reply : Reply) → IsAt made g first now (changed made.page (homed made) (owning made.home (Equal made.page) (frames_left made first)) first) → IsActed g now (SetShadow made.page made.frame (Some made.home)) reply later
-    → later ≡ changed made.page (shadowed made) (frames_left made first) first
+shaded-now : (made : DecideMade) (g : Geometry) (first now later : View) (reply : Reply) → IsAt made g first now (page_changed made.page (homed made) (owning made.home (Equal made.page) (frames_left made first)) first) → IsActed g now (SetShadow made.page made.frame (Some made.home)) reply later
+    → later ≡ page_changed made.page (shadowed made) (frames_left made first) first
 shaded-now made g first now later reply h acted =
     let a = done-acted (SetShadow made.page made.frame (Some made.home)) g now later reply acted.fits.kind acted in
     let owned = owning made.home (Equal made.page) (frames_left made first) in
@@ -194,7 +194,7 @@ may-map-new made g view o may h = record {
 }
 
 -- after the SetShadow: v is mapped
-pub runs-mapping : (made : DecideMade) (g : Geometry) (first now later : View) (reply : Reply) → IsAt made g first now (changed made.page (homed made) (owning made.home (Equal made.page) (frames_left made first)) first) → IsActed g now (SetShadow made.page made.frame (Some made.home)) reply later
+pub runs-mapping : (made : DecideMade) (g : Geometry) (first now later : View) (reply : Reply) → IsAt made g first now (page_changed made.page (homed made) (owning made.home (Equal made.page) (frames_left made first)) first) → IsActed g now (SetShadow made.page made.frame (Some made.home)) reply later
     → RunsDecide made Mapping (Maps g made) g first later
 runs-mapping made g first now later reply h acted =
     let is = shaded-now made g first now later reply h acted in
@@ -209,22 +209,22 @@ runs-mapping made g first now later reply h acted =
     (record { geometry = refl; is = refl; holds = record { may = h.may; same = is } })
     (can-marks g made)
 
-mapped-now : (made : DecideMade) (g : Geometry) (first now later : View) (reply : Reply) → IsAt made g first now (changed made.page (shadowed made) (frames_left made first) first) → IsActed g now (Map made.vpage (moved_word g made.frame made.word)) reply later
-    → later ≡ changed made.page (remapped g made) (spoiled made.page (frames_left made first)) first
+mapped-now : (made : DecideMade) (g : Geometry) (first now later : View) (reply : Reply) → IsAt made g first now (page_changed made.page (shadowed made) (frames_left made first) first) → IsActed g now (Map made.vpage (moved_word g made.frame made.word)) reply later
+    → later ≡ page_changed made.page (remapped g made) (spoiled made.page (frames_left made first)) first
 mapped-now made g first now later reply h acted =
     let word = moved_word g made.frame made.word in
     let V : View → Type 0 = λ v. IsActed g v (Map made.vpage word) Done later in
     let a = subst V h.same (done-acted (Map made.vpage word) g now later reply acted.fits.kind acted) in
     a.is
-    ∙ (mapped-view g made.page made.vpage word (changed made.page (shadowed made) (frames_left made first) first) h.may.backing
+    ∙ (mapped-view g made.page made.vpage word (page_changed made.page (shadowed made) (frames_left made first) first) h.may.backing
     ∙ ap (λ (l : List Op). record first { ops = l; owned = spoiled made.page (frames_left made first) }) (edit-twice page_of made.page (shadowed made) (mapped_at made.vpage word) first.ops (λ o. refl)))
 
 -- after the Map: the page is pending no more
-pub runs-marking : (made : DecideMade) (g : Geometry) (first now later : View) (reply : Reply) → IsAt made g first now (changed made.page (shadowed made) (frames_left made first) first) → IsActed g now (Map made.vpage (moved_word g made.frame made.word)) reply later
+pub runs-marking : (made : DecideMade) (g : Geometry) (first now later : View) (reply : Reply) → IsAt made g first now (page_changed made.page (shadowed made) (frames_left made first) first) → IsActed g now (Map made.vpage (moved_word g made.frame made.word)) reply later
     → RunsDecide made Marking (Marks g made) g first later
 runs-marking made g first now later reply h acted =
     let is = mapped-now made g first now later reply h acted in
-    decide-act (IsPlaced decide_piece DecideKnown g made Marking) (λ g. Unlocks g made) (Mark made.page 2 0) g first later
+    decide-act (IsPlaced decide_piece DecideKnown g made Marking) (λ g. UnlocksPage g made) (Mark made.page 2 0) g first later
     tt
     (record {
       range = h.may.page;
@@ -246,10 +246,10 @@ may-unlock-new made g o h = record {
 }
 
 -- after the Mark: the page is unlocked
-pub runs-unlocking : (made : DecideMade) (g : Geometry) (first now later : View) (reply : Reply) → IsAt made g first now (changed made.page (remapped g made) (spoiled made.page (frames_left made first)) first) → IsActed g now (Mark made.page 2 0) reply later
-    → RunsDecide made Unlocking (Unlocks g made) g first later
+pub runs-unlocking : (made : DecideMade) (g : Geometry) (first now later : View) (reply : Reply) → IsAt made g first now (page_changed made.page (remapped g made) (spoiled made.page (frames_left made first)) first) → IsActed g now (Mark made.page 2 0) reply later
+    → RunsDecide made Unlocking (UnlocksPage g made) g first later
 runs-unlocking made g first now later reply h acted =
-    let is : later ≡ changed made.page (remapped g made) (spoiled made.page (frames_left made first)) first = acted.is ∙ h.same in
+    let is : later ≡ page_changed made.page (remapped g made) (spoiled made.page (frames_left made first)) first = acted.is ∙ h.same in
     decide-act (IsPlaced decide_piece DecideKnown g made Unlocking) (λ g. Ends Committed) (Unlock made.page) g first later
     tt
     (record {
@@ -260,7 +260,7 @@ runs-unlocking made g first now later reply h acted =
     (can-ends Committed)
 
 -- after the Unlock
-pub committed-left : (made : DecideMade) (g : Geometry) (first now later : View) (reply : Reply) → IsAt made g first now (changed made.page (remapped g made) (spoiled made.page (frames_left made first)) first) → IsActed g now (Unlock made.page) reply later → IsDecided made first later
+pub committed-left : (made : DecideMade) (g : Geometry) (first now later : View) (reply : Reply) → IsAt made g first now (page_changed made.page (remapped g made) (spoiled made.page (frames_left made first)) first) → IsActed g now (Unlock made.page) reply later → IsDecision made first later
 committed-left made g first now later reply h acted =
     let a = done-acted (Unlock made.page) g now later reply acted.fits.kind acted in
     record { scan = first.scan; is = a.is ∙ closed-view made.page (remapped g made) (frames_left made first) first now h.same (λ o. refl) }

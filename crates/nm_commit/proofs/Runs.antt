@@ -32,16 +32,16 @@ use Rattle.nm_commit.specs.declared.decide.DecideMade.{DecideMade}
 use Rattle.nm_commit.specs.declared.decide.DecideStage.{DecideStage}
 use Rattle.nm_commit.specs.declared.decide.Decided.{Decided}
 use Rattle.nm_commit.specs.declared.decide.Decided.TheVariants.{Committed, Aborted}
-use Rattle.nm_commit.specs.Deciding.{moved_word, Unlocks, Marks, Maps, Shades, Reads, Commits, GivesBack, UnlocksOld, Aborts, IsDeciding, IsDecided}
+use Rattle.nm_commit.specs.Deciding.{moved_word, UnlocksPage, Marks, Maps, Shades, ReadsShadowWord, Commits, GivesBack, UnlocksOld, Aborts, IsDeciding, IsDecision}
 use Rattle.nm_commit.specs.Stages.{DecideParts, DecideEnd, MayDecidePiece, IsDecidePiece, DecideLeaves, after_action, after_task, decide_piece, decide_left, DecideKnown}
 
 -- Each pattern has a list, last first.
 
-pub can-unlocks : (g : Geometry) (made : DecideMade) → CanEnd (Unlocks g made)
+pub can-unlocks : (g : Geometry) (made : DecideMade) → CanEnd (UnlocksPage g made)
 can-unlocks g made = can-follow (IsAct (Unlock made.page) g) (λ unlocked. Ends Committed) (some-act (Unlock made.page) g) (can-ends Committed)
 
 pub can-marks : (g : Geometry) (made : DecideMade) → CanEnd (Marks g made)
-can-marks g made = can-follow (IsAct (Mark made.page 2 0) g) (λ marked. Unlocks g made) (some-act (Mark made.page 2 0) g) (can-unlocks g made)
+can-marks g made = can-follow (IsAct (Mark made.page 2 0) g) (λ marked. UnlocksPage g made) (some-act (Mark made.page 2 0) g) (can-unlocks g made)
 
 pub can-maps : (g : Geometry) (made : DecideMade) → CanEnd (Maps g made)
 can-maps g made = can-follow (IsAct (Map made.vpage (moved_word g made.frame made.word)) g) (λ mapped. Marks g made) (some-act (Map made.vpage (moved_word g made.frame made.word)) g) (can-marks g made)
@@ -49,11 +49,11 @@ can-maps g made = can-follow (IsAct (Map made.vpage (moved_word g made.frame mad
 pub can-shades : (g : Geometry) (made : DecideMade) → CanEnd (Shades g made)
 can-shades g made = can-follow (IsAct (SetShadow made.page made.frame (Some made.home)) g) (λ set. Maps g made) (some-act (SetShadow made.page made.frame (Some made.home)) g) (can-maps g made)
 
-pub can-reads : (g : Geometry) (made : DecideMade) → CanEnd (Reads g made)
+pub can-reads : (g : Geometry) (made : DecideMade) → CanEnd (ReadsShadowWord g made)
 can-reads g made = can-follow (IsAct (Read made.page (cells.Shadow made.frame)) g) (λ reply. Shades g made) (some-act (Read made.page (cells.Shadow made.frame)) g) (can-shades g made)
 
 pub can-commits : (g : Geometry) (made : DecideMade) → CanEnd (Commits g made)
-can-commits g made = can-follow (IsAct (SetHome made.page made.frame) g) (λ set. Reads g made) (some-act (SetHome made.page made.frame) g) (can-reads g made)
+can-commits g made = can-follow (IsAct (SetHome made.page made.frame) g) (λ set. ReadsShadowWord g made) (some-act (SetHome made.page made.frame) g) (can-reads g made)
 
 pub can-gives-back : (g : Geometry) (made : DecideMade) → CanEnd (GivesBack g made)
 can-gives-back g made = can-follow (IsPool g (Back made.frame)) (λ back. Ends (Aborted made.word)) (some-back g made.frame) (can-ends (Aborted made.word))
@@ -115,7 +115,7 @@ abbrev pub GivesDecide : Decide → DecideParts → (Own → Decided → Type 0)
 GivesDecide new runs was g first now = IsPieceRun MayDecidePiece IsDecidePiece (AtDecide new) (decide_left new.made new.stage) was runs g first now
 
 abbrev pub IsDecideOver : Decide → (Own → Decided → Type 0) → Geometry → View → View → Decided → Type 0
-IsDecideOver old was g first now outcome = IsOver was (λ g view outcome left. IsDecided old.made view left) (λ g outcome. Unit {0}) g first now outcome
+IsDecideOver old was g first now outcome = IsOver was (λ g view outcome left. IsDecision old.made view left) (λ g outcome. Unit {0}) g first now outcome
 
 -- as the plan comes to a stage
 pub gives-decide : (old new : Decide) (next : DecideStage) (runs : DecideParts) (was : Own → Decided → Type 0) (g : Geometry) (first now : View)

@@ -15,7 +15,7 @@ use Rattle.nm_commit.specs.declared.decide.DecideMade.{DecideMade}
 use Rattle.nm_commit.specs.declared.decide.Decided.{Decided}
 use Rattle.nm_commit.specs.declared.decide.Decided.TheVariants.{Committed, Aborted}
 use Rattle.nm_commit.specs.declared.decide.DecideStage.TheVariants.{MappingBack, UnlockingOld, PuttingBack, SettingHome, Reading, Shading, Mapping, Marking, Unlocking}
-use Rattle.nm_commit.specs.Deciding.{moved_word, Aborts, Commits, IsDeciding, MayDecide, IsDecided}
+use Rattle.nm_commit.specs.Deciding.{moved_word, Aborts, Commits, IsDeciding, MayDecide, IsDecision}
 use Rattle.nm_commit.specs.Stages.{DecideEnd, decide_piece, decide_left, DecideKnown, first_stage}
 use Rattle.nm_commit.proofs.Runs.{DecideEnds, by-action, by-job, RunsDecide}
 use Rattle.nm_commit.proofs.Aborting.{runs-mapping-back, runs-unlocking-old, runs-putting-back, aborted-left}
@@ -23,7 +23,7 @@ use Rattle.nm_commit.proofs.Committing.{runs-setting-home, runs-reading, runs-sh
 
 -- the decision is over
 abbrev pub OverWith : DecideMade → (Own → Decided → Type 0) → Geometry → View → View → Decided → Type 0
-OverWith made was g first now outcome = IsOver was (λ g view outcome left. IsDecided made view left) (λ g outcome. Unit {0}) g first now outcome
+OverWith made was g first now outcome = IsOver was (λ g view outcome left. IsDecision made view left) (λ g outcome. Unit {0}) g first now outcome
 
 -- the plan was made for the geometry in which it begins
 pub may-here : (mine : Geometry) (made : DecideMade) (g : Geometry) (view : View) → MayDecide mine made g view → MayDecide g made g view

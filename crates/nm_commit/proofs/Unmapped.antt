@@ -28,16 +28,16 @@ use Rattle.nm_commit.specs.declared.unmap.UnmapOne.{UnmapOne}
 use Rattle.nm_commit.specs.declared.unmap.UnmapMade.{UnmapMade}
 use Rattle.nm_commit.specs.declared.unmap.UnmapStage.{UnmapStage}
 use Rattle.nm_commit.specs.declared.unmap.UnmapStage.TheVariants.{Unmapping, Raising}
-use Rattle.nm_commit.specs.Unmapping.{Raises, IsUnmapping, MayUnmapping, IsUnmappedOne, unmap_action, unmap_left, IsAtUnmap, IsAtRaise, unmap_stages}
+use Rattle.nm_commit.specs.Unmapping.{RaisesOne, UnmapsOne, MayUnmapping, IsUnmappedOne, unmap_action, unmap_left, IsAtUnmap, IsAtRaise, unmap_stages}
 
 -- What is left.
 
-can-raises : (made : UnmapMade) (g : Geometry) (word : ℕ) → CanEnd (Raises made g word)
+can-raises : (made : UnmapMade) (g : Geometry) (word : ℕ) → CanEnd (RaisesOne made g word)
 can-raises made g word = can-follow (IsAct (Raise made.vpage) g) (λ raised. Ends word) (some-act (Raise made.vpage) g) (can-ends word)
 
 -- the pattern has a list
-pub some-unmapping : (made : UnmapMade) (g : Geometry) → CanEnd (IsUnmapping made g)
-some-unmapping made g = can-follow (IsAct (Unmap made.vpage) g) (λ reply. Raises made g (told reply)) (some-act (Unmap made.vpage) g) (can-raises made g (told (some-act (Unmap made.vpage) g).outcome))
+pub some-unmapping : (made : UnmapMade) (g : Geometry) → CanEnd (UnmapsOne made g)
+some-unmapping made g = can-follow (IsAct (Unmap made.vpage) g) (λ reply. RaisesOne made g (told reply)) (some-act (Unmap made.vpage) g) (can-raises made g (told (some-act (Unmap made.vpage) g).outcome))
 
 -- The pieces.
 
@@ -45,7 +45,7 @@ abbrev pub RunsUnmap : UnmapMade → UnmapStage → (Own → ℕ → Type 0) →
 RunsUnmap = RunsAt (λ action g view. MayAct g view action) IsAct unmap_stages
 
 -- the Unmap
-pub runs-unmap : (made : UnmapMade) (g : Geometry) (view : View) → MayUnmapping made g view → RunsUnmap made Unmapping (IsUnmapping made g) g view view
+pub runs-unmap : (made : UnmapMade) (g : Geometry) (view : View) → MayUnmapping made g view → RunsUnmap made Unmapping (UnmapsOne made g) g view view
 runs-unmap made g view may = record {
   begin = record { quiet = tt; allowed = record { range = vpage-there g made.vpage made.page may.backing; permitted = some-of g made.page made.vpage view (MayUnmap g made.vpage) may.backing may.op } };
   known = record { is = refl; known = record { may = may; begun = refl } };
@@ -75,7 +75,7 @@ raise-allowed made g first now word h =
     }
 
 -- the Raise
-runs-raise : (made : UnmapMade) (g : Geometry) (first now : View) (word : ℕ) → IsAtRaise made word g first now → RunsUnmap made (Raising word) (Raises made g word) g first now
+runs-raise : (made : UnmapMade) (g : Geometry) (first now : View) (word : ℕ) → IsAtRaise made word g first now → RunsUnmap made (Raising word) (RaisesOne made g word) g first now
 runs-raise made g first now word h = record {
   begin = record { quiet = tt; allowed = raise-allowed made g first now word h };
   known = record { is = refl; known = h };
@@ -127,7 +127,7 @@ pub after-unmap : (old new : UnmapOne) (act : Act) (word : ℕ) (end : Reply) (g
     → GivesUnmap new act (unmap_left old.made old.stage g end) g first later
 after-unmap old new act word end g first now later action at ended known acted is acts =
     by-stage unmap_stages Acted (λ stage reply. GivesUnmap new act (unmap_left old.made stage g reply) g first later) old.made old.stage Unmapping end (Word word) g first now later action at ended known acted
-    (λ k a. unmap-now old new (Raising word) act (Raises old.made g word) g first later is acts (runs-raise old.made g first later word (taken-now old.made g first now later word k a)))
+    (λ k a. unmap-now old new (Raising word) act (RaisesOne old.made g word) g first later is acts (runs-raise old.made g first later word (taken-now old.made g first now later word k a)))
 
 -- v was raised
 pub after-raise : (old : UnmapOne) (word : ℕ) (end : Reply) (g : Geometry) (first now later : View) (action : Action)

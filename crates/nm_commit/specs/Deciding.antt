@@ -32,11 +32,11 @@ moved_word g frame word = word_of (Present frame (not (tier_of g frame == 0)) fa
 
 -- The new home is set; its shadow word is read; the old home becomes its shadow; v is mapped to it; the page is pending no
 -- more; and it is unlocked.
-abbrev pub Unlocks : Geometry → DecideMade → Own → Decided → Type 0
-Unlocks g made = Follows (IsAct (Unlock made.page) g) (λ unlocked. Ends Committed)
+abbrev pub UnlocksPage : Geometry → DecideMade → Own → Decided → Type 0
+UnlocksPage g made = Follows (IsAct (Unlock made.page) g) (λ unlocked. Ends Committed)
 
 abbrev pub Marks : Geometry → DecideMade → Own → Decided → Type 0
-Marks g made = Follows (IsAct (Mark made.page 2 0) g) (λ marked. Unlocks g made)
+Marks g made = Follows (IsAct (Mark made.page 2 0) g) (λ marked. UnlocksPage g made)
 
 abbrev pub Maps : Geometry → DecideMade → Own → Decided → Type 0
 Maps g made = Follows (IsAct (Map made.vpage (moved_word g made.frame made.word)) g) (λ mapped. Marks g made)
@@ -44,11 +44,11 @@ Maps g made = Follows (IsAct (Map made.vpage (moved_word g made.frame made.word)
 abbrev pub Shades : Geometry → DecideMade → Own → Decided → Type 0
 Shades g made = Follows (IsAct (SetShadow made.page made.frame (Some made.home)) g) (λ set. Maps g made)
 
-abbrev pub Reads : Geometry → DecideMade → Own → Decided → Type 0
-Reads g made = Follows (IsAct (Read made.page (cells.Shadow made.frame)) g) (λ reply. Shades g made)
+abbrev pub ReadsShadowWord : Geometry → DecideMade → Own → Decided → Type 0
+ReadsShadowWord g made = Follows (IsAct (Read made.page (cells.Shadow made.frame)) g) (λ reply. Shades g made)
 
 abbrev pub Commits : Geometry → DecideMade → Own → Decided → Type 0
-Commits g made = Follows (IsAct (SetHome made.page made.frame) g) (λ set. Reads g made)
+Commits g made = Follows (IsAct (SetHome made.page made.frame) g) (λ set. ReadsShadowWord g made)
 
 -- The taken word is mapped again; the page is unlocked; and the new frame is put back.
 abbrev pub GivesBack : Geometry → DecideMade → Own → Decided → Type 0
@@ -93,6 +93,6 @@ pub record MayDecide (mine : Geometry) (made : DecideMade) (g : Geometry) (view 
   pub turn : view.turn ≡ None
 
 -- it leaves the page unlocked and the new frame owned no more, and all else of the view as it was
-pub record IsDecided (made : DecideMade) (view left : View) : Type 0 where
+pub record IsDecision (made : DecideMade) (view left : View) : Type 0 where
   pub scan : Scanned
   pub is : left ≡ record view { ops = erase page_of made.page view.ops; owned = spoiled made.page (erase owned_frame made.frame view.owned); scan = scan }

@@ -32,7 +32,7 @@ use Rattle.nm_commit.specs.declared.decide.Decided.{Decided}
 use Rattle.nm_commit.specs.declared.decide.Decided.TheVariants.{Committed, Aborted}
 use Rattle.nm_commit.specs.declared.decide.DecideStage.{DecideStage}
 use Rattle.nm_commit.specs.declared.decide.DecideStage.TheVariants.{Start, MappingBack, UnlockingOld, PuttingBack, SettingHome, Reading, Shading, Mapping, Marking, Unlocking}
-use Rattle.nm_commit.specs.Deciding.{moved_word, Unlocks, Marks, Maps, Shades, Reads, GivesBack, UnlocksOld, MayDecide}
+use Rattle.nm_commit.specs.Deciding.{moved_word, UnlocksPage, Marks, Maps, Shades, ReadsShadowWord, GivesBack, UnlocksOld, MayDecide}
 
 -- The pieces: an action, or a task on the free frames.
 
@@ -72,10 +72,10 @@ decide_piece g made Marking = This (Mark made.page 2 0)
 decide_piece g made Unlocking = This (Unlock made.page)
 
 -- the numbers of a stage's piece are in range
-abbrev pub MayGo : Geometry → DecideMade → DecideStage → Type 0
-MayGo g made PuttingBack = IsFrame g made.frame
-MayGo g made Mapping = IsFrame g made.frame
-MayGo g made _ = Unit {0}
+abbrev pub MayDecideAt : Geometry → DecideMade → DecideStage → Type 0
+MayDecideAt g made PuttingBack = IsFrame g made.frame
+MayDecideAt g made Mapping = IsFrame g made.frame
+MayDecideAt g made _ = Unit {0}
 
 -- the first stage
 abbrev pub first_stage : DecideMade → DecideStage
@@ -83,34 +83,34 @@ first_stage made = if is_dirty made.word then MappingBack else SettingHome
 
 -- What is left after the piece of a stage.
 
-abbrev pub Nothing : Own → Decided → Type 0
-Nothing own outcome = ⊥
+abbrev pub NothingDecided : Own → Decided → Type 0
+NothingDecided own outcome = ⊥
 
 abbrev pub after_action : (Own → Decided → Type 0) → DecideEnd → Own → Decided → Type 0
 after_action after (This reply) = after
-after_action after (Other end) = Nothing
+after_action after (Other end) = NothingDecided
 
 abbrev pub after_task : (Own → Decided → Type 0) → DecideEnd → Own → Decided → Type 0
-after_task after (This reply) = Nothing
+after_task after (This reply) = NothingDecided
 after_task after (Other end) = after
 
 abbrev pub decide_left : DecideMade → DecideStage → Geometry → DecideEnd → Own → Decided → Type 0
-decide_left made Start g = after_action Nothing
+decide_left made Start g = after_action NothingDecided
 decide_left made MappingBack g = after_action (UnlocksOld g made)
 decide_left made UnlockingOld g = after_action (GivesBack g made)
 decide_left made PuttingBack g = after_task (Ends (Aborted made.word))
-decide_left made SettingHome g = after_action (Reads g made)
+decide_left made SettingHome g = after_action (ReadsShadowWord g made)
 decide_left made Reading g = after_action (Shades g made)
 decide_left made Shading g = after_action (Maps g made)
 decide_left made Mapping g = after_action (Marks g made)
-decide_left made Marking g = after_action (Unlocks g made)
+decide_left made Marking g = after_action (UnlocksPage g made)
 decide_left made Unlocking g = after_action (Ends Committed)
 
 -- What is known of the views.
 
--- the view with the operation on the page changed, and these frames owned
-abbrev pub changed : ℕ → (Op → Op) → List Owned → View → View
-changed page change owned view = record view { ops = edit page_of page change view.ops; owned = owned }
+-- the view with the operation on the page page_changed, and these frames owned
+abbrev pub page_changed : ℕ → (Op → Op) → List Owned → View → View
+page_changed page change owned view = record view { ops = edit page_of page change view.ops; owned = owned }
 
 -- the operation, and the owned frames, while it commits
 abbrev pub homed : DecideMade → Op → Op
@@ -125,7 +125,7 @@ remapped g made o = mapped_at made.vpage (moved_word g made.frame made.word) (sh
 abbrev pub frames_left : DecideMade → View → List Owned
 frames_left made view = erase owned_frame made.frame view.owned
 
--- it may go on from the first view, which has changed so
+-- it may go on from the first view, which has page_changed so
 pub record IsAt (made : DecideMade) (g : Geometry) (view now is : View) : Type 0 where
   pub may : MayDecide g made g view
   pub same : now ≡ is
@@ -134,11 +134,11 @@ pub record IsAt (made : DecideMade) (g : Geometry) (view now is : View) : Type 0
 abbrev pub DecideKnown : DecideMade → DecideStage → Geometry → View → View → Type 0
 DecideKnown made Start g view now = ⊥
 DecideKnown made MappingBack g view now = IsAt made g view now view × (is_dirty made.word ≡ true)
-DecideKnown made UnlockingOld g view now = IsAt made g view now (changed made.page (mapped_at made.vpage made.word) (spoiled made.page view.owned) view)
+DecideKnown made UnlockingOld g view now = IsAt made g view now (page_changed made.page (mapped_at made.vpage made.word) (spoiled made.page view.owned) view)
 DecideKnown made PuttingBack g view now = IsAt made g view now (record view { ops = erase page_of made.page view.ops; owned = spoiled made.page view.owned })
 DecideKnown made SettingHome g view now = IsAt made g view now view × (is_dirty made.word ≡ false)
-DecideKnown made Reading g view now = IsAt made g view now (changed made.page (homed made) (owning made.home (Equal made.page) (frames_left made view)) view)
-DecideKnown made Shading g view now = IsAt made g view now (changed made.page (homed made) (owning made.home (Equal made.page) (frames_left made view)) view)
-DecideKnown made Mapping g view now = IsAt made g view now (changed made.page (shadowed made) (frames_left made view) view)
-DecideKnown made Marking g view now = IsAt made g view now (changed made.page (remapped g made) (spoiled made.page (frames_left made view)) view)
-DecideKnown made Unlocking g view now = IsAt made g view now (changed made.page (remapped g made) (spoiled made.page (frames_left made view)) view)
+DecideKnown made Reading g view now = IsAt made g view now (page_changed made.page (homed made) (owning made.home (Equal made.page) (frames_left made view)) view)
+DecideKnown made Shading g view now = IsAt made g view now (page_changed made.page (homed made) (owning made.home (Equal made.page) (frames_left made view)) view)
+DecideKnown made Mapping g view now = IsAt made g view now (page_changed made.page (shadowed made) (frames_left made view) view)
+DecideKnown made Marking g view now = IsAt made g view now (page_changed made.page (remapped g made) (spoiled made.page (frames_left made view)) view)
+DecideKnown made Unlocking g view now = IsAt made g view now (page_changed made.page (remapped g made) (spoiled made.page (frames_left made view)) view)

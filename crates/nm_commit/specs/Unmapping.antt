@@ -20,11 +20,11 @@ use Rattle.nm_commit.specs.declared.unmap.UnmapStage.{UnmapStage}
 use Rattle.nm_commit.specs.declared.unmap.UnmapStage.TheVariants.{Idle, Unmapping, Raising}
 
 -- The pattern: its outcome is the word that was taken.
-abbrev pub Raises : UnmapMade → Geometry → ℕ → Own → ℕ → Type 0
-Raises made g word = Follows (IsAct (Raise made.vpage) g) (λ raised. Ends word)
+abbrev pub RaisesOne : UnmapMade → Geometry → ℕ → Own → ℕ → Type 0
+RaisesOne made g word = Follows (IsAct (Raise made.vpage) g) (λ raised. Ends word)
 
-abbrev pub IsUnmapping : UnmapMade → Geometry → Own → ℕ → Type 0
-IsUnmapping made g = Follows (IsAct (Unmap made.vpage) g) (λ reply. Raises made g (told reply))
+abbrev pub UnmapsOne : UnmapMade → Geometry → Own → ℕ → Type 0
+UnmapsOne made g = Follows (IsAct (Unmap made.vpage) g) (λ reply. RaisesOne made g (told reply))
 
 -- it may begin where the operation on the page of v may unmap it
 pub record MayUnmapping (made : UnmapMade) (g : Geometry) (view : View) : Type 0 where
@@ -51,7 +51,7 @@ unmap_action made (Raising word) = Raise made.vpage
 
 abbrev pub unmap_left : UnmapMade → UnmapStage → Geometry → Reply → Own → ℕ → Type 0
 unmap_left made Idle g reply = Ends 0
-unmap_left made Unmapping g reply = Raises made g (told reply)
+unmap_left made Unmapping g reply = RaisesOne made g (told reply)
 unmap_left made (Raising word) g reply = Ends word
 
 -- it has begun

@@ -3,7 +3,7 @@
 ghost use Rattle.std.specs.Prelude.{◌≡◌};
 ghost use Rattle.nm_base.specs.Ranges.{IsFrame};
 ghost use Rattle.nm_commit.specs.Deciding.{moved_word};
-ghost use Rattle.nm_commit.specs.Stages.{decide_piece, decide_made, IsNewDecidePiece, MayGo, first_stage};
+ghost use Rattle.nm_commit.specs.Stages.{decide_piece, decide_made, IsNewDecidePiece, MayDecideAt, first_stage};
 
 use nm_base::table_word::{is_accessed, is_dirty, is_saved, is_writable};
 use nm_base::{Geometry, PageWord};
@@ -121,7 +121,7 @@ impl<'a> Decide<'a> {
 
     /// Comes to a stage, and gives its piece.
     fn go(&mut self, stage: DecideStage) -> DecidePiece
-        requires { MayGo self.old.geometry.now self.old.made stage }
+        requires { MayDecideAt self.old.geometry.now self.old.made stage }
         ensures stage { self.new ≡ record self.old { stage = stage } }
         ensures made { decide_made result ≡ decide_piece self.old.geometry.now self.old.made stage }
         ensures new { IsNewDecidePiece result }
@@ -177,7 +177,7 @@ impl<'a> Plan<DecidePiece> for Decide<'a> {
     ghost use Rattle.std.specs.Prelude.{◌≡◌};
     ghost use Rattle.nm_commit.specs.declared.decide.DecideStage.TheVariants.{Start};
     ghost use Rattle.nm_prepare.specs.Placing.{IsPlaced};
-    ghost use Rattle.nm_commit.specs.Deciding.{IsDeciding, MayDecide, IsDecided};
+    ghost use Rattle.nm_commit.specs.Deciding.{IsDeciding, MayDecide, IsDecision};
     ghost use Rattle.nm_commit.specs.Stages.{decide_piece, decide_left, DecideKnown};
 
     ghost made = { λ s. record { 0 = s.geometry.now; 1 = s.made } };
@@ -188,7 +188,7 @@ impl<'a> Plan<DecidePiece> for Decide<'a> {
 
     ghost shape = { λ made g own outcome. IsDeciding made.1 g own outcome };
 
-    ghost leaves = { λ made g view outcome left. IsDecided made.1 view left };
+    ghost leaves = { λ made g view outcome left. IsDecision made.1 view left };
 
     ghost knows = { λ s. IsPlaced decide_piece DecideKnown s.geometry.now s.made s.stage };
 

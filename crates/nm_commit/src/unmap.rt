@@ -69,7 +69,7 @@ impl Plan<Act> for UnmapOne {
     ghost use Rattle.std.specs.Prelude.{◌≡◌};
     ghost use Rattle.nm_compose.specs.Stages.{IsPieceAt};
     ghost use Rattle.nm_commit.specs.declared.unmap.UnmapStage.TheVariants.{Idle};
-    ghost use Rattle.nm_commit.specs.Unmapping.{MayUnmapping, IsUnmapping, IsUnmappedOne, unmap_stages, unmap_left};
+    ghost use Rattle.nm_commit.specs.Unmapping.{MayUnmapping, UnmapsOne, IsUnmappedOne, unmap_stages, unmap_left};
 
     ghost made = { λ s. s.made };
 
@@ -77,7 +77,7 @@ impl Plan<Act> for UnmapOne {
 
     ghost may_begin = { MayUnmapping };
 
-    ghost shape = { IsUnmapping };
+    ghost shape = { UnmapsOne };
 
     ghost leaves = { IsUnmappedOne };
 

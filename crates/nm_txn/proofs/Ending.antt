@@ -13,14 +13,14 @@ use Rattle.nm_prepare.specs.declared.prepare.Prepared.{Prepared}
 use Rattle.nm_prepare.specs.declared.prepare.Prepared.TheVariants as prepared
 use Rattle.nm_prepare.specs.Preparing.{IsPrepare}
 use Rattle.nm_prepare.proofs.Ending.{some-prepare}
-use Rattle.nm_commit.specs.Unmapping.{IsUnmapping}
+use Rattle.nm_commit.specs.Unmapping.{UnmapsOne}
 use Rattle.nm_commit.specs.Deciding.{IsDeciding}
 use Rattle.nm_commit.specs.declared.decide.DecideMade.{DecideMade}
 use Rattle.nm_commit.specs.declared.unmap.UnmapMade.{UnmapMade}
 use Rattle.nm_commit.proofs.Unmapped.{some-unmapping}
 use Rattle.nm_commit.proofs.Runs.{some-deciding}
 use Rattle.nm_txn.specs.declared.end.TxnEnd.TheVariants.{Busy}
-use Rattle.nm_txn.specs.Transactions.{early_end, decided_end, Decides, FlushesAgain, Unmaps, Copies, Flushes, AfterPrepare, IsTxn}
+use Rattle.nm_txn.specs.Transactions.{early_end, decided_end, Decides, FlushesAgain, Unmaps, Copies, FlushesFirst, AfterPrepare, IsTxn}
 use Rattle.nm_txn.specs.Stages.{deciding}
 
 -- there is a shootdown of each number of processors
@@ -38,14 +38,14 @@ can-flushes-again g made home frame word = can-follow (IsShootdown g.cpus) (λ n
 pub can-unmaps : (g : Geometry) (made : PrepareMade) (home frame : ℕ) → CanEnd (Unmaps g made home frame)
 can-unmaps g made home frame =
     let u : UnmapMade = record { page = made.page; vpage = made.vpage } in
-    can-follow (IsUnmapping u g) (λ word. FlushesAgain g made home frame word) (some-unmapping u g) (can-flushes-again g made home frame (some-unmapping u g).outcome)
+    can-follow (UnmapsOne u g) (λ word. FlushesAgain g made home frame word) (some-unmapping u g) (can-flushes-again g made home frame (some-unmapping u g).outcome)
 
 pub can-copies : (g : Geometry) (made : PrepareMade) (home frame : ℕ) → CanEnd (Copies g made home frame)
 can-copies g made home frame =
     let c : CopiesMade = record { page = made.page; frame = frame; words = g.words } in
     can-follow (IsCopying c g) (λ copied. Unmaps g made home frame) (some-copies c g) (can-unmaps g made home frame)
 
-pub can-flushes : (g : Geometry) (made : PrepareMade) (home frame : ℕ) → CanEnd (Flushes g made home frame)
+pub can-flushes : (g : Geometry) (made : PrepareMade) (home frame : ℕ) → CanEnd (FlushesFirst g made home frame)
 can-flushes g made home frame = can-follow (IsShootdown g.cpus) (λ number. Copies g made home frame) (some-flush g.cpus) (can-copies g made home frame)
 
 pub can-after-prepare : (g : Geometry) (made : PrepareMade) (end : Prepared) → CanEnd (AfterPrepare g made end)

@@ -20,7 +20,7 @@ use Rattle.nm_shoot.specs.Flushed.{MayShoot, IsFlushed}
 use Rattle.nm_copying.specs.Copying.{copied_to, copied_fill, copying, MayCopyPage, MayCopies, IsCopied}
 use Rattle.nm_copying.specs.declared.copies.CopiesMade.{CopiesMade}
 use Rattle.nm_copying.proofs.Copied.{some-words}
-use Rattle.nm_prepare.specs.Placing.{IsPlaced}
+use Rattle.nm_prepare.specs.Placing.{IsPlanPlaced}
 use Rattle.nm_prepare.specs.Worn.{is_worn}
 use Rattle.nm_prepare.specs.Ready.{MayPrepare, HasReady, IsReadyOp}
 use Rattle.nm_prepare.specs.declared.prepare.PrepareMade.{PrepareMade}
@@ -28,16 +28,16 @@ use Rattle.nm_prepare.specs.declared.prepare.Prepared.TheVariants as prepared
 use Rattle.nm_prepare.proofs.Lists.{owning-erased, owning-other, some-and}
 use Rattle.nm_prepare.proofs.Clearing.{not-worn}
 use Rattle.nm_commit.specs.Unmapping.{unmapped_at, MayUnmapping, IsUnmappedOne}
-use Rattle.nm_commit.specs.Deciding.{IsSwapped, MayDecide, IsDecided}
+use Rattle.nm_commit.specs.Deciding.{IsSwapped, MayDecide, IsDecision}
 use Rattle.nm_commit.specs.declared.unmap.UnmapMade.{UnmapMade}
 use Rattle.nm_commit.specs.declared.decide.DecideMade.{DecideMade}
 use Rattle.nm_commit.specs.declared.decide.Decided.{Decided}
 use Rattle.nm_commit.specs.declared.decide.Decided.TheVariants as decided
 use Rattle.nm_txn.specs.declared.end.TxnEnd.{TxnEnd}
 use Rattle.nm_txn.specs.declared.txn.TxnStage.TheVariants.{Preparing, Flushing, Copying, Unmapping, FlushingAgain, Deciding}
-use Rattle.nm_txn.specs.Transactions.{decided_end, Decides, FlushesAgain, Unmaps, Copies, Flushes, AfterPrepare, IsTxn}
+use Rattle.nm_txn.specs.Transactions.{decided_end, Decides, FlushesAgain, Unmaps, Copies, FlushesFirst, AfterPrepare, IsTxn}
 use Rattle.nm_txn.specs.Leaving.{MayTxn, HasDecided, IsTxnLeft}
-use Rattle.nm_txn.specs.Stages.{deciding, txn_piece, TxnKnown, IsClearedOp, IsUncopiedOp, IsTakenOp, IsMoving, IsRightful, moving, IsMovingWith, IsBegun, IsReadied}
+use Rattle.nm_txn.specs.Stages.{deciding, txn_piece, TxnKnown, IsClearedOp, IsUncopiedOp, IsTakenOp, IsMoving, IsRightful, moving, IsMovingWith, IsTxnBegun, IsReadied}
 use Rattle.nm_txn.proofs.Ending.{can-after-prepare, can-copies, can-unmaps, can-flushes-again, can-decides}
 use Rattle.nm_txn.proofs.Ops.{find-only, edit-only, erase-only, dry-only, flushed-ready, flushed-taken, uncopied-may, copied-cleared, cleared-may, unmapped-taken}
 use Rattle.nm_txn.proofs.Frames.{fill-owning, edit-owning, copied-all, apart-by-tiers}
@@ -48,7 +48,7 @@ use Rattle.nm_txn.proofs.Runs.{prepare-run, flush-run, copy-run, unmap-run, deci
 -- the first steps run
 pub runs-preparing : (made : PrepareMade) (g : Geometry) (view : View) → MayTxn g made g view → RunsTxn made Preparing (IsTxn made g) g view view
 runs-preparing made g view may =
-    prepare-run (IsPlaced txn_piece TxnKnown g made Preparing) (λ g. AfterPrepare g made) (record { 0 = g; 1 = made }) g view view
+    prepare-run (IsPlanPlaced txn_piece TxnKnown g made Preparing) (λ g. AfterPrepare g made) (record { 0 = g; 1 = made }) g view view
     may.prepare (record { geometry = refl; is = refl; holds = record { may = may; begun = refl } }) (λ end. can-after-prepare g made end)
 
 -- 7. The first flush.
@@ -70,7 +70,7 @@ ready-ops made g first now home frame h =
     h.ready.is ∙ ap (λ (l : List Op). record first { ops = l ++ h.ready.op ∷ []; owned = owning frame Raw first.owned; scan = h.ready.scan; raises = first.raises + 1 }) h.may.alone
 
 -- the page is ready: the first flush runs
-pub runs-flushing : (made : PrepareMade) (g : Geometry) (first now later : View) (home frame : ℕ) → IsBegun made g first now → HasReady made g now home frame later → RunsTxn made (Flushing home frame) (Flushes g made home frame) g first later
+pub runs-flushing : (made : PrepareMade) (g : Geometry) (first now later : View) (home frame : ℕ) → IsTxnBegun made g first now → HasReady made g now home frame later → RunsTxn made (Flushing home frame) (FlushesFirst g made home frame) g first later
 runs-flushing made g first now later home frame h left =
     let V : View → Type 0 = λ v. HasReady made g v home frame later in
     let r : IsReadied made g first later home frame = record { may = h.may; ready = subst V h.begun left } in
@@ -79,7 +79,7 @@ runs-flushing made g first now later home frame h left =
     let D : View → Type 0 = λ v. AreDueDry v.ops in
     let few = bumps-few made first r.ready.worn (spent-bumps made g first h.may) in
     let some : first.bumps < own_bumps = omega arith in
-    flush-run (IsPlaced txn_piece TxnKnown g made (Flushing home frame)) (λ g. Copies g made home frame) g.cpus g first later
+    flush-run (IsPlanPlaced txn_piece TxnKnown g made (Flushing home frame)) (λ g. Copies g made home frame) g.cpus g first later
     (record { all = refl; bump = record { few = subst B (sym is) some; dry = subst D (sym is) (dry-only r.ready.op r.ready.ready.dry) } })
     (record { geometry = refl; is = refl; holds = r }) (can-copies g made home frame)
 
@@ -117,7 +117,7 @@ runs-copying made g first now later home frame number h f =
     let F : View → Type 0 = λ v. fill_of v frame ≡ Some Raw in
     let O : View → Type 0 = λ v. IsSomeAnd (op_on v made.page) (MayCopyPage g) in
     let on : IsSomeAnd (find page_of made.page (m.op ∷ [])) (MayCopyPage g) = some-and (MayCopyPage g) (find page_of made.page (m.op ∷ [])) m.op (find-only made.page m.op m.kind.op.page_is) (uncopied-may g made.page made.vpage home m.op m.kind) in
-    copy-run (IsPlaced txn_piece TxnKnown g made (Copying home frame)) (λ g. Unmaps g made home frame) (record { page = made.page; frame = frame; words = g.words }) g first later
+    copy-run (IsPlanPlaced txn_piece TxnKnown g made (Copying home frame)) (λ g. Unmaps g made home frame) (record { page = made.page; frame = frame; words = g.words }) g first later
     (record {
       geometry = h.may.prepare.geometry;
       words = refl;
@@ -156,7 +156,7 @@ runs-unmapping made g first now later home frame m left =
     let O : View → Type 0 = λ v. IsSomeAnd (op_on v made.page) (MayUnmap g made.vpage) in
     let R : View → Type 0 = λ v. v.raises < own_raises in
     let on : IsSomeAnd (find page_of made.page (c.op ∷ [])) (MayUnmap g made.vpage) = some-and (MayUnmap g made.vpage) (find page_of made.page (c.op ∷ [])) c.op (find-only made.page c.op c.kind.page_is) (cleared-may g made.page made.vpage home c.op c.kind) in
-    unmap-run (IsPlaced txn_piece TxnKnown g made (Unmapping home frame)) (λ g word. FlushesAgain g made home frame word) (record { page = made.page; vpage = made.vpage }) g first later
+    unmap-run (IsPlanPlaced txn_piece TxnKnown g made (Unmapping home frame)) (λ g word. FlushesAgain g made home frame word) (record { page = made.page; vpage = made.vpage }) g first later
     (record {
       backing = c.facts.backing;
       op = subst O (sym c.is) on;
@@ -192,7 +192,7 @@ runs-flushing-again made g first now later home frame word m left =
     let t = unmapped-now made g first now later home frame word m left in
     let B : View → Type 0 = λ v. v.bumps < own_bumps in
     let D : View → Type 0 = λ v. AreDueDry v.ops in
-    flush-run (IsPlaced txn_piece TxnKnown g made (FlushingAgain home frame word)) (λ g. Decides g made home frame word) g.cpus g first later
+    flush-run (IsPlanPlaced txn_piece TxnKnown g made (FlushingAgain home frame word)) (λ g. Decides g made home frame word) g.cpus g first later
     (record { all = refl; bump = record { few = subst B (sym t.0.is) (bumps-few made first t.0.facts.worn (spent-bumps made g first t.0.facts.may)); dry = subst D (sym t.0.is) (dry-only t.0.op t.0.kind.dry) } })
     (record { geometry = refl; is = refl; holds = t }) (can-decides g made home frame word)
 
@@ -219,7 +219,7 @@ runs-deciding made g first now later home frame word number (m, right) f =
     let N : View → Type 0 = λ v. IsNotOwned v home in
     let O : View → Type 0 = λ v. IsSomeAnd (op_on v made.page) (IsSwapped g made.page made.vpage word home) in
     let on : IsSomeAnd (find page_of made.page (s.op ∷ [])) (IsSwapped g made.page made.vpage word home) = some-and (IsSwapped g made.page made.vpage word home) (find page_of made.page (s.op ∷ [])) s.op (find-only made.page s.op s.kind.page_is) s.kind in
-    decide-run (IsPlaced txn_piece TxnKnown g made (Deciding home frame word)) (λ g decided. Ends (decided_end decided)) (record { 0 = g; 1 = deciding made home frame word }) g first later
+    decide-run (IsPlanPlaced txn_piece TxnKnown g made (Deciding home frame word)) (λ g decided. Ends (decided_end decided)) (record { 0 = g; 1 = deciding made home frame word }) g first later
     (record {
       same = refl;
       geometry = s.facts.may.prepare.geometry;
@@ -237,7 +237,7 @@ runs-deciding made g first now later home frame word number (m, right) f =
     })
     (record { geometry = refl; is = refl; holds = (s, right) }) (λ decided. can-ends (decided_end decided))
 
-decided-now : (made : PrepareMade) (g : Geometry) (first now later : View) (home frame word : ℕ) → IsMovingWith made g first now home frame (IsSwapped g made.page made.vpage word home) (Copied made.page g.words) 2 2 → IsDecided (deciding made home frame word) now later → HasDecided made.page first later
+decided-now : (made : PrepareMade) (g : Geometry) (first now later : View) (home frame word : ℕ) → IsMovingWith made g first now home frame (IsSwapped g made.page made.vpage word home) (Copied made.page g.words) 2 2 → IsDecision (deciding made home frame word) now later → HasDecided made.page first later
 decided-now made g first now later home frame word m left =
     let owned = owning frame (Copied made.page g.words) first.owned in
     record {
@@ -249,6 +249,6 @@ decided-now made g first now later home frame word m left =
     }
 
 -- what was decided
-pub decided-left : (made : PrepareMade) (g : Geometry) (first now later : View) (home frame word : ℕ) (end : Decided) → IsMovingWith made g first now home frame (IsSwapped g made.page made.vpage word home) (Copied made.page g.words) 2 2 → IsDecided (deciding made home frame word) now later → IsTxnLeft made first (decided_end end) later
+pub decided-left : (made : PrepareMade) (g : Geometry) (first now later : View) (home frame word : ℕ) (end : Decided) → IsMovingWith made g first now home frame (IsSwapped g made.page made.vpage word home) (Copied made.page g.words) 2 2 → IsDecision (deciding made home frame word) now later → IsTxnLeft made first (decided_end end) later
 decided-left made g first now later home frame word decided.Committed m left = decided-now made g first now later home frame word m left
 decided-left made g first now later home frame word (decided.Aborted taken) m left = decided-now made g first now later home frame word m left

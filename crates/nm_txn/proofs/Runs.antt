@@ -13,14 +13,14 @@ use Rattle.nm_shoot.specs.Shootdown.{IsShootdown}
 use Rattle.nm_shoot.specs.Flushed.{MayShoot, IsFlushed}
 use Rattle.nm_copying.specs.Copying.{IsCopying, MayCopies, IsCopied}
 use Rattle.nm_copying.specs.declared.copies.CopiesMade.{CopiesMade}
-use Rattle.nm_prepare.specs.Placing.{IsPlaced, RunsPlaced}
+use Rattle.nm_prepare.specs.Placing.{IsPlanPlaced, RunsPlaced}
 use Rattle.nm_prepare.specs.Preparing.{IsPrepare}
 use Rattle.nm_prepare.specs.Ready.{MayPrepare, IsPrepared}
 use Rattle.nm_prepare.specs.declared.prepare.PrepareMade.{PrepareMade}
 use Rattle.nm_prepare.specs.declared.prepare.Prepared.{Prepared}
 use Rattle.nm_prepare.proofs.Placed.{at-placed, run-placed}
-use Rattle.nm_commit.specs.Unmapping.{IsUnmapping, MayUnmapping, IsUnmappedOne}
-use Rattle.nm_commit.specs.Deciding.{IsDeciding, MayDecide, IsDecided}
+use Rattle.nm_commit.specs.Unmapping.{UnmapsOne, MayUnmapping, IsUnmappedOne}
+use Rattle.nm_commit.specs.Deciding.{IsDeciding, MayDecide, IsDecision}
 use Rattle.nm_commit.specs.declared.unmap.UnmapMade.{UnmapMade}
 use Rattle.nm_commit.specs.declared.decide.DecideMade.{DecideMade}
 use Rattle.nm_commit.specs.declared.decide.Decided.{Decided}
@@ -43,7 +43,7 @@ abbrev DecideShape : Geometry × DecideMade → Geometry → Own → Decided →
 DecideShape made g own outcome = IsDeciding made.1 g own outcome
 
 abbrev Rest3 : Or UnmapMade (Geometry × DecideMade) → Geometry → Own → Or ℕ Decided → Type 0
-Rest3 = IsOr IsUnmapping DecideShape
+Rest3 = IsOr UnmapsOne DecideShape
 
 abbrev Rest2 : Or CopiesMade (Or UnmapMade (Geometry × DecideMade)) → Geometry → Own → Or (Unit {0}) (Or ℕ Decided) → Type 0
 Rest2 = IsOr IsCopying Rest3
@@ -119,12 +119,12 @@ copy-run knows after made g first now may known can = record {
 
 pub unmap-run : {O : Type 0} (knows : Geometry → View → View → TxnParts → Type 0) (after : Geometry → ℕ → Own → O → Type 0) (made : UnmapMade) (g : Geometry) (first now : View)
     → MayUnmapping made g now → knows g first now (Other (Other (Other (This made)))) → ((word : ℕ) → CanEnd (after g word))
-    → IsPieceRun MayTxnPiece IsTxnPiece knows (λ g. by_taken (after g)) (Follows (IsUnmapping made g) (after g)) (Other (Other (Other (This made)))) g first now
+    → IsPieceRun MayTxnPiece IsTxnPiece knows (λ g. by_taken (after g)) (Follows (UnmapsOne made g) (after g)) (Other (Other (Other (This made)))) g first now
 unmap-run knows after made g first now may known can = record {
   begin = may;
   known = known;
   can = λ own end shown. can-taken made g own end (after g) shown can;
-  fits = λ own outcome f. this-follows IsUnmapping DecideShape (λ end. by_taken (after g) (Other (Other (Other end)))) made g own outcome
+  fits = λ own outcome f. this-follows UnmapsOne DecideShape (λ end. by_taken (after g) (Other (Other (Other end)))) made g own outcome
       (other-follows IsCopying Rest3 (λ end. by_taken (after g) (Other (Other end))) (This made) g own outcome
       (other-follows ShootShape Rest2 (λ end. by_taken (after g) (Other end)) (Other (This made)) g own outcome
       (other-follows PrepareShape Rest1 (by_taken (after g)) (Other (Other (This made))) g own outcome f)));
@@ -137,7 +137,7 @@ decide-run knows after made g first now may known can = record {
   begin = may;
   known = known;
   can = λ own end shown. can-decided made g own end (after g) shown can;
-  fits = λ own outcome f. other-follows IsUnmapping DecideShape (λ end. by_decided (after g) (Other (Other (Other end)))) made g own outcome
+  fits = λ own outcome f. other-follows UnmapsOne DecideShape (λ end. by_decided (after g) (Other (Other (Other end)))) made g own outcome
       (other-follows IsCopying Rest3 (λ end. by_decided (after g) (Other (Other end))) (Other made) g own outcome
       (other-follows ShootShape Rest2 (λ end. by_decided (after g) (Other end)) (Other (Other made)) g own outcome
       (other-follows PrepareShape Rest1 (by_decided (after g)) (Other (Other (Other made))) g own outcome f)));
@@ -149,7 +149,7 @@ abbrev pub RunsTxn : PrepareMade → TxnStage → (Own → TxnEnd → Type 0) �
 RunsTxn = RunsPlaced MayTxnPiece IsTxnPiece txn_piece txn_left TxnKnown
 
 abbrev pub AtTxn : Txn → Geometry → View → View → TxnParts → Type 0
-AtTxn s = IsPlaced txn_piece TxnKnown s.geometry.now s.made s.stage
+AtTxn s = IsPlanPlaced txn_piece TxnKnown s.geometry.now s.made s.stage
 
 abbrev pub GivesTxn : Txn → TxnParts → (Own → TxnEnd → Type 0) → Geometry → View → View → Type 0
 GivesTxn new runs was g first now = IsPieceRun MayTxnPiece IsTxnPiece (AtTxn new) (txn_left new.made new.stage) was runs g first now
@@ -202,7 +202,7 @@ by-unmap made g now later goal (Other (Other (This end))) left show = absurd lef
 by-unmap made g now later goal (Other (Other (Other (This word)))) left show = show word left
 by-unmap made g now later goal (Other (Other (Other (Other end)))) left show = absurd left
 
-pub by-decide : (made : Geometry × DecideMade) (g : Geometry) (now later : View) (goal : TxnEnds → Type 0) (end : TxnEnds) → TxnPieceLeaves (Other (Other (Other (Other made)))) g now end later → ((end : Decided) → IsDecided made.1 now later → goal (Other (Other (Other (Other end))))) → goal end
+pub by-decide : (made : Geometry × DecideMade) (g : Geometry) (now later : View) (goal : TxnEnds → Type 0) (end : TxnEnds) → TxnPieceLeaves (Other (Other (Other (Other made)))) g now end later → ((end : Decided) → IsDecision made.1 now later → goal (Other (Other (Other (Other end))))) → goal end
 by-decide made g now later goal (This end) left show = absurd left
 by-decide made g now later goal (Other (This number)) left show = absurd left
 by-decide made g now later goal (Other (Other (This end))) left show = absurd left

@@ -13,11 +13,11 @@ use Rattle.nm_prepare.specs.Preparing.{IsPrepare}
 use Rattle.nm_commit.specs.declared.decide.DecideMade.{DecideMade}
 use Rattle.nm_commit.specs.declared.decide.Decided.{Decided}
 use Rattle.nm_commit.specs.declared.unmap.UnmapMade.{UnmapMade}
-use Rattle.nm_commit.specs.Unmapping.{IsUnmapping}
+use Rattle.nm_commit.specs.Unmapping.{UnmapsOne}
 use Rattle.nm_commit.specs.Deciding.{IsDeciding}
 use Rattle.nm_txn.specs.declared.end.TxnEnd.{TxnEnd}
 use Rattle.nm_txn.specs.declared.end.TxnEnd.TheVariants.{Busy}
-use Rattle.nm_txn.specs.Transactions.{early_end, decided_end, Decides, FlushesAgain, Unmaps, Copies, Flushes, AfterPrepare, IsTxn}
+use Rattle.nm_txn.specs.Transactions.{early_end, decided_end, Decides, FlushesAgain, Unmaps, Copies, FlushesFirst, AfterPrepare, IsTxn}
 use Rattle.nm_txn.specs.Stages.{deciding}
 use Rattle.nm_txn.specs.declared.batch.ReadyPiece.{ReadyPiece}
 use Rattle.nm_txn.specs.Batches.{ready_of, ends_of, AfterPrepares, IsBatch, one_piece, IsOneTransaction}
@@ -43,7 +43,7 @@ from-batch made g (prepared.Closed early) own end h = ends-one own (early_end ea
 from-batch made g (prepared.Ready home frame) own end h =
     follows-map (IsShootdown g.cpus) _ (λ number. Copies g made home frame) own (end ∷ []) end (λ number own h.
     follows-map (IsCopying (record { page = made.page; frame = frame; words = g.words }) g) _ (λ copied. Unmaps g made home frame) own (end ∷ []) end (λ copied own h.
-    follows-map (IsUnmapping (record { page = made.page; vpage = made.vpage }) g) _ (λ word. FlushesAgain g made home frame word) own (end ∷ []) end (λ word own h.
+    follows-map (UnmapsOne (record { page = made.page; vpage = made.vpage }) g) _ (λ word. FlushesAgain g made home frame word) own (end ∷ []) end (λ word own h.
     follows-map (IsShootdown g.cpus) _ (λ number. Decides g made home frame word) own (end ∷ []) end (λ number own h.
     follows-map (IsDeciding (deciding made home frame word) g) _ (λ decided. Ends (decided_end decided)) own (end ∷ []) end (λ decided own h.
     ends-one own (decided_end decided) end h) h) h) h) h) h
@@ -55,7 +55,7 @@ to-batch made g (prepared.Closed early) own end h = one-ends own (early_end earl
 to-batch made g (prepared.Ready home frame) own end h =
     follows-map (IsShootdown g.cpus) (λ number. Copies g made home frame) _ own end (end ∷ []) (λ number own h.
     follows-map (IsCopying (record { page = made.page; frame = frame; words = g.words }) g) (λ copied. Unmaps g made home frame) _ own end (end ∷ []) (λ copied own h.
-    follows-map (IsUnmapping (record { page = made.page; vpage = made.vpage }) g) (λ word. FlushesAgain g made home frame word) _ own end (end ∷ []) (λ word own h.
+    follows-map (UnmapsOne (record { page = made.page; vpage = made.vpage }) g) (λ word. FlushesAgain g made home frame word) _ own end (end ∷ []) (λ word own h.
     follows-map (IsShootdown g.cpus) (λ number. Decides g made home frame word) _ own end (end ∷ []) (λ number own h.
     follows-map (IsDeciding (deciding made home frame word) g) (λ decided. Ends (decided_end decided)) _ own end (end ∷ []) (λ decided own h.
     one-ends own (decided_end decided) end h) h) h) h) h) h

@@ -14,10 +14,10 @@ use Rattle.nm_prepare.proofs.Closing.{may-here}
 use Rattle.nm_txn.specs.declared.end.TxnEnd.{TxnEnd}
 use Rattle.nm_txn.specs.declared.end.TxnEnd.TheVariants as ends
 use Rattle.nm_txn.specs.declared.txn.TxnStage.TheVariants.{Preparing, Flushing, Copying, Unmapping, FlushingAgain, Deciding}
-use Rattle.nm_txn.specs.Transactions.{early_end, decided_end, Flushes}
+use Rattle.nm_txn.specs.Transactions.{early_end, decided_end, FlushesFirst}
 use Rattle.nm_txn.specs.Leaving.{MayTxn, IsTxnLeft}
 use Rattle.nm_txn.specs.Pieces.{TxnEnds, TxnPieceLeaves}
-use Rattle.nm_txn.specs.Stages.{word_in, end_in, deciding, txn_piece, txn_left, TxnKnown, IsBegun}
+use Rattle.nm_txn.specs.Stages.{txn_word_in, end_in, deciding, txn_piece, txn_left, TxnKnown, IsTxnBegun}
 use Rattle.nm_txn.proofs.Runs.{RunsTxn, by-flush, by-copy, by-unmap, by-decide}
 use Rattle.nm_txn.proofs.Moving.{runs-flushing, runs-copying, runs-unmapping, runs-flushing-again, runs-deciding, decided-left}
 
@@ -35,7 +35,7 @@ closed-early made view left early.Gone h = h
 closed-early made view left early.Worn h = h
 
 -- the work ended early
-pub after-closed : (made : PrepareMade) (g : Geometry) (first now later : View) (early : Early) → IsBegun made g first now → HasClosed made.page now later → IsTxnLeft made first (early_end early) later
+pub after-closed : (made : PrepareMade) (g : Geometry) (first now later : View) (early : Early) → IsTxnBegun made g first now → HasClosed made.page now later → IsTxnLeft made first (early_end early) later
 after-closed made g first now later early k left = let V : View → Type 0 = λ v. HasClosed made.page v later in closed-early made first later early (subst V k.begun left)
 
 pub after-flushing : (made : PrepareMade) (g : Geometry) (first now later : View) (home frame : ℕ) (end : TxnEnds) → TxnKnown made (Flushing home frame) g first now → TxnPieceLeaves (txn_piece g made (Flushing home frame)) g now end later
@@ -51,9 +51,9 @@ after-copying made g first now later home frame end k a =
     (λ copied c. runs-unmapping made g first now later home frame k c)
 
 pub after-unmapping : (made : PrepareMade) (g : Geometry) (first now later : View) (home frame : ℕ) (end : TxnEnds) → TxnKnown made (Unmapping home frame) g first now → TxnPieceLeaves (txn_piece g made (Unmapping home frame)) g now end later
-    → RunsTxn made (FlushingAgain home frame (word_in end)) (txn_left made (Unmapping home frame) g end) g first later
+    → RunsTxn made (FlushingAgain home frame (txn_word_in end)) (txn_left made (Unmapping home frame) g end) g first later
 after-unmapping made g first now later home frame end k a =
-    by-unmap (record { page = made.page; vpage = made.vpage }) g now later (λ e. RunsTxn made (FlushingAgain home frame (word_in e)) (txn_left made (Unmapping home frame) g e) g first later) end a
+    by-unmap (record { page = made.page; vpage = made.vpage }) g now later (λ e. RunsTxn made (FlushingAgain home frame (txn_word_in e)) (txn_left made (Unmapping home frame) g e) g first later) end a
     (λ word u. runs-flushing-again made g first now later home frame word k u)
 
 pub after-flushing-again : (made : PrepareMade) (g : Geometry) (first now later : View) (home frame word : ℕ) (end : TxnEnds) → TxnKnown made (FlushingAgain home frame word) g first now → TxnPieceLeaves (txn_piece g made (FlushingAgain home frame word)) g now end later

@@ -12,14 +12,14 @@ use Rattle.nm_prepare.specs.declared.prepare.Prepared.TheVariants as prepared
 use Rattle.nm_prepare.specs.Preparing.{IsPrepare}
 use Rattle.nm_commit.specs.declared.decide.DecideMade.{DecideMade}
 use Rattle.nm_commit.specs.declared.decide.Decided.{Decided}
-use Rattle.nm_commit.specs.Unmapping.{IsUnmapping}
+use Rattle.nm_commit.specs.Unmapping.{UnmapsOne}
 use Rattle.nm_commit.specs.Deciding.{IsDeciding}
 use Rattle.nm_txn.specs.declared.batch.ReadyPiece.{ReadyPiece}
 use Rattle.nm_txn.specs.declared.end.TxnEnd.{TxnEnd}
 use Rattle.nm_txn.specs.declared.end.TxnEnd.TheVariants.{Busy}
 use Rattle.nm_txn.specs.Transactions.{early_end, decided_end, IsTxn}
 
--- the pieces of a batch: pages, each with the virtual page that alone is to have a table word; and what the actor has drawn
+-- the pieces of a batch: pages, each with the virtual page that alone is to have a table word; and what the actor has drawn_with
 pub record BatchMade : Type 0 where
   pub pieces : List (ℕ × ℕ)
   pub spent : Spent
@@ -31,15 +31,15 @@ count_ready (prepared.Busy ∷ ends) = count_ready ends
 count_ready (prepared.Closed early ∷ ends) = count_ready ends
 count_ready (prepared.Ready home frame ∷ ends) = suc (count_ready ends)
 
--- what is drawn after a piece was prepared: one raise where it is ready
+-- what is drawn_with after a piece was prepared: one raise where it is ready
 abbrev pub drawn_after : Spent → Prepared → Spent
 drawn_after spent prepared.Busy = spent
 drawn_after spent (prepared.Closed early) = spent
 drawn_after spent (prepared.Ready home frame) = record spent { raises = spent.raises + 1 }
 
-abbrev pub drawn : Spent → List Prepared → Spent
-drawn spent [] = spent
-drawn spent (end ∷ ends) = drawn (drawn_after spent end) ends
+abbrev pub drawn_with : Spent → List Prepared → Spent
+drawn_with spent [] = spent
+drawn_with spent (end ∷ ends) = drawn_with (drawn_after spent end) ends
 
 -- the pieces that are ready, in order, by how each was prepared
 abbrev pub ready_with : ℕ × ℕ → Prepared → List ReadyPiece → List ReadyPiece
@@ -79,7 +79,7 @@ FlushesAgain g ends taken = Follows (IsShootdown g.cpus) (λ number. DecidesEach
 
 -- 5. For each ready piece: its virtual page is unmapped, and raised.
 abbrev pub UnmapsNext : Geometry → ReadyPiece → List ℕ → (List ℕ → Own → List TxnEnd → Type 0) → Own → List TxnEnd → Type 0
-UnmapsNext g piece kept after = Follows (IsUnmapping (record { page = piece.page; vpage = piece.vpage }) g) (λ word. after (kept ++ word ∷ []))
+UnmapsNext g piece kept after = Follows (UnmapsOne (record { page = piece.page; vpage = piece.vpage }) g) (λ word. after (kept ++ word ∷ []))
 
 abbrev pub UnmapsEach : Geometry → List Prepared → List ReadyPiece → Own → List TxnEnd → Type 0
 UnmapsEach g ends ready = Each (UnmapsNext g) ready [] (λ words. FlushesAgain g ends (taken_of ready words))
@@ -96,9 +96,9 @@ abbrev pub AfterPrepares : Geometry → List Prepared → List ReadyPiece → Ow
 AfterPrepares g ends [] = Ends (ends_of ends [])
 AfterPrepares g ends (piece ∷ pieces) = Follows (IsShootdown g.cpus) (λ number. CopiesEach g ends (piece ∷ pieces))
 
--- 1. Each piece in order is prepared, by what was drawn so far.
+-- 1. Each piece in order is prepared, by what was drawn_with so far.
 abbrev pub PreparesNext : Geometry → BatchMade → ℕ × ℕ → List Prepared → (List Prepared → Own → List TxnEnd → Type 0) → Own → List TxnEnd → Type 0
-PreparesNext g made piece kept after = Follows (IsPrepare (record { page = piece.0; vpage = piece.1; spent = drawn made.spent kept }) g) (λ end. after (kept ++ end ∷ []))
+PreparesNext g made piece kept after = Follows (IsPrepare (record { page = piece.0; vpage = piece.1; spent = drawn_with made.spent kept }) g) (λ end. after (kept ++ end ∷ []))
 
 -- the batch, and the end of each of its pieces
 abbrev pub IsBatch : BatchMade → Geometry → Own → List TxnEnd → Type 0

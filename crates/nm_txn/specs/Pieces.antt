@@ -18,15 +18,15 @@ use Rattle.nm_shoot.specs.declared.shoot.Shoot.{Shoot}
 use Rattle.nm_copying.specs.Copying.{IsCopying, MayCopies, IsCopied, copies_left, copies_stages}
 use Rattle.nm_copying.specs.declared.copies.Copies.{Copies}
 use Rattle.nm_copying.specs.declared.copies.CopiesMade.{CopiesMade}
-use Rattle.nm_prepare.specs.Placing.{IsPlaced}
+use Rattle.nm_prepare.specs.Placing.{IsPlanPlaced}
 use Rattle.nm_prepare.specs.Preparing.{IsPrepare}
 use Rattle.nm_prepare.specs.Ready.{MayPrepare, IsPrepared}
-use Rattle.nm_prepare.specs.Stages.{Piece, piece_made, IsNewPiece, MayPiece, IsPiece, prepare_piece, prepare_left, PrepareKnown}
+use Rattle.nm_prepare.specs.Stages.{Piece, piece_made, IsNewPiece, MayPiece, IsPreparePiece, prepare_piece, prepare_left, PrepareKnown}
 use Rattle.nm_prepare.specs.declared.prepare.Prepare.{Prepare}
 use Rattle.nm_prepare.specs.declared.prepare.PrepareMade.{PrepareMade}
 use Rattle.nm_prepare.specs.declared.prepare.Prepared.{Prepared}
-use Rattle.nm_commit.specs.Unmapping.{IsUnmapping, MayUnmapping, IsUnmappedOne, unmap_left, unmap_stages}
-use Rattle.nm_commit.specs.Deciding.{IsDeciding, MayDecide, IsDecided}
+use Rattle.nm_commit.specs.Unmapping.{UnmapsOne, MayUnmapping, IsUnmappedOne, unmap_left, unmap_stages}
+use Rattle.nm_commit.specs.Deciding.{IsDeciding, MayDecide, IsDecision}
 use Rattle.nm_commit.specs.Stages.{decide_made, IsNewDecidePiece, MayDecidePiece, IsDecidePiece, decide_piece, decide_left, DecideKnown}
 use Rattle.nm_commit.specs.declared.unmap.UnmapOne.{UnmapOne}
 use Rattle.nm_commit.specs.declared.unmap.UnmapMade.{UnmapMade}
@@ -63,17 +63,17 @@ txn_parts = or_made (λ c. record { 0 = c.plan.geometry.now; 1 = c.plan.made }) 
 -- they have given no action
 
 abbrev pub IsNewPrepare : PreparePart → Type 0
-IsNewPrepare c = HasFirst piece_made IsNewPiece MayPiece IsPiece (IsPlaced prepare_piece PrepareKnown c.plan.geometry.now c.plan.made c.plan.stage) (prepare_left c.plan.made c.plan.stage)
+IsNewPrepare c = HasFirst piece_made IsNewPiece MayPiece IsPreparePiece (IsPlanPlaced prepare_piece PrepareKnown c.plan.geometry.now c.plan.made c.plan.stage) (prepare_left c.plan.made c.plan.stage)
     (λ (made : Geometry × PrepareMade) g view. MayPrepare made.0 made.1 g view) (λ (made : Geometry × PrepareMade) g own outcome. IsPrepare made.1 g own outcome) (record { 0 = c.plan.geometry.now; 1 = c.plan.made }) c.piece
 
 abbrev pub IsNewCopies : CopiesPart → Type 0
 IsNewCopies c = HasFirst (λ (a : Act). a.action) (λ a. Unit {0}) (λ action g view. MayAct g view action) IsAct (IsPieceAt copies_stages c.plan.made c.plan.stage) (copies_left c.plan.made c.plan.stage) MayCopies IsCopying c.plan.made c.piece
 
 abbrev pub IsNewUnmap : UnmapPart → Type 0
-IsNewUnmap c = HasFirst (λ (a : Act). a.action) (λ a. Unit {0}) (λ action g view. MayAct g view action) IsAct (IsPieceAt unmap_stages c.plan.made c.plan.stage) (unmap_left c.plan.made c.plan.stage) MayUnmapping IsUnmapping c.plan.made c.piece
+IsNewUnmap c = HasFirst (λ (a : Act). a.action) (λ a. Unit {0}) (λ action g view. MayAct g view action) IsAct (IsPieceAt unmap_stages c.plan.made c.plan.stage) (unmap_left c.plan.made c.plan.stage) MayUnmapping UnmapsOne c.plan.made c.piece
 
 abbrev pub IsNewDecide : DecidePart → Type 0
-IsNewDecide c = HasFirst decide_made IsNewDecidePiece MayDecidePiece IsDecidePiece (IsPlaced decide_piece DecideKnown c.plan.geometry.now c.plan.made c.plan.stage) (decide_left c.plan.made c.plan.stage)
+IsNewDecide c = HasFirst decide_made IsNewDecidePiece MayDecidePiece IsDecidePiece (IsPlanPlaced decide_piece DecideKnown c.plan.geometry.now c.plan.made c.plan.stage) (decide_left c.plan.made c.plan.stage)
     (λ (made : Geometry × DecideMade) g view. MayDecide made.0 made.1 g view) (λ (made : Geometry × DecideMade) g own outcome. IsDeciding made.1 g own outcome) (record { 0 = c.plan.geometry.now; 1 = c.plan.made }) c.piece
 
 abbrev pub IsNewTxnPiece : TxnPiece → Type 0
@@ -85,7 +85,7 @@ abbrev pub MayTxnPiece : TxnParts → Geometry → View → Type 0
 MayTxnPiece = MayBeginOr (λ made g view. MayPrepare made.0 made.1 g view) (MayBeginOr MayShoot (MayBeginOr MayCopies (MayBeginOr MayUnmapping (λ made g view. MayDecide made.0 made.1 g view))))
 
 abbrev pub IsTxnPiece : TxnParts → Geometry → Own → TxnEnds → Type 0
-IsTxnPiece = IsOr (λ made g own outcome. IsPrepare made.1 g own outcome) (IsOr (λ cpus g own number. IsShootdown cpus own number) (IsOr IsCopying (IsOr IsUnmapping (λ made g own outcome. IsDeciding made.1 g own outcome))))
+IsTxnPiece = IsOr (λ made g own outcome. IsPrepare made.1 g own outcome) (IsOr (λ cpus g own number. IsShootdown cpus own number) (IsOr IsCopying (IsOr UnmapsOne (λ made g own outcome. IsDeciding made.1 g own outcome))))
 
 abbrev pub TxnPieceLeaves : TxnParts → Geometry → View → TxnEnds → View → Type 0
-TxnPieceLeaves = LeavesOr (λ made g view outcome left. IsPrepared made.1 g view outcome left) (LeavesOr (λ cpus g view number left. IsFlushed g view number left) (LeavesOr (λ made g view end left. IsCopied made view left) (LeavesOr IsUnmappedOne (λ made g view outcome left. IsDecided made.1 view left))))
+TxnPieceLeaves = LeavesOr (λ made g view outcome left. IsPrepared made.1 g view outcome left) (LeavesOr (λ cpus g view number left. IsFlushed g view number left) (LeavesOr (λ made g view end left. IsCopied made view left) (LeavesOr IsUnmappedOne (λ made g view outcome left. IsDecision made.1 view left))))

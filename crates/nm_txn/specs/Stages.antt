@@ -48,12 +48,12 @@ txn_piece g made (FlushingAgain home frame word) = Other (This g.cpus)
 txn_piece g made (Deciding home frame word) = Other (Other (Other (Other (record { 0 = g; 1 = deciding made home frame word }))))
 
 -- the word that the unmapping took (0 where the piece was none, of which nothing is claimed)
-abbrev pub word_in : TxnEnds → ℕ
-word_in (This end) = 0
-word_in (Other (This number)) = 0
-word_in (Other (Other (This end))) = 0
-word_in (Other (Other (Other (This word)))) = word
-word_in (Other (Other (Other (Other end)))) = 0
+abbrev pub txn_word_in : TxnEnds → ℕ
+txn_word_in (This end) = 0
+txn_word_in (Other (This number)) = 0
+txn_word_in (Other (Other (This end))) = 0
+txn_word_in (Other (Other (Other (This word)))) = word
+txn_word_in (Other (Other (Other (Other end)))) = 0
 
 -- the end of the decision (Busy where the piece was none, of which nothing is claimed)
 abbrev pub end_in : TxnEnds → TxnEnd
@@ -65,40 +65,40 @@ end_in (Other (Other (Other (Other decided)))) = decided_end decided
 
 -- What is left after the piece of a stage, by how it ends.
 
-abbrev pub Nothing : {O : Type 0} → Own → O → Type 0
-Nothing own outcome = ⊥
+abbrev pub NothingInTxn : {O : Type 0} → Own → O → Type 0
+NothingInTxn own outcome = ⊥
 
 abbrev pub by_prepared : {O : Type 0} → (Prepared → Own → O → Type 0) → TxnEnds → Own → O → Type 0
 by_prepared after (This end) = after end
-by_prepared after (Other end) = Nothing
+by_prepared after (Other end) = NothingInTxn
 
 abbrev pub by_flushed : {O : Type 0} → (Own → O → Type 0) → TxnEnds → Own → O → Type 0
-by_flushed after (This end) = Nothing
+by_flushed after (This end) = NothingInTxn
 by_flushed after (Other (This number)) = after
-by_flushed after (Other (Other end)) = Nothing
+by_flushed after (Other (Other end)) = NothingInTxn
 
 abbrev pub by_copied : {O : Type 0} → (Own → O → Type 0) → TxnEnds → Own → O → Type 0
-by_copied after (This end) = Nothing
-by_copied after (Other (This number)) = Nothing
+by_copied after (This end) = NothingInTxn
+by_copied after (Other (This number)) = NothingInTxn
 by_copied after (Other (Other (This end))) = after
-by_copied after (Other (Other (Other end))) = Nothing
+by_copied after (Other (Other (Other end))) = NothingInTxn
 
 abbrev pub by_taken : {O : Type 0} → (ℕ → Own → O → Type 0) → TxnEnds → Own → O → Type 0
-by_taken after (This end) = Nothing
-by_taken after (Other (This number)) = Nothing
-by_taken after (Other (Other (This end))) = Nothing
+by_taken after (This end) = NothingInTxn
+by_taken after (Other (This number)) = NothingInTxn
+by_taken after (Other (Other (This end))) = NothingInTxn
 by_taken after (Other (Other (Other (This word)))) = after word
-by_taken after (Other (Other (Other (Other end)))) = Nothing
+by_taken after (Other (Other (Other (Other end)))) = NothingInTxn
 
 abbrev pub by_decided : {O : Type 0} → (Decided → Own → O → Type 0) → TxnEnds → Own → O → Type 0
-by_decided after (This end) = Nothing
-by_decided after (Other (This number)) = Nothing
-by_decided after (Other (Other (This end))) = Nothing
-by_decided after (Other (Other (Other (This word)))) = Nothing
+by_decided after (This end) = NothingInTxn
+by_decided after (Other (This number)) = NothingInTxn
+by_decided after (Other (Other (This end))) = NothingInTxn
+by_decided after (Other (Other (Other (This word)))) = NothingInTxn
 by_decided after (Other (Other (Other (Other decided)))) = after decided
 
 abbrev pub txn_left : PrepareMade → TxnStage → Geometry → TxnEnds → Own → TxnEnd → Type 0
-txn_left made Idle g = by_prepared (λ end. Nothing)
+txn_left made Idle g = by_prepared (λ end. NothingInTxn)
 txn_left made Preparing g = by_prepared (AfterPrepare g made)
 txn_left made (Flushing home frame) g = by_flushed (Copies g made home frame)
 txn_left made (Copying home frame) g = by_copied (Unmaps g made home frame)
@@ -139,7 +139,7 @@ pub record IsTakenOp (g : Geometry) (page v word home : ℕ) (o : Op) : Type 0 w
   pub due : o.due ≡ true
   pub dry : o.wet ≡ []
 
--- what holds from the first flush on: of the page, of its home, of the new frame, and of what the actor has drawn
+-- what holds from the first flush on: of the page, of its home, of the new frame, and of what the actor has drawn_with
 pub record IsMoving (made : PrepareMade) (g : Geometry) (view : View) (home frame : ℕ) : Type 0 where
   pub may : MayTxn g made g view
   pub worn : is_worn made.spent ≡ false
@@ -166,7 +166,7 @@ pub record IsMovingWith (made : PrepareMade) (g : Geometry) (view now : View) (h
   pub is : now ≡ moving op (owning frame fill view.owned) scan bumps raises view
 
 -- it has begun
-pub record IsBegun (made : PrepareMade) (g : Geometry) (view now : View) : Type 0 where
+pub record IsTxnBegun (made : PrepareMade) (g : Geometry) (view now : View) : Type 0 where
   pub may : MayTxn g made g view
   pub begun : now ≡ view
 
@@ -178,7 +178,7 @@ pub record IsReadied (made : PrepareMade) (g : Geometry) (view now : View) (home
 -- what is known at a stage
 abbrev pub TxnKnown : PrepareMade → TxnStage → Geometry → View → View → Type 0
 TxnKnown made Idle g view now = ⊥
-TxnKnown made Preparing g view now = IsBegun made g view now
+TxnKnown made Preparing g view now = IsTxnBegun made g view now
 TxnKnown made (Flushing home frame) g view now = IsReadied made g view now home frame
 TxnKnown made (Copying home frame) g view now = IsMovingWith made g view now home frame (IsUncopiedOp g made.page made.vpage home) Raw 1 1
 TxnKnown made (Unmapping home frame) g view now = IsMovingWith made g view now home frame (IsClearedOp g made.page made.vpage home) (Copied made.page g.words) 1 1

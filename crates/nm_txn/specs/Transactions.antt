@@ -13,7 +13,7 @@ use Rattle.nm_prepare.specs.declared.prepare.Prepared.TheVariants as prepared
 use Rattle.nm_prepare.specs.Preparing.{IsPrepare}
 use Rattle.nm_commit.specs.declared.decide.Decided.{Decided}
 use Rattle.nm_commit.specs.declared.decide.Decided.TheVariants as decided
-use Rattle.nm_commit.specs.Unmapping.{IsUnmapping}
+use Rattle.nm_commit.specs.Unmapping.{UnmapsOne}
 use Rattle.nm_commit.specs.Deciding.{IsDeciding}
 use Rattle.nm_txn.specs.declared.end.TxnEnd.{TxnEnd}
 use Rattle.nm_txn.specs.declared.end.TxnEnd.TheVariants.{Committed, Aborted, NoFrame, Gone, Worn, Busy}
@@ -39,21 +39,21 @@ FlushesAgain g made home frame word = Follows (IsShootdown g.cpus) (λ number. D
 
 -- 9. v is unmapped, and raised.
 abbrev pub Unmaps : Geometry → PrepareMade → ℕ → ℕ → Own → TxnEnd → Type 0
-Unmaps g made home frame = Follows (IsUnmapping (record { page = made.page; vpage = made.vpage }) g) (λ word. FlushesAgain g made home frame word)
+Unmaps g made home frame = Follows (UnmapsOne (record { page = made.page; vpage = made.vpage }) g) (λ word. FlushesAgain g made home frame word)
 
 -- 8. The page is copied into the new frame.
 abbrev pub Copies : Geometry → PrepareMade → ℕ → ℕ → Own → TxnEnd → Type 0
 Copies g made home frame = Follows (IsCopying (record { page = made.page; frame = frame; words = g.words }) g) (λ copied. Unmaps g made home frame)
 
 -- 7. The first flush.
-abbrev pub Flushes : Geometry → PrepareMade → ℕ → ℕ → Own → TxnEnd → Type 0
-Flushes g made home frame = Follows (IsShootdown g.cpus) (λ number. Copies g made home frame)
+abbrev pub FlushesFirst : Geometry → PrepareMade → ℕ → ℕ → Own → TxnEnd → Type 0
+FlushesFirst g made home frame = Follows (IsShootdown g.cpus) (λ number. Copies g made home frame)
 
 -- 1 to 6.
 abbrev pub AfterPrepare : Geometry → PrepareMade → Prepared → Own → TxnEnd → Type 0
 AfterPrepare g made prepared.Busy = Ends Busy
 AfterPrepare g made (prepared.Closed early) = Ends (early_end early)
-AfterPrepare g made (prepared.Ready home frame) = Flushes g made home frame
+AfterPrepare g made (prepared.Ready home frame) = FlushesFirst g made home frame
 
 abbrev pub IsTxn : PrepareMade → Geometry → Own → TxnEnd → Type 0
 IsTxn made g = Follows (IsPrepare made g) (AfterPrepare g made)

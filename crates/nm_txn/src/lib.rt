@@ -10,4 +10,4 @@ pub mod txn;
 pub use batch::{ReadyPiece, a_batch_of_one_piece_is_one_transaction};
 pub use end::TxnEnd;
 pub use task::TxnTask;
-pub use txn::{Txn, TxnPiece, TxnPieceEnd, word_in};
+pub use txn::{Txn, TxnPiece, TxnPieceEnd, txn_word_in};

@@ -2,7 +2,7 @@
 
 ghost use Rattle.std.specs.Prelude.{◌≡◌};
 ghost use Rattle.nm_txn.specs.Pieces.{txn_parts, IsNewTxnPiece};
-ghost use Rattle.nm_txn.specs.Stages.{txn_piece, word_in, end_in};
+ghost use Rattle.nm_txn.specs.Stages.{txn_piece, txn_word_in, end_in};
 
 use crate::end::TxnEnd;
 use nm_base::Geometry;
@@ -54,7 +54,7 @@ pub struct Txn<'a> {
 }
 
 impl<'a> Txn<'a> {
-    /// The transaction of a page and one of its virtual pages. `spent` is what the actor has drawn.
+    /// The transaction of a page and one of its virtual pages. `spent` is what the actor has drawn_with.
     pub fn new(g: &'a Geometry, page: u32, vpage: u32, spent: Spent) -> Txn<'a>
         ensures geometry { result.geometry.now ≡ g.now }
         ensures made { result.made ≡ record { page = page; vpage = vpage; spent = spent } }
@@ -106,8 +106,8 @@ impl<'a> Txn<'a> {
 }
 
 /// The word that the unmapping took (0 where the piece was none, of which nothing is claimed).
-pub fn word_in(end: TxnPieceEnd) -> u64
-    ensures { result ≡ word_in end }
+pub fn txn_word_in(end: TxnPieceEnd) -> u64
+    ensures { result ≡ txn_word_in end }
 {
     let Or::Other(end) = end else { return 0 };
     let Or::Other(end) = end else { return 0 };
@@ -137,7 +137,7 @@ impl<'a> Plan<TxnPiece<'a>> for Txn<'a> {
     type Made = (Geometry, PrepareMade);
 
     ghost use Rattle.std.specs.Prelude.{◌≡◌};
-    ghost use Rattle.nm_prepare.specs.Placing.{IsPlaced};
+    ghost use Rattle.nm_prepare.specs.Placing.{IsPlanPlaced};
     ghost use Rattle.nm_txn.specs.declared.txn.TxnStage.TheVariants.{Idle};
     ghost use Rattle.nm_txn.specs.Transactions.{IsTxn};
     ghost use Rattle.nm_txn.specs.Leaving.{MayTxn, IsTxnLeft};
@@ -153,7 +153,7 @@ impl<'a> Plan<TxnPiece<'a>> for Txn<'a> {
 
     ghost leaves = { λ made g view outcome left. IsTxnLeft made.1 view outcome left };
 
-    ghost knows = { λ s. IsPlaced txn_piece TxnKnown s.geometry.now s.made s.stage };
+    ghost knows = { λ s. IsPlanPlaced txn_piece TxnKnown s.geometry.now s.made s.stage };
 
     ghost left = { λ s. txn_left s.made s.stage };
 
@@ -185,7 +185,7 @@ impl<'a> Plan<TxnPiece<'a>> for Txn<'a> {
                 Next::Run(self.go(TxnStage::Unmapping { home, frame }))
             }
             TxnStage::Unmapping { home, frame } => {
-                let word = word_in(end);
+                let word = txn_word_in(end);
                 Next::Run(self.go(TxnStage::FlushingAgain { home, frame, word }))
             }
             TxnStage::FlushingAgain { home, frame, word } => {

@@ -7,7 +7,7 @@ use Rattle.nm_txn.specs.declared.end.TxnEnd.TheVariants as ends
 use Rattle.nm_txn.specs.declared.txn.TxnStage.TheVariants.{Preparing, Flushing, Copying, Unmapping, FlushingAgain, Deciding}
 use Rattle.nm_txn.specs.Transactions.{early_end}
 use Rattle.nm_txn.specs.Pieces.{txn_parts}
-use Rattle.nm_txn.specs.Stages.{word_in, end_in, txn_left}
+use Rattle.nm_txn.specs.Stages.{txn_word_in, end_in, txn_left}
 use Rattle.nm_txn.proofs.Runs.{step-txn, over-txn, IsTxnOver, RunsTxn}
 use Rattle.nm_txn.proofs.Moving.{runs-flushing}
 use Rattle.nm_txn.proofs.Steps.{after-closed, after-flushing, after-copying, after-unmapping, after-flushing-again, after-deciding}
