@@ -1,0 +1,3 @@
+pub mod Unmapping
+pub mod Deciding
+pub mod Stages

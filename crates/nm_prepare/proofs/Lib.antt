@@ -1,0 +1,11 @@
+pub mod Placed
+pub mod Lists
+pub mod Found
+pub mod Held
+pub mod Ending
+pub mod Runs
+pub mod Closing
+pub mod Taking
+pub mod Looked
+pub mod Clearing
+pub mod Steps

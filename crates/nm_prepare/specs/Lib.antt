@@ -1,0 +1,5 @@
+pub mod Placing
+pub mod Worn
+pub mod Preparing
+pub mod Ready
+pub mod Stages

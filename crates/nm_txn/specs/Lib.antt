@@ -1,0 +1,6 @@
+pub mod Transactions
+pub mod Batches
+pub mod Leaving
+pub mod Pieces
+pub mod Stages
+pub mod Tasks
