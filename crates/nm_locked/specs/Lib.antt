@@ -1,0 +1,7 @@
+pub mod Choosing
+pub mod Chosen
+pub mod Stages
+pub mod Moves
+pub mod Leaving
+pub mod Pieces
+pub mod Places
