@@ -35,7 +35,7 @@ use Rattle.nm_transfer.specs.declared.transfer.TransferMade.{TransferMade}
 use Rattle.nm_transfer.specs.Transferring.{IsTransfer}
 use Rattle.nm_transfer.specs.Stages.{HoldsWords}
 use Rattle.nm_transfer.proofs.Running.{some-transfer}
-use Rattle.nm_prepare.specs.Placing.{IsPlaced, RunsPlaced}
+use Rattle.nm_prepare.specs.Placing.{IsPlanPlaced, RunsPlaced}
 use Rattle.nm_prepare.proofs.Placed.{at-placed, run-placed}
 use Rattle.nm_prepare.proofs.Ending.{some-back}
 use Rattle.nm_locked.specs.declared.choose.ChooseMade.{ChooseMade}
@@ -50,8 +50,8 @@ use Rattle.nm_locked.specs.declared.locked.LockedStage.{LockedStage}
 use Rattle.nm_locked.specs.declared.locked.LockedStage.TheVariants.{Choosing, Moving, Marking, Unlocking, GivingBack}
 use Rattle.nm_locked.specs.declared.locked.Locked.{Locked}
 use Rattle.nm_locked.specs.Choosing.{IsChoosing}
-use Rattle.nm_locked.specs.Chosen.{MayChoose, HasReady, HasClosed}
-use Rattle.nm_locked.specs.Moves.{GivesBack, UnlocksMoved, Marks, locked_transfer, Moves, early_end, AfterChoosing, IsLocked}
+use Rattle.nm_locked.specs.Chosen.{MayChoose, HasReadyInMove, HasClosedInMove}
+use Rattle.nm_locked.specs.Moves.{GivesBackInMove, UnlocksMoved, MarksInMove, locked_transfer, Moves, move_early_end, AfterChoosing, IsLockedInMove}
 use Rattle.nm_locked.specs.Leaving.{IsLockedLeft}
 use Rattle.nm_locked.specs.Stages.{IsPoolOf}
 use Rattle.nm_locked.specs.Pieces.{LockedParts, LockedPieceEnd, MayLockedPiece, IsChoosingOf, IsLockedPiece, LockedPieceLeaves, LockedPiece, locked_parts, IsNewLockedPiece}
@@ -62,22 +62,22 @@ use Rattle.nm_locked.proofs.Moving.{transfer-may, transfer-left, moved-on, unloc
 
 -- What is left can end.
 
-can-gives-back : (g : Geometry) (made : ChooseMade) (home : ℕ) → CanEnd (GivesBack g made home)
+can-gives-back : (g : Geometry) (made : ChooseMade) (home : ℕ) → CanEnd (GivesBackInMove g made home)
 can-gives-back g made home = can-follow (IsPool g (Back home)) (λ back. Ends ends.Moved) (some-back g home) (can-ends ends.Moved)
 
 can-unlocks-moved : (g : Geometry) (made : ChooseMade) (home : ℕ) → CanEnd (UnlocksMoved g made home)
-can-unlocks-moved g made home = can-follow (IsAct (Unlock made.page) g) (λ unlocked. GivesBack g made home) (some-act (Unlock made.page) g) (can-gives-back g made home)
+can-unlocks-moved g made home = can-follow (IsAct (Unlock made.page) g) (λ unlocked. GivesBackInMove g made home) (some-act (Unlock made.page) g) (can-gives-back g made home)
 
-can-marks : (g : Geometry) (made : ChooseMade) (home : ℕ) → CanEnd (Marks g made home)
+can-marks : (g : Geometry) (made : ChooseMade) (home : ℕ) → CanEnd (MarksInMove g made home)
 can-marks g made home = can-follow (IsAct (Mark made.page 2 0) g) (λ marked. UnlocksMoved g made home) (some-act (Mark made.page 2 0) g) (can-unlocks-moved g made home)
 
 can-after-choosing : (g : Geometry) (made : ChooseMade) (end : Chosen) → CanEnd (AfterChoosing g made end)
 can-after-choosing g made chosen.Busy = can-ends ends.Busy
-can-after-choosing g made (chosen.Closed why) = can-ends (early_end why)
-can-after-choosing g made (chosen.Ready home frame pages) = can-follow (IsTransfer (locked_transfer g made home frame pages) g) (λ taken. Marks g made home) (some-transfer (locked_transfer g made home frame pages) g) (can-marks g made home)
+can-after-choosing g made (chosen.Closed why) = can-ends (move_early_end why)
+can-after-choosing g made (chosen.Ready home frame pages) = can-follow (IsTransfer (locked_transfer g made home frame pages) g) (λ taken. MarksInMove g made home) (some-transfer (locked_transfer g made home frame pages) g) (can-marks g made home)
 
 -- the pattern has a list
-pub some-locked : (made : ChooseMade) (g : Geometry) → IsGeometry g → CanEnd (IsLocked made g)
+pub some-locked : (made : ChooseMade) (g : Geometry) → IsGeometry g → CanEnd (IsLockedInMove made g)
 some-locked made g h = let some = some-choosing made g h in can-follow (IsChoosing made g) (AfterChoosing g made) some (can-after-choosing g made some.outcome)
 
 -- The list for the words that comes with the end.
@@ -105,7 +105,7 @@ place stage taken = record { stage = stage; taken = taken }
 abbrev ended : (Own → LockedEnd → Type 0) → Own → LockedOver → Type 0
 ended pattern own over = pattern own over.end
 
-pub runs-choosing : (made : ChooseMade) (taken : Option (List (ℕ × ℕ))) (g : Geometry) (view : View) → MayChoose g made g view → HoldsWords taken → RunsLocked made (place Choosing taken) (ended (IsLocked made g)) g view view
+pub runs-choosing : (made : ChooseMade) (taken : Option (List (ℕ × ℕ))) (g : Geometry) (view : View) → MayChoose g made g view → HoldsWords taken → RunsLocked made (place Choosing taken) (ended (IsLockedInMove made g)) g view view
 runs-choosing made taken g view may words = record {
   begin = may;
   known = record { geometry = refl; is = refl; holds = record { stage = record { may = may; begun = refl }; words = words } };
@@ -113,13 +113,13 @@ runs-choosing made taken g view may words = record {
   fits = λ own over f. without-words (IsChoosing made g) (AfterChoosing g made) own over (this-follows IsChoosingOf IsOthers (locked_left made (place Choosing taken) g) (g, made) g own over f);
 }
 
-runs-moving : (made : ChooseMade) (home frame : ℕ) (pages : List ℕ) (taken : Option (List (ℕ × ℕ))) (g : Geometry) (view now : View) → HasReady made g view home frame pages now
+runs-moving : (made : ChooseMade) (home frame : ℕ) (pages : List ℕ) (taken : Option (List (ℕ × ℕ))) (g : Geometry) (view now : View) → HasReadyInMove made g view home frame pages now
     → RunsLocked made (place (Moving home frame pages) taken) (ended (Moves g made home frame pages)) g view now
 runs-moving made home frame pages taken g view now h = record {
   begin = transfer-may made home frame pages g view now h;
   known = record { geometry = refl; is = refl; holds = record { stage = h; words = tt } };
-  can = λ own end shown. with-words (Marks g made home) (can-marks g made home);
-  fits = λ own over f. without-words (IsTransfer (locked_transfer g made home frame pages) g) (λ taken. Marks g made home) own over
+  can = λ own end shown. with-words (MarksInMove g made home) (can-marks g made home);
+  fits = λ own over f. without-words (IsTransfer (locked_transfer g made home frame pages) g) (λ taken. MarksInMove g made home) own over
       (this-follows IsTransfer IsLast (λ end. locked_left made (place (Moving home frame pages) taken) g (Other end)) (locked_transfer g made home frame pages) g own over
       (other-follows IsChoosingOf IsOthers (locked_left made (place (Moving home frame pages) taken) g) (This (locked_transfer g made home frame pages)) g own over f));
 }
@@ -135,7 +135,7 @@ act-fits made here after action g own over same f =
     record { end = h.end; front = h.front; back = h.back; shown = h.shown; rest = same h.front h.back h.end over.end h.rest; is = h.is }
 
 runs-marking : (made : ChooseMade) (home : ℕ) (taken : Option (List (ℕ × ℕ))) (g : Geometry) (view now : View) → IsMovedNow made home g view now → HoldsWords taken
-    → RunsLocked made (place (Marking home) taken) (ended (Marks g made home)) g view now
+    → RunsLocked made (place (Marking home) taken) (ended (MarksInMove g made home)) g view now
 runs-marking made home taken g view now h words = record {
   begin = record { quiet = tt; allowed = record { range = h.slow.may.page; permitted = inr (record { pending = refl; none = refl; op = some-is (op_on now made.page) h.op (moved-on made home g view now h) }) } };
   known = record { geometry = refl; is = refl; holds = record { stage = h; words = words } };
@@ -148,12 +148,12 @@ runs-unlocking : (made : ChooseMade) (home : ℕ) (taken : Option (List (ℕ × 
 runs-unlocking made home taken g view now h words = record {
   begin = record { quiet = tt; allowed = record { range = h.slow.may.page; permitted = subst (λ (x : Option Op). IsSomeAnd x (MayUnlock g)) (sym (moved-on made home g view now h)) h.unlock } };
   known = record { geometry = refl; is = refl; holds = record { stage = h; words = words } };
-  can = λ own end shown. with-words (GivesBack g made home) (can-gives-back g made home);
-  fits = λ own over f. act-fits made (place (Unlocking home) taken) (λ unlocked. GivesBack g made home) (Unlock made.page) g own over (λ front back reply end r. r) f;
+  can = λ own end shown. with-words (GivesBackInMove g made home) (can-gives-back g made home);
+  fits = λ own over f. act-fits made (place (Unlocking home) taken) (λ unlocked. GivesBackInMove g made home) (Unlock made.page) g own over (λ front back reply end r. r) f;
 }
 
 runs-giving-back : (made : ChooseMade) (home : ℕ) (taken : Option (List (ℕ × ℕ))) (g : Geometry) (view now : View) → IsUnlockedNow made home g view now → HoldsWords taken
-    → RunsLocked made (place (GivingBack home) taken) (ended (GivesBack g made home)) g view now
+    → RunsLocked made (place (GivingBack home) taken) (ended (GivesBackInMove g made home)) g view now
 runs-giving-back made home taken g view now h words = record {
   begin = back-may made home g view now h;
   known = record { geometry = refl; is = refl; holds = record { stage = h; words = words } };
@@ -167,7 +167,7 @@ runs-giving-back made home taken g view now h words = record {
 -- What a move does next.
 
 abbrev pub AtLocked : Locked → Geometry → View → View → LockedParts → Type 0
-AtLocked s = IsPlaced locked_piece LockedKnown s.geometry.now s.made (locked_at s)
+AtLocked s = IsPlanPlaced locked_piece LockedKnown s.geometry.now s.made (locked_at s)
 
 abbrev pub GivesLocked : Locked → LockedParts → (Own → LockedOver → Type 0) → Geometry → View → View → Type 0
 GivesLocked new runs was g first now = IsPieceRun MayLockedPiece IsLockedPiece (AtLocked new) (locked_left new.made (locked_at new)) was runs g first now
@@ -201,9 +201,9 @@ DoesOver new made g first later next was = IsNext locked_parts IsNewLockedPiece 
 -- The first piece.
 
 pub begins : (old new : Locked) (runs : LockedParts) (g : Geometry) (view : View) → old.geometry.now ≡ g → new ≡ record old { stage = Choosing } → runs ≡ This (record { 0 = old.geometry.now; 1 = old.made }) → MayChoose old.geometry.now old.made g view → HoldsWords old.taken
-    → GivesLocked new runs (ended (IsLocked old.made g)) g view view
+    → GivesLocked new runs (ended (IsLockedInMove old.made g)) g view view
 begins old new runs g view geometry is acts may words =
-    gives-locked old new (place Choosing old.taken) runs (ended (IsLocked old.made g)) g view view geometry is acts (runs-choosing old.made old.taken g view (may-here old.geometry.now old.made g view may) words)
+    gives-locked old new (place Choosing old.taken) runs (ended (IsLockedInMove old.made g)) g view view geometry is acts (runs-choosing old.made old.taken g view (may-here old.geometry.now old.made g view may) words)
 
 -- The steps before the page is moved.
 
@@ -215,19 +215,19 @@ after-busy-page old new next end runs g first now later own at ended-is known le
     step-locked old Choosing end (This chosen.Busy) runs g first now later own (DoesOver new old.made g first later next) at ended-is known left shown
     (λ k a. over-next new old.made (Ends ends.Busy) ends.Busy g first later next over (ends-now ends.Busy) (a.0 ∙ k.stage.begun))
 
-closed-left : (made : ChooseMade) (why : Early) (view left : View) → HasClosed made.page view left → IsLockedLeft made view (early_end why) left
+closed-left : (made : ChooseMade) (why : Early) (view left : View) → HasClosedInMove made.page view left → IsLockedLeft made view (move_early_end why) left
 closed-left made (early.NoFrame n) view left h = h
 closed-left made early.Gone view left h = h
 closed-left made early.Worn view left h = h
 
 -- the steps before ended early
 pub after-early : (old new : Locked) (next : Next LockedPiece LockedOver) (end : LockedPieceEnd) (why : Early) (over_end : LockedEnd) (runs : LockedParts) (g : Geometry) (first now later : View) (own : Own)
-    → old.stage ≡ Choosing → end ≡ This (chosen.Closed why) → over_end ≡ early_end why → AtLocked old g first now runs → LockedPieceLeaves runs g now end later → IsLockedPiece runs g own end → IsOverWith over_end next
+    → old.stage ≡ Choosing → end ≡ This (chosen.Closed why) → over_end ≡ move_early_end why → AtLocked old g first now runs → LockedPieceLeaves runs g now end later → IsLockedPiece runs g own end → IsOverWith over_end next
     → DoesOver new old.made g first later next (ended (stage_left old.made old.stage g end))
 after-early old new next end why over_end runs g first now later own at ended-is why-is known left shown over =
     step-locked old Choosing end (This (chosen.Closed why)) runs g first now later own (DoesOver new old.made g first later next) at ended-is known left shown
-    (λ k a. over-next new old.made (Ends (early_end why)) (early_end why) g first later next (subst (λ (e : LockedEnd). IsOverWith e next) why-is over) (ends-now (early_end why))
-    (closed-left old.made why first later (subst (λ (v : View). HasClosed old.made.page v later) k.stage.begun a.0)))
+    (λ k a. over-next new old.made (Ends (move_early_end why)) (move_early_end why) g first later next (subst (λ (e : LockedEnd). IsOverWith e next) why-is over) (ends-now (move_early_end why))
+    (closed-left old.made why first later (subst (λ (v : View). HasClosedInMove old.made.page v later) k.stage.begun a.0)))
 
 -- the page is ready
 pub after-ready : (old new : Locked) (given : LockedParts) (end : LockedPieceEnd) (home frame : ℕ) (pages : List ℕ) (runs : LockedParts) (g : Geometry) (first now later : View) (own : Own)
@@ -236,11 +236,11 @@ pub after-ready : (old new : Locked) (given : LockedParts) (end : LockedPieceEnd
 after-ready old new given end home frame pages runs g first now later own at ended-is known left shown is acts =
     step-locked old Choosing end (This (chosen.Ready home frame pages)) runs g first now later own (λ was. GivesLocked new given was g first later) at ended-is known left shown
     (λ k a. gives-locked old new (place (Moving home frame pages) None) given (ended (Moves g old.made home frame pages)) g first later known.geometry is acts
-    (runs-moving old.made home frame pages None g first later (subst (λ (v : View). HasReady old.made g v home frame pages later) k.stage.begun a.0)))
+    (runs-moving old.made home frame pages None g first later (subst (λ (v : View). HasReadyInMove old.made g v home frame pages later) k.stage.begun a.0)))
 
 -- The move, and its end.
 
-transferred : (made : ChooseMade) (home frame : ℕ) (pages : List ℕ) (taken : List (ℕ × ℕ)) (g : Geometry) (view now later : View) (own : Own) → HasReady made g view home frame pages now
+transferred : (made : ChooseMade) (home frame : ℕ) (pages : List ℕ) (taken : List (ℕ × ℕ)) (g : Geometry) (view now later : View) (own : Own) → HasReadyInMove made g view home frame pages now
     → EndsSo own (Other (This (locked_transfer g made home frame pages))) g now (Other (This taken)) later → IsMovedNow made home g view later
 transferred made home frame pages taken g view now later own h a = transfer-left made home frame pages taken g view now later h a.0
 
@@ -249,7 +249,7 @@ pub after-moving : (old new : Locked) (given : LockedParts) (end : LockedPieceEn
     → new ≡ record old { stage = Marking home; taken = Some taken } → given ≡ Other (Other (This (Mark old.made.page 2 0))) → GivesLocked new given (ended (stage_left old.made old.stage g end)) g first later
 after-moving old new given end home frame pages taken runs g first now later own at ended-is known left shown is acts =
     step-locked old (Moving home frame pages) end (Other (This taken)) runs g first now later own (λ was. GivesLocked new given was g first later) at ended-is known left shown
-    (λ k a. gives-locked old new (place (Marking home) (Some taken)) given (ended (Marks g old.made home)) g first later known.geometry is acts
+    (λ k a. gives-locked old new (place (Marking home) (Some taken)) given (ended (MarksInMove g old.made home)) g first later known.geometry is acts
     (runs-marking old.made home (Some taken) g first later (transferred old.made home frame pages taken g first now later own k.stage a) tt))
 
 marked : (made : ChooseMade) (home : ℕ) (g : Geometry) (view now later : View) (own : Own) (end : LockedPieceEnd) → IsMovedNow made home g view now → EndsSo own (Other (Other (This (Mark made.page 2 0)))) g now end later → IsMovedNow made home g view later
@@ -280,7 +280,7 @@ pub after-unlocking-moved : (old new : Locked) (given : LockedParts) (end : Lock
     → new ≡ record old { stage = GivingBack home } → given ≡ Other (Other (Other (pool_made old.geometry.now (Back home)))) → GivesLocked new given (ended (stage_left old.made old.stage g end)) g first later
 after-unlocking-moved old new given end home runs g first now later own at known left shown is acts =
     step-locked old (Unlocking home) end end runs g first now later own (λ was. GivesLocked new given was g first later) at refl known left shown
-    (λ k a. gives-locked old new (place (GivingBack home) old.taken) given (ended (GivesBack g old.made home)) g first later known.geometry is acts
+    (λ k a. gives-locked old new (place (GivingBack home) old.taken) given (ended (GivesBackInMove g old.made home)) g first later known.geometry is acts
     (runs-giving-back old.made home old.taken g first later (unlocked old.made home g first now later own end k.stage a) k.words))
 
 given-back : (made : ChooseMade) (home : ℕ) (g : Geometry) (view now later : View) (own : Own) (end : LockedPieceEnd) → IsUnlockedNow made home g view now → EndsSo own (Other (Other (Other (pool_made g (Back home))))) g now end later → IsLockedLeft made view ends.Moved later

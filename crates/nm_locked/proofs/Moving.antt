@@ -27,7 +27,7 @@ use Rattle.nm_transfer.specs.Moving.{MayTransfer, IsTransferred}
 use Rattle.nm_transfer.proofs.Lists.{erase-put, spoiled-twice}
 use Rattle.nm_prepare.specs.Worn.{is_worn, worn_bumps, worn_raises}
 use Rattle.nm_locked.specs.declared.choose.ChooseMade.{ChooseMade}
-use Rattle.nm_locked.specs.Chosen.{MayChoose, drawn_by, opened_view, looked_op, IsSlowHome, HasSeen, HasReady}
+use Rattle.nm_locked.specs.Chosen.{MayChoose, drawn_by, opened_view, move_looked_op, IsSlowHomeInMove, HasSeenInMove, HasReadyInMove}
 use Rattle.nm_locked.specs.Moves.{locked_transfer}
 use Rattle.nm_locked.specs.Places.{IsMovedNow, IsUnlockedNow}
 use Rattle.nm_locked.proofs.Opened.{opened-on, erase-one}
@@ -47,13 +47,13 @@ left-enough spent e =
 
 -- The transfer.
 
-pub transfer-may : (made : ChooseMade) (home frame : ℕ) (pages : List ℕ) (g : Geometry) (view now : View) → HasReady made g view home frame pages now → MayTransfer (locked_transfer g made home frame pages) g now
+pub transfer-may : (made : ChooseMade) (home frame : ℕ) (pages : List ℕ) (g : Geometry) (view now : View) → HasReadyInMove made g view home frame pages now → MayTransfer (locked_transfer g made home frame pages) g now
 transfer-may made home frame pages g view now h =
     let may = h.slow.may in
     let enough = left-enough made.spent h.slow.left in
     let bumps : view.bumps + 2 ≤ own_bumps = subst (λ (s : Spent). s.bumps + 2 ≤ own_bumps) may.spent enough.0 in
     let raises : view.raises + most_vpages ≤ own_raises = subst (λ (s : Spent). s.raises + most_vpages ≤ own_raises) may.spent enough.1 in
-    let o : Op = looked_op made.page view.room.aliases (Some (home_word home)) (Some 0) h.looked in
+    let o : Op = move_looked_op made.page view.room.aliases (Some (home_word home)) (Some 0) h.looked in
     let new : Owned = record { frame = frame; fill = Raw } in
     let owned : List Owned = owning frame Raw view.owned in
     let unowned : find owned_frame home owned ≡ None = find_put_other owned_frame new home view.owned h.new.other ∙ h.slow.unowned in
@@ -88,10 +88,10 @@ transfer-may made home frame pages g view now h =
     } in
     subst (λ (v : View). MayTransfer (locked_transfer g made home frame pages) g v) (sym h.is) begin
 
-pub transfer-left : (made : ChooseMade) (home frame : ℕ) (pages : List ℕ) (taken : List (ℕ × ℕ)) (g : Geometry) (view now later : View) → HasReady made g view home frame pages now
+pub transfer-left : (made : ChooseMade) (home frame : ℕ) (pages : List ℕ) (taken : List (ℕ × ℕ)) (g : Geometry) (view now later : View) → HasReadyInMove made g view home frame pages now
     → IsTransferred (locked_transfer g made home frame pages) g now taken later → IsMovedNow made home g view later
 transfer-left made home frame pages taken g view now later h t =
-    let o : Op = looked_op made.page view.room.aliases (Some (home_word home)) (Some 0) h.looked in
+    let o : Op = move_looked_op made.page view.room.aliases (Some (home_word home)) (Some 0) h.looked in
     let new : Owned = record { frame = frame; fill = Raw } in
     let owned : List Owned = owning frame Raw view.owned in
     let rest : spoiled made.page (owning home (Equal made.page) (erase owned_frame frame owned)) ≡ spoiled made.page (owning home (Equal made.page) view.owned) =

@@ -55,9 +55,9 @@ use Rattle.nm_locked.specs.declared.choose.Early.TheVariants.{NoFrame, Gone, Wor
 use Rattle.nm_locked.specs.declared.choose.Chosen.{Chosen}
 use Rattle.nm_locked.specs.declared.choose.Chosen.TheVariants as ends
 use Rattle.nm_locked.specs.declared.choose.Stage.TheVariants.{Locking, Marking, Unlocking, ReadingHome, Looking, Arming, Taking, ReadingShadow, Unshading, PuttingBack}
-use Rattle.nm_locked.specs.Choosing.{Unlocks, Closes, ArmsAll, PutsBack, Discards, ReadsShadow, AfterTake, Takes, AfterLooks, Looks, AfterHome, ReadsHome, AfterLock, IsChoosing}
-use Rattle.nm_locked.specs.Chosen.{MayChoose, opened_view, looked_op, IsSlowHome, HasSeen, IsNewFrame, HasReady, HasClosed}
-use Rattle.nm_locked.specs.Stages.{PieceMade, PieceEnd, IsPiece, PieceLeaves, reply_in, told_in, found_in, pool_in, lock_stage, arm_stage, looked_stage, look_stage, home_stage, IsLocking, IsOpen, IsReadingHome, IsLooking, IsArming, IsTaking, HasGot, IsReadingShadow, HasShadow, IsUnshading, IsPuttingBack}
+use Rattle.nm_locked.specs.Choosing.{UnlocksInMove, ClosesInMove, ArmsAll, PutsBackInMove, DiscardsInMove, ReadsShadowInMove, AfterTakeInMove, TakesInMove, AfterLooksInMove, LooksInMove, AfterHomeInMove, ReadsHomeInMove, AfterLockInMove, IsChoosing}
+use Rattle.nm_locked.specs.Chosen.{MayChoose, opened_view, move_looked_op, IsSlowHomeInMove, HasSeenInMove, IsNewFrameInMove, HasReadyInMove, HasClosedInMove}
+use Rattle.nm_locked.specs.Stages.{PieceMadeInMove, PieceEndInMove, IsPieceInMove, PieceLeavesInMove, move_reply_in, move_told_in, move_found_in, pool_in, move_lock_stage, move_arm_stage, move_looked_stage, move_look_stage, move_home_stage, IsLockingInMove, IsOpenInMove, IsReadingHomeInMove, IsLookingInMove, IsArmingInMove, IsTakingInMove, HasGot, IsReadingShadowInMove, HasShadowInMove, IsUnshadingInMove, IsPuttingBackInMove}
 use Rattle.nm_locked.proofs.Opened.{opened-on, opened-some, opened-some-of, after-lock, after-read, after-unshade, after-unlock, after-task}
 use Rattle.nm_locked.proofs.Ending.{can-unlocks, can-closes, can-arms, can-puts-back, can-discards, can-after-take, can-after-looks, can-after-home, can-after-lock}
 use Rattle.nm_locked.proofs.Runs.{RunsChoose, EndsSo, act-run, visits-run, task-run, runs-as}
@@ -68,28 +68,28 @@ use Rattle.nm_mappings.proofs.Lists.{vpage-there}
 pub some-is : {A : Type 0} (o : Option A) (x : A) → o ≡ Some x → IsSome o
 some-is {A} o x e = subst (λ (o : Option A). IsSome o) (sym e) refl
 
-pub runs-marking : (made : ChooseMade) (early : Early) (g : Geometry) (view now : View) → IsOpen made g view now → RunsChoose made (Marking early) (Closes g made early) g view now
+pub runs-marking : (made : ChooseMade) (early : Early) (g : Geometry) (view now : View) → IsOpenInMove made g view now → RunsChoose made (Marking early) (ClosesInMove g made early) g view now
 runs-marking made early g view now h =
     let on : op_on now made.page ≡ Some h.op = ap (λ (v : View). op_on v made.page) h.is ∙ opened-on h.op view.owned h.scan made.page view h.page_is in
-    act-run made (Marking early) (λ marked. Unlocks g made early) (Mark made.page 2 0) g view now refl
+    act-run made (Marking early) (λ marked. UnlocksInMove g made early) (Mark made.page 2 0) g view now refl
     (record { quiet = tt; allowed = record { range = h.may.page; permitted = inr (record { pending = refl; none = refl; op = some-is (op_on now made.page) h.op on }) } }) h
     (λ own outcome f. f) (λ end. can-unlocks g made early)
 
-runs-unlocking : (made : ChooseMade) (early : Early) (g : Geometry) (view now : View) → IsOpen made g view now → RunsChoose made (Unlocking early) (Unlocks g made early) g view now
+runs-unlocking : (made : ChooseMade) (early : Early) (g : Geometry) (view now : View) → IsOpenInMove made g view now → RunsChoose made (Unlocking early) (UnlocksInMove g made early) g view now
 runs-unlocking made early g view now h =
     act-run made (Unlocking early) (λ unlocked. Ends (ends.Closed early)) (Unlock made.page) g view now refl
     (record { quiet = tt; allowed = record { range = h.may.page; permitted = opened-some h.op view.owned h.scan made.page view now (MayUnlock g) h.page_is h.is h.unlock } }) h
     (λ own outcome f. f) (λ end. can-ends (ends.Closed early))
 
-open-at : (made : ChooseMade) (g : Geometry) (view now later : View) → later ≡ now → IsOpen made g view now → IsOpen made g view later
-open-at made g view now later e h = subst (λ (v : View). IsOpen made g view v) (sym e) h
+open-at : (made : ChooseMade) (g : Geometry) (view now later : View) → later ≡ now → IsOpenInMove made g view now → IsOpenInMove made g view later
+open-at made g view now later e h = subst (λ (v : View). IsOpenInMove made g view v) (sym e) h
 
-pub after-marking : (made : ChooseMade) (early : Early) (g : Geometry) (view now later : View) (own : Own) (end : PieceEnd) → IsOpen made g view now → EndsSo own (This (Mark made.page 2 0)) g now end later
-    → RunsChoose made (Unlocking early) (Unlocks g made early) g view later
+pub after-marking : (made : ChooseMade) (early : Early) (g : Geometry) (view now later : View) (own : Own) (end : PieceEndInMove) → IsOpenInMove made g view now → EndsSo own (This (Mark made.page 2 0)) g now end later
+    → RunsChoose made (Unlocking early) (UnlocksInMove g made early) g view later
 after-marking made early g view now later own (This reply) h a = runs-unlocking made early g view later (open-at made g view now later a.0.is h)
 after-marking made early g view now later own (Other x) h a = absurd a.0
 
-pub after-unlocking : (made : ChooseMade) (g : Geometry) (view now later : View) (own : Own) (end : PieceEnd) → IsOpen made g view now → EndsSo own (This (Unlock made.page)) g now end later → HasClosed made.page view later
+pub after-unlocking : (made : ChooseMade) (g : Geometry) (view now later : View) (own : Own) (end : PieceEndInMove) → IsOpenInMove made g view now → EndsSo own (This (Unlock made.page)) g now end later → HasClosedInMove made.page view later
 after-unlocking made g view now later own (This Done) h a = record {
   scan = h.scan;
   is = a.0.is ∙ ap (λ (v : View). after_of g v (Unlock made.page) Done) h.is ∙ after-unlock g h.op view.owned h.scan made.page view h.page_is h.may.none;
@@ -101,10 +101,10 @@ after-unlocking made g view now later own (Other x) h a = absurd a.0
 
 -- an operation of which nothing was changed may be closed
 open-looked : (made : ChooseMade) (g : Geometry) (view now : View) (home shadow : Option ℕ) (looked : List (ℕ × ℕ)) (scan : Scanned) → MayChoose g made g view
-    → now ≡ opened_view (looked_op made.page view.room.aliases home shadow looked) view.owned scan view → IsOpen made g view now
+    → now ≡ opened_view (move_looked_op made.page view.room.aliases home shadow looked) view.owned scan view → IsOpenInMove made g view now
 open-looked made g view now home shadow looked scan may e = record {
   may = may;
-  op = looked_op made.page view.room.aliases home shadow looked;
+  op = move_looked_op made.page view.room.aliases home shadow looked;
   page_is = refl;
   unlock = record { back = refl; flushed = record { made = refl; seen = tt }; phase = λ e. cc };
   scan = scan;
@@ -112,19 +112,19 @@ open-looked made g view now home shadow looked scan may e = record {
 }
 
 -- these virtual pages are armed, and the work ends
-pub runs-arms : (made : ChooseMade) (early : Early) (pages : List ℕ) (g : Geometry) (view now : View) → IsArming made pages g view now → RunsChoose made (arm_stage early pages) (ArmsAll g made early pages) g view now
+pub runs-arms : (made : ChooseMade) (early : Early) (pages : List ℕ) (g : Geometry) (view now : View) → IsArmingInMove made pages g view now → RunsChoose made (move_arm_stage early pages) (ArmsAll g made early pages) g view now
 runs-arms made early [] g view now h =
-    runs-as made (Marking early) (Closes g made early) (ArmsAll g made early []) g view now
-    (λ own outcome c. over-at-once (IsVisits (arms_made made.page []) g) (λ armed. Closes g made early) [] own outcome (ends-now []) c) (runs-marking made early g view now h.opened)
+    runs-as made (Marking early) (ClosesInMove g made early) (ArmsAll g made early []) g view now
+    (λ own outcome c. over-at-once (IsVisits (arms_made made.page []) g) (λ armed. ClosesInMove g made early) [] own outcome (ends-now []) c) (runs-marking made early g view now h.opened)
 runs-arms made early (v ∷ vs) g view now h =
     let may : MayVisit (arms_made made.page (v ∷ vs)) g now = record {
       of = h.of;
       each = opened-some h.opened.op view.owned h.opened.scan made.page view now (λ o. All (λ u. IsLookedMapped o.looked o.taken u) (v ∷ vs)) h.opened.page_is h.opened.is h.mapped;
     } in
-    visits-run made (Arming early (v ∷ vs)) (λ armed. Closes g made early) (arms_made made.page (v ∷ vs)) g view now refl may h (λ own outcome f. f) (λ end. can-closes g made early)
+    visits-run made (Arming early (v ∷ vs)) (λ armed. ClosesInMove g made early) (arms_made made.page (v ∷ vs)) g view now refl may h (λ own outcome f. f) (λ end. can-closes g made early)
 
-pub after-arming : (made : ChooseMade) (early : Early) (pages : List ℕ) (g : Geometry) (view now later : View) (own : Own) (end : PieceEnd) → IsArming made pages g view now → EndsSo own (Other (This (arms_made made.page pages))) g now end later
-    → RunsChoose made (Marking early) (Closes g made early) g view later
+pub after-arming : (made : ChooseMade) (early : Early) (pages : List ℕ) (g : Geometry) (view now later : View) (own : Own) (end : PieceEndInMove) → IsArmingInMove made pages g view now → EndsSo own (Other (This (arms_made made.page pages))) g now end later
+    → RunsChoose made (Marking early) (ClosesInMove g made early) g view later
 after-arming made early pages g view now later own (This x) h a = absurd a.0
 after-arming made early pages g view now later own (Other (Other x)) h a = absurd a.0
 after-arming made early pages g view now later own (Other (This found)) h a = runs-marking made early g view later (open-at made g view now later (arms-left made.page pages now found later a.0) h.opened)
@@ -137,28 +137,28 @@ may-here mine made g view may = record { same = refl; geometry = may.geometry; p
 pub runs-locking : (made : ChooseMade) (g : Geometry) (view : View) → MayChoose g made g view → RunsChoose made Locking (IsChoosing made g) g view view
 runs-locking made g view may =
     let few : length view.ops < most_ops = subst (λ (l : List Op). length l < most_ops) (sym may.none) (omega arith) in
-    act-run made Locking (AfterLock g made) (Lock made.page) g view view refl
+    act-run made Locking (AfterLockInMove g made) (Lock made.page) g view view refl
     (record { quiet = tt; allowed = record { range = may.page; permitted = record { fresh = ap (find page_of made.page) may.none; few = few } } }) (record { may = may; begun = refl })
-    (λ own outcome f. f) (λ end. can-after-lock g made (reply_in end) may.geometry)
+    (λ own outcome f. f) (λ end. can-after-lock g made (move_reply_in end) may.geometry)
 
 locked-test : (made : ChooseMade) (g : Geometry) (view later : View) (test : Bool) → is_worn made.spent ≡ test → MayChoose g made g view
-    → later ≡ opened_view (looked_op made.page view.room.aliases None None []) view.owned view.scan view
-    → RunsChoose made (if test then Marking Worn else ReadingHome) (Either test (Closes g made Worn) (ReadsHome g made)) g view later
+    → later ≡ opened_view (move_looked_op made.page view.room.aliases None None []) view.owned view.scan view
+    → RunsChoose made (if test then Marking Worn else ReadingHome) (Either test (ClosesInMove g made Worn) (ReadsHomeInMove g made)) g view later
 locked-test made g view later true is may e = runs-marking made Worn g view later (open-looked made g view later None None [] view.scan may e)
 locked-test made g view later false is may e =
-    act-run made ReadingHome (λ reply. AfterHome g made (told reply)) (Read made.page (cells.Home made.page)) g view later refl
-    (record { quiet = tt; allowed = record { range = record { page = may.page; cell = refl }; permitted = opened-some (looked_op made.page view.room.aliases None None []) view.owned view.scan made.page view later (MayRead (cells.Home made.page)) refl e tt } })
-    (record { may = may; left = is; is = e }) (λ own outcome f. f) (λ end. can-after-home g made (told_in end) may.geometry)
+    act-run made ReadingHome (λ reply. AfterHomeInMove g made (told reply)) (Read made.page (cells.Home made.page)) g view later refl
+    (record { quiet = tt; allowed = record { range = record { page = may.page; cell = refl }; permitted = opened-some (move_looked_op made.page view.room.aliases None None []) view.owned view.scan made.page view later (MayRead (cells.Home made.page)) refl e tt } })
+    (record { may = may; left = is; is = e }) (λ own outcome f. f) (λ end. can-after-home g made (move_told_in end) may.geometry)
 
-pub after-locking : (made : ChooseMade) (g : Geometry) (view now later : View) (own : Own) → IsLocking made g view now → EndsSo own (This (Lock made.page)) g now (This Done) later
-    → RunsChoose made (lock_stage made.spent) (AfterLock g made Done) g view later
+pub after-locking : (made : ChooseMade) (g : Geometry) (view now later : View) (own : Own) → IsLockingInMove made g view now → EndsSo own (This (Lock made.page)) g now (This Done) later
+    → RunsChoose made (move_lock_stage made.spent) (AfterLockInMove g made Done) g view later
 after-locking made g view now later own h a =
     locked-test made g view later (is_worn made.spent) refl h.may (a.0.is ∙ ap (λ (v : View). after_of g v (Lock made.page) Done) h.begun ∙ after-lock g view made.page h.may.none)
 
-pub after-busy : (made : ChooseMade) (g : Geometry) (view now later : View) (own : Own) (word : ℕ) → IsLocking made g view now → EndsSo own (This (Lock made.page)) g now (This (Busy word)) later → later ≡ view
+pub after-busy : (made : ChooseMade) (g : Geometry) (view now later : View) (own : Own) (word : ℕ) → IsLockingInMove made g view now → EndsSo own (This (Lock made.page)) g now (This (Busy word)) later → later ≡ view
 after-busy made g view now later own word h a = a.0.is ∙ h.begun
 
--- The Looks.
+-- The LooksInMove.
 
 and-both : (a b : Bool) → (not a && not b) ≡ true → (a ≡ false) × (b ≡ false)
 and-both true b e = cc
@@ -216,7 +216,7 @@ looked-few g page told geometry pages =
     let found = subst (λ (l : List ℕ). length (mapped_of told) ≤ length l) pages (found-few told) in
     omega arith
 
-taking-work : (made : ChooseMade) (g : Geometry) (view now : View) (home : ℕ) (pages : List ℕ) → IsTaking made home pages g view now → MayBegin (pool_made g (Take (tier_above g home) (floor_above g home))) g now
+taking-work : (made : ChooseMade) (g : Geometry) (view now : View) (home : ℕ) (pages : List ℕ) → IsTakingInMove made home pages g view now → MayBegin (pool_made g (Take (tier_above g home) (floor_above g home))) g now
 taking-work made g view now home pages h = record {
   geometry = h.slow.may.geometry;
   is = refl;
@@ -224,7 +224,7 @@ taking-work made g view now home pages h = record {
   turn = ap (λ (v : View). v.turn) h.is ∙ h.slow.may.turn;
 }
 
-can-taken : (made : ChooseMade) (home : ℕ) (pages : List ℕ) (g : Geometry) (own : Own) (end : PieceEnd) → IsPiece (Other (Other (pool_made g (Take (tier_above g home) (floor_above g home))))) g own end → CanEnd (AfterTake g made home pages (pool_in end))
+can-taken : (made : ChooseMade) (home : ℕ) (pages : List ℕ) (g : Geometry) (own : Own) (end : PieceEndInMove) → IsPieceInMove (Other (Other (pool_made g (Take (tier_above g home) (floor_above g home))))) g own end → CanEnd (AfterTakeInMove g made home pages (pool_in end))
 can-taken made home pages g own (This x) shown = absurd shown
 can-taken made home pages g own (Other (This x)) shown = absurd shown
 can-taken made home pages g own (Other (Other end)) shown = can-after-take g made home pages (tier_above g home) (floor_above g home) own end shown
@@ -233,25 +233,25 @@ can-taken made home pages g own (Other (Other end)) shown = can-after-take g mad
 mapped-each : (pages : List ℕ) (looked : List (ℕ × ℕ)) → All (λ v. IsSomeAnd (find first v looked) (λ p. p.1 ≢ 0)) pages → All (λ v. IsLookedMapped looked [] v) pages
 mapped-each pages looked h = λ i d lt. record { looked = h i d lt; there = refl }
 
-runs-taking : (made : ChooseMade) (home : ℕ) (pages : List ℕ) (g : Geometry) (view now : View) → IsTaking made home pages g view now → RunsChoose made (Taking home pages) (Takes g made home pages) g view now
+runs-taking : (made : ChooseMade) (home : ℕ) (pages : List ℕ) (g : Geometry) (view now : View) → IsTakingInMove made home pages g view now → RunsChoose made (Taking home pages) (TakesInMove g made home pages) g view now
 runs-taking made home pages g view now h =
-    task-run made (Taking home pages) (AfterTake g made home pages) (pool_made g (Take (tier_above g home) (floor_above g home))) g view now refl (taking-work made g view now home pages h) h
+    task-run made (Taking home pages) (AfterTakeInMove g made home pages) (pool_made g (Take (tier_above g home) (floor_above g home))) g view now refl (taking-work made g view now home pages h) h
     (λ own outcome f. f) (λ own end shown. can-taken made home pages g own end shown)
 
 -- the virtual pages of the page were looked at
-looked-test : (made : ChooseMade) (home : ℕ) (pages : List ℕ) (looked : List (ℕ × ℕ)) (g : Geometry) (view now : View) (test : Bool) → (length pages == made.count) ≡ test → IsSlowHome made g view home
-    → now ≡ opened_view (looked_op made.page view.room.aliases (Some (home_word home)) None looked) view.owned view.scan view
-    → (length pages ≡ made.count → HasSeen made g pages looked) → All (λ v. backing_page g v ≡ Some made.page) pages → All (λ v. IsSomeAnd (find first v looked) (λ p. p.1 ≢ 0)) pages
-    → RunsChoose made (if test then Taking home pages else arm_stage Gone pages) (Either test (Takes g made home pages) (ArmsAll g made Gone pages)) g view now
+looked-test : (made : ChooseMade) (home : ℕ) (pages : List ℕ) (looked : List (ℕ × ℕ)) (g : Geometry) (view now : View) (test : Bool) → (length pages == made.count) ≡ test → IsSlowHomeInMove made g view home
+    → now ≡ opened_view (move_looked_op made.page view.room.aliases (Some (home_word home)) None looked) view.owned view.scan view
+    → (length pages ≡ made.count → HasSeenInMove made g pages looked) → All (λ v. backing_page g v ≡ Some made.page) pages → All (λ v. IsSomeAnd (find first v looked) (λ p. p.1 ≢ 0)) pages
+    → RunsChoose made (if test then Taking home pages else move_arm_stage Gone pages) (Either test (TakesInMove g made home pages) (ArmsAll g made Gone pages)) g view now
 unfolding open-looked
 looked-test made home pages looked g view now true e slow is seen of mapped =
     runs-taking made home pages g view now (record { slow = slow; looked = looked; seen = seen (grind (arith, nat_tests)); is = is })
 looked-test made home pages looked g view now false e slow is seen of mapped =
     runs-arms made Gone pages g view now (record { opened = open-looked made g view now (Some (home_word home)) None looked view.scan slow.may is; of = of; mapped = mapped-each pages looked mapped })
 
-looked-seen : (made : ChooseMade) (home : ℕ) (g : Geometry) (view now : View) (told : List (ℕ × ℕ)) → map first told ≡ vpages_of g made.page → Once first told → IsSlowHome made g view home
-    → now ≡ opened_view (looked_op made.page view.room.aliases (Some (home_word home)) None told) view.owned view.scan view
-    → RunsChoose made (looked_stage made home (mapped_of told)) (AfterLooks g made home (mapped_of told)) g view now
+looked-seen : (made : ChooseMade) (home : ℕ) (g : Geometry) (view now : View) (told : List (ℕ × ℕ)) → map first told ≡ vpages_of g made.page → Once first told → IsSlowHomeInMove made g view home
+    → now ≡ opened_view (move_looked_op made.page view.room.aliases (Some (home_word home)) None told) view.owned view.scan view
+    → RunsChoose made (move_looked_stage made home (mapped_of told)) (AfterLooksInMove g made home (mapped_of told)) g view now
 looked-seen made home g view now told pages once slow is =
     let all = subst (All (λ v. backing_page g v ≡ Some made.page)) (sym pages) (vpages-all g made.page) in
     let of = found-all (λ v. backing_page g v ≡ Some made.page) told all in
@@ -259,18 +259,18 @@ looked-seen made home g view now told pages once slow is =
     looked-test made home (mapped_of told) told g view now (length (mapped_of told) == made.count) refl slow is
     (λ count. record { of = of; over = looked-over g made.page told pages; mapped = mapped; found = seen-found told; count = count; few = looked-few g made.page told slow.may.geometry pages }) of mapped
 
-pub after-looking : (made : ChooseMade) (home : ℕ) (g : Geometry) (view now later : View) (own : Own) (end : PieceEnd) → IsLooking made home g view now → EndsSo own (Other (This (looks_made made.page (vpages_of g made.page)))) g now end later
-    → RunsChoose made (looked_stage made home (found_in end)) (AfterLooks g made home (found_in end)) g view later
+pub after-looking : (made : ChooseMade) (home : ℕ) (g : Geometry) (view now later : View) (own : Own) (end : PieceEndInMove) → IsLookingInMove made home g view now → EndsSo own (Other (This (looks_made made.page (vpages_of g made.page)))) g now end later
+    → RunsChoose made (move_looked_stage made home (move_found_in end)) (AfterLooksInMove g made home (move_found_in end)) g view later
 after-looking made home g view now later own (This x) h a = absurd a.0
 after-looking made home g view now later own (Other (Other x)) h a = absurd a.0
 after-looking made home g view now later own (Other (This found)) h a =
-    let o : Op = looked_op made.page view.room.aliases (Some (home_word home)) None [] in
+    let o : Op = move_looked_op made.page view.room.aliases (Some (home_word home)) None [] in
     let v = a.0 in
-    let is : later ≡ opened_view (looked_op made.page view.room.aliases (Some (home_word home)) None v.told) view.owned view.scan view =
+    let is : later ≡ opened_view (move_looked_op made.page view.room.aliases (Some (home_word home)) None v.told) view.owned view.scan view =
     v.is ∙ ap (λ (x : View). record x { ops = edit page_of made.page (visited visits.Look v.told) x.ops }) h.is
     ∙ ap (λ (l : List Op). record view { ops = l }) (edit-one (visited visits.Look v.told) o made.page refl)
     ∙ ap (λ (x : Op). record view { ops = x ∷ [] }) (visited-look v.told o v.once) in
-    let P : List ℕ → Type 0 = λ l. RunsChoose made (looked_stage made home l) (AfterLooks g made home l) g view later in
+    let P : List ℕ → Type 0 = λ l. RunsChoose made (move_looked_stage made home l) (AfterLooksInMove g made home l) g view later in
     subst P (sym v.mapped) (looked-seen made home g view later v.told v.pages v.once h.slow is)
 
 -- The home.
@@ -279,21 +279,21 @@ none-of : (g : Geometry) (page : ℕ) → vpages_of g page ≡ [] → (v : ℕ) 
 none-of g page none v e = let h = vpages-has g page v e in let n = subst (λ (l : List ℕ). IsSome (find itself v l)) none h in let c : false ≡ true = n in cc
 
 -- the virtual pages are to be looked at, if there are any
-look-from : (made : ChooseMade) (home : ℕ) (pages : List ℕ) (g : Geometry) (view now : View) → vpages_of g made.page ≡ pages → IsLooking made home g view now → RunsChoose made (look_stage made home pages) (Looks g made home) g view now
+look-from : (made : ChooseMade) (home : ℕ) (pages : List ℕ) (g : Geometry) (view now : View) → vpages_of g made.page ≡ pages → IsLookingInMove made home g view now → RunsChoose made (move_look_stage made home pages) (LooksInMove g made home) g view now
 look-from made home [] g view now none h =
     let run = looked-test made home [] [] g view now (length (mapped_of []) == made.count) refl h.slow h.is
     (λ count. record { of = none_left _; over = λ v e. absurd (none-of g made.page none v e); mapped = none_left _; found = none_left _; count = count; few = omega arith }) (none_left _) (none_left _) in
-    let V : List ℕ → Type 0 = λ l. (own : Own) (outcome : Chosen) → AfterLooks g made home [] own outcome → Follows (IsVisits (looks_made made.page l) g) (AfterLooks g made home) own outcome in
-    let at-once : V [] = λ own outcome c. over-at-once (IsVisits (looks_made made.page []) g) (AfterLooks g made home) [] own outcome (ends-now []) c in
-    runs-as made (looked_stage made home []) (AfterLooks g made home []) (Looks g made home) g view now (subst V (sym none) at-once) run
+    let V : List ℕ → Type 0 = λ l. (own : Own) (outcome : Chosen) → AfterLooksInMove g made home [] own outcome → Follows (IsVisits (looks_made made.page l) g) (AfterLooksInMove g made home) own outcome in
+    let at-once : V [] = λ own outcome c. over-at-once (IsVisits (looks_made made.page []) g) (AfterLooksInMove g made home) [] own outcome (ends-now []) c in
+    runs-as made (move_looked_stage made home []) (AfterLooksInMove g made home []) (LooksInMove g made home) g view now (subst V (sym none) at-once) run
 look-from made home (v ∷ vs) g view now some h =
-    visits-run made (Looking home) (AfterLooks g made home) (looks_made made.page (vpages_of g made.page)) g view now refl (record { of = vpages-all g made.page; each = tt }) h
-    (λ own outcome f. f) (λ end. can-after-looks g made home (found_in end) h.slow.may.geometry)
+    visits-run made (Looking home) (AfterLooksInMove g made home) (looks_made made.page (vpages_of g made.page)) g view now refl (record { of = vpages-all g made.page; each = tt }) h
+    (λ own outcome f. f) (λ end. can-after-looks g made home (move_found_in end) h.slow.may.geometry)
 
 home-test : (made : ChooseMade) (word : ℕ) (g : Geometry) (view later : View) (test : Bool) → is_slow_home g word ≡ test → MayChoose g made g view → is_worn made.spent ≡ false
-    → later ≡ opened_view (looked_op made.page view.room.aliases (Some word) None []) view.owned view.scan view
+    → later ≡ opened_view (move_looked_op made.page view.room.aliases (Some word) None []) view.owned view.scan view
     → (word ≢ 0 → IsFrame g (word - 1)) → (word ≢ 0 → IsNotOwned view (word - 1))
-    → RunsChoose made (if test then look_stage made (word - 1) (vpages_of g made.page) else Marking Gone) (Either test (Looks g made (word - 1)) (Closes g made Gone)) g view later
+    → RunsChoose made (if test then move_look_stage made (word - 1) (vpages_of g made.page) else Marking Gone) (Either test (LooksInMove g made (word - 1)) (ClosesInMove g made Gone)) g view later
 home-test made word g view later true e may left is range unowned =
     let both = and-both (word == 0) (tier_of g (word - 1) == 0) e in
     let some : word ≢ 0 = grind (arith, both.0) in
@@ -301,18 +301,18 @@ home-test made word g view later true e may left is range unowned =
     let same : home_word (word - 1) ≡ word = omega (arith, some) in
     look-from made (word - 1) (vpages_of g made.page) g view later refl (record {
       slow = record { may = may; left = left; range = range some; slow = slow; unowned = unowned some };
-      is = is ∙ ap (λ (w : ℕ). opened_view (looked_op made.page view.room.aliases (Some w) None []) view.owned view.scan view) (sym same);
+      is = is ∙ ap (λ (w : ℕ). opened_view (move_looked_op made.page view.room.aliases (Some w) None []) view.owned view.scan view) (sym same);
     })
 home-test made word g view later false e may left is range unowned = runs-marking made Gone g view later (open-looked made g view later (Some word) None [] view.scan may is)
 
 -- what a Read of the home tells
-pub home-told : (made : ChooseMade) (g : Geometry) (view now later : View) (word : ℕ) → IsReadingHome made g view now → IsActed g now (Read made.page (cells.Home made.page)) (Word word) later → IsHomeRead g now word (looked_op made.page view.room.aliases None None [])
+pub home-told : (made : ChooseMade) (g : Geometry) (view now later : View) (word : ℕ) → IsReadingHomeInMove made g view now → IsActed g now (Read made.page (cells.Home made.page)) (Word word) later → IsHomeRead g now word (move_looked_op made.page view.room.aliases None None [])
 home-told made g view now later word h acted =
-    let on = ap (λ (v : View). op_on v made.page) h.is ∙ opened-on (looked_op made.page view.room.aliases None None []) view.owned view.scan made.page view refl in
+    let on = ap (λ (v : View). op_on v made.page) h.is ∙ opened-on (move_looked_op made.page view.room.aliases None None []) view.owned view.scan made.page view refl in
     subst (λ (x : Option Op). IfSome x (IsReadOf g now (cells.Home made.page) word)) on acted.fits.told.said
 
-pub after-reading-home : (made : ChooseMade) (g : Geometry) (view now later : View) (own : Own) (end : PieceEnd) → IsReadingHome made g view now → EndsSo own (This (Read made.page (cells.Home made.page))) g now end later
-    → RunsChoose made (home_stage g made (told_in end)) (AfterHome g made (told_in end)) g view later
+pub after-reading-home : (made : ChooseMade) (g : Geometry) (view now later : View) (own : Own) (end : PieceEndInMove) → IsReadingHomeInMove made g view now → EndsSo own (This (Read made.page (cells.Home made.page))) g now end later
+    → RunsChoose made (move_home_stage g made (move_told_in end)) (AfterHomeInMove g made (move_told_in end)) g view later
 after-reading-home made g view now later own (This Done) h a = absurd a.0.fits.kind
 after-reading-home made g view now later own (This (Busy w)) h a = absurd a.0.fits.kind
 after-reading-home made g view now later own (This (Lost w)) h a = absurd a.0.fits.kind
@@ -321,17 +321,17 @@ after-reading-home made g view now later own (This (Word word)) h a =
     let read = home-told made g view now later word h a.0 in
     let news = read.news refl in
     let is = a.0.is ∙ ap (λ (v : View). after_of g v (Read made.page (cells.Home made.page)) (Word word)) h.is
-    ∙ after-read g (looked_op made.page view.room.aliases None None []) view.owned view.scan made.page word (cells.Home made.page) view refl in
+    ∙ after-read g (move_looked_op made.page view.room.aliases None None []) view.owned view.scan made.page word (cells.Home made.page) view refl in
     home-test made word g view later (is_slow_home g word) refl h.may h.left is (λ some. let range = news.range in omega (arith, some)) (λ some. subst (λ (v : View). IsNotOwned v (word - 1)) h.is (read.free some))
 
 -- The frame.
 
 -- a frame was given
-pub after-got : (made : ChooseMade) (home frame : ℕ) (pages : List ℕ) (g : Geometry) (view now later : View) (own : Own) → IsTaking made home pages g view now
+pub after-got : (made : ChooseMade) (home frame : ℕ) (pages : List ℕ) (g : Geometry) (view now later : View) (own : Own) → IsTakingInMove made home pages g view now
     → EndsSo own (Other (Other (pool_made g (Take (tier_above g home) (floor_above g home))))) g now (Other (Other (pools.Got frame))) later
-    → RunsChoose made (ReadingShadow home frame pages) (ReadsShadow g made home frame pages) g view later
+    → RunsChoose made (ReadingShadow home frame pages) (ReadsShadowInMove g made home frame pages) g view later
 after-got made home frame pages g view now later own h a =
-    let o : Op = looked_op made.page view.room.aliases (Some (home_word home)) None h.looked in
+    let o : Op = move_looked_op made.page view.room.aliases (Some (home_word home)) None h.looked in
     let given = a.0.0 in
     let is : later ≡ opened_view o (owning frame Raw view.owned) unscanned view =
     a.0.1 ∙ ap (λ (v : View). record (released v) { owned = owning frame Raw v.owned }) h.is ∙ after-task o view.owned (owning frame Raw view.owned) view.scan view h.slow.may.turn in
@@ -344,59 +344,59 @@ after-got made home frame pages g view now later own h a =
       seen = h.seen;
       scan = unscanned;
     } in
-    act-run made (ReadingShadow home frame pages) (λ reply. Discards g made home (told reply) frame pages) (Read made.page (cells.Shadow home)) g view later refl
+    act-run made (ReadingShadow home frame pages) (λ reply. DiscardsInMove g made home (told reply) frame pages) (Read made.page (cells.Shadow home)) g view later refl
     (record { quiet = tt; allowed = record { range = record { page = h.slow.may.page; cell = h.slow.range }; permitted = opened-some o (owning frame Raw view.owned) unscanned made.page view later (MayRead (cells.Shadow home)) refl is refl } })
-    (record { got = got; is = is }) (λ own outcome f. f) (λ end. can-discards g made home (told_in end) frame pages)
+    (record { got = got; is = is }) (λ own outcome f. f) (λ end. can-discards g made home (move_told_in end) frame pages)
 
 -- too few frames are free
-pub after-floor : (made : ChooseMade) (home n : ℕ) (pages : List ℕ) (g : Geometry) (view now later : View) (own : Own) → IsTaking made home pages g view now
+pub after-floor : (made : ChooseMade) (home n : ℕ) (pages : List ℕ) (g : Geometry) (view now later : View) (own : Own) → IsTakingInMove made home pages g view now
     → EndsSo own (Other (Other (pool_made g (Take (tier_above g home) (floor_above g home))))) g now (Other (Other (pools.AtFloor n))) later
-    → RunsChoose made (arm_stage (NoFrame n) pages) (ArmsAll g made (NoFrame n) pages) g view later
+    → RunsChoose made (move_arm_stage (NoFrame n) pages) (ArmsAll g made (NoFrame n) pages) g view later
 unfolding open-looked
 after-floor made home n pages g view now later own h a =
-    let o : Op = looked_op made.page view.room.aliases (Some (home_word home)) None h.looked in
+    let o : Op = move_looked_op made.page view.room.aliases (Some (home_word home)) None h.looked in
     let is : later ≡ opened_view o view.owned unscanned view = a.0 ∙ ap released h.is ∙ after-task o view.owned view.owned view.scan view h.slow.may.turn in
     runs-arms made (NoFrame n) pages g view later (record { opened = open-looked made g view later (Some (home_word home)) None h.looked unscanned h.slow.may is; of = h.seen.of; mapped = mapped-each pages h.looked h.seen.mapped })
 
 -- The shadow.
 
 ready-now : (made : ChooseMade) (home frame : ℕ) (pages : List ℕ) (g : Geometry) (view later : View) (got : HasGot made home frame pages g view) (scan : Scanned)
-    → later ≡ opened_view (looked_op made.page view.room.aliases (Some (home_word home)) (Some 0) got.looked) (owning frame Raw view.owned) scan view → HasReady made g view home frame pages later
+    → later ≡ opened_view (move_looked_op made.page view.room.aliases (Some (home_word home)) (Some 0) got.looked) (owning frame Raw view.owned) scan view → HasReadyInMove made g view home frame pages later
 ready-now made home frame pages g view later got scan is = record { slow = got.slow; new = got.new; looked = got.looked; seen = got.seen; scan = scan; is = is }
 
-shadow-told : (made : ChooseMade) (home frame : ℕ) (pages : List ℕ) (g : Geometry) (view now later : View) (word : ℕ) (h : IsReadingShadow made home frame pages g view now) → IsActed g now (Read made.page (cells.Shadow home)) (Word word) later
-    → IsShadowRead g now home word (looked_op made.page view.room.aliases (Some (home_word home)) None h.got.looked)
+shadow-told : (made : ChooseMade) (home frame : ℕ) (pages : List ℕ) (g : Geometry) (view now later : View) (word : ℕ) (h : IsReadingShadowInMove made home frame pages g view now) → IsActed g now (Read made.page (cells.Shadow home)) (Word word) later
+    → IsShadowRead g now home word (move_looked_op made.page view.room.aliases (Some (home_word home)) None h.got.looked)
 shadow-told made home frame pages g view now later word h acted =
-    let o : Op = looked_op made.page view.room.aliases (Some (home_word home)) None h.got.looked in
+    let o : Op = move_looked_op made.page view.room.aliases (Some (home_word home)) None h.got.looked in
     let on = ap (λ (v : View). op_on v made.page) h.is ∙ opened-on o (owning frame Raw view.owned) h.got.scan made.page view refl in
     subst (λ (x : Option Op). IfSome x (IsReadOf g now (cells.Shadow home) word)) on acted.fits.told.said
 
-shadow-view : (made : ChooseMade) (home frame : ℕ) (pages : List ℕ) (g : Geometry) (view now later : View) (word : ℕ) (h : IsReadingShadow made home frame pages g view now) → IsActed g now (Read made.page (cells.Shadow home)) (Word word) later
-    → later ≡ opened_view (looked_op made.page view.room.aliases (Some (home_word home)) (Some word) h.got.looked) (owning frame Raw view.owned) h.got.scan view
+shadow-view : (made : ChooseMade) (home frame : ℕ) (pages : List ℕ) (g : Geometry) (view now later : View) (word : ℕ) (h : IsReadingShadowInMove made home frame pages g view now) → IsActed g now (Read made.page (cells.Shadow home)) (Word word) later
+    → later ≡ opened_view (move_looked_op made.page view.room.aliases (Some (home_word home)) (Some word) h.got.looked) (owning frame Raw view.owned) h.got.scan view
 shadow-view made home frame pages g view now later word h acted =
     acted.is ∙ ap (λ (v : View). after_of g v (Read made.page (cells.Shadow home)) (Word word)) h.is
-    ∙ after-read g (looked_op made.page view.room.aliases (Some (home_word home)) None h.got.looked) (owning frame Raw view.owned) h.got.scan made.page word (cells.Shadow home) view refl
+    ∙ after-read g (move_looked_op made.page view.room.aliases (Some (home_word home)) None h.got.looked) (owning frame Raw view.owned) h.got.scan made.page word (cells.Shadow home) view refl
 
 news-range : (g : Geometry) (page master word : ℕ) → IsGeometry g → word ≢ 0 → IsNewsOfShadow g page master word → IsFrame g (shadow_frame word)
 news-range g page master word geometry some (inl none) = absurd (some none)
 news-range g page master word geometry some (inr (frame, names)) = subst (IsFrame g) (sym (shadow_frame-NamesShadow g word page frame geometry.ranges.1.3 names.names)) names.names.range
 
 -- there is none
-pub after-no-shadow : (made : ChooseMade) (home frame : ℕ) (pages : List ℕ) (g : Geometry) (view now later : View) (own : Own) (end : PieceEnd) → IsReadingShadow made home frame pages g view now → EndsSo own (This (Read made.page (cells.Shadow home))) g now end later
-    → told_in end ≡ 0 → HasReady made g view home frame pages later
+pub after-no-shadow : (made : ChooseMade) (home frame : ℕ) (pages : List ℕ) (g : Geometry) (view now later : View) (own : Own) (end : PieceEndInMove) → IsReadingShadowInMove made home frame pages g view now → EndsSo own (This (Read made.page (cells.Shadow home))) g now end later
+    → move_told_in end ≡ 0 → HasReadyInMove made g view home frame pages later
 after-no-shadow made home frame pages g view now later own (This Done) h a none = absurd a.0.fits.kind
 after-no-shadow made home frame pages g view now later own (This (Busy w)) h a none = absurd a.0.fits.kind
 after-no-shadow made home frame pages g view now later own (This (Lost w)) h a none = absurd a.0.fits.kind
 after-no-shadow made home frame pages g view now later own (Other x) h a none = absurd a.0
 after-no-shadow made home frame pages g view now later own (This (Word word)) h a none =
     ready-now made home frame pages g view later h.got h.got.scan (shadow-view made home frame pages g view now later word h a.0
-    ∙ ap (λ (w : ℕ). opened_view (looked_op made.page view.room.aliases (Some (home_word home)) (Some w) h.got.looked) (owning frame Raw view.owned) h.got.scan view) none)
+    ∙ ap (λ (w : ℕ). opened_view (move_looked_op made.page view.room.aliases (Some (home_word home)) (Some w) h.got.looked) (owning frame Raw view.owned) h.got.scan view) none)
 
-unshade-runs : (made : ChooseMade) (home shadow frame : ℕ) (pages : List ℕ) (g : Geometry) (view now : View) → IsUnshading made home shadow frame pages g view now
-    → RunsChoose made (Unshading home shadow frame pages) (Follows (IsAct (SetShadow made.page home None) g) (λ set. PutsBack g made home shadow frame pages)) g view now
+unshade-runs : (made : ChooseMade) (home shadow frame : ℕ) (pages : List ℕ) (g : Geometry) (view now : View) → IsUnshadingInMove made home shadow frame pages g view now
+    → RunsChoose made (Unshading home shadow frame pages) (Follows (IsAct (SetShadow made.page home None) g) (λ set. PutsBackInMove g made home shadow frame pages)) g view now
 unshade-runs made home shadow frame pages g view now h =
-    let o : Op = looked_op made.page view.room.aliases (Some (home_word home)) (Some shadow) h.has.got.looked in
-    act-run made (Unshading home shadow frame pages) (λ set. PutsBack g made home shadow frame pages) (SetShadow made.page home None) g view now refl
+    let o : Op = move_looked_op made.page view.room.aliases (Some (home_word home)) (Some shadow) h.has.got.looked in
+    act-run made (Unshading home shadow frame pages) (λ set. PutsBackInMove g made home shadow frame pages) (SetShadow made.page home None) g view now refl
     (record {
       quiet = tt;
       allowed = record {
@@ -406,8 +406,8 @@ unshade-runs made home shadow frame pages g view now h =
     }) h (λ own outcome f. f) (λ end. can-puts-back g made home shadow frame pages)
 
 -- there is one
-pub after-shadow : (made : ChooseMade) (home frame : ℕ) (pages : List ℕ) (g : Geometry) (view now later : View) (own : Own) (end : PieceEnd) → IsReadingShadow made home frame pages g view now → EndsSo own (This (Read made.page (cells.Shadow home))) g now end later
-    → told_in end ≢ 0 → RunsChoose made (Unshading home (told_in end) frame pages) (Discards g made home (told_in end) frame pages) g view later
+pub after-shadow : (made : ChooseMade) (home frame : ℕ) (pages : List ℕ) (g : Geometry) (view now later : View) (own : Own) (end : PieceEndInMove) → IsReadingShadowInMove made home frame pages g view now → EndsSo own (This (Read made.page (cells.Shadow home))) g now end later
+    → move_told_in end ≢ 0 → RunsChoose made (Unshading home (move_told_in end) frame pages) (DiscardsInMove g made home (move_told_in end) frame pages) g view later
 after-shadow made home frame pages g view now later own (This Done) h a some = absurd a.0.fits.kind
 after-shadow made home frame pages g view now later own (This (Busy w)) h a some = absurd a.0.fits.kind
 after-shadow made home frame pages g view now later own (This (Lost w)) h a some = absurd a.0.fits.kind
@@ -424,21 +424,21 @@ after-shadow made home frame pages g view now later own (This (Word word)) h a s
       is = shadow-view made home frame pages g view now later word h a.0;
     }) in
     let test : (word == 0) ≡ false = grind (arith, some) in
-    let D : Bool → Type 0 = λ t. RunsChoose made (Unshading home word frame pages) (Either t (Ends (ends.Ready home frame pages)) (Follows (IsAct (SetShadow made.page home None) g) (λ set. PutsBack g made home word frame pages))) g view later in
+    let D : Bool → Type 0 = λ t. RunsChoose made (Unshading home word frame pages) (Either t (Ends (ends.Ready home frame pages)) (Follows (IsAct (SetShadow made.page home None) g) (λ set. PutsBackInMove g made home word frame pages))) g view later in
     subst D (sym test) run
 
 -- the shadow word is set to none: its frame is put back
-pub after-unshading : (made : ChooseMade) (home shadow frame : ℕ) (pages : List ℕ) (g : Geometry) (view now later : View) (own : Own) (end : PieceEnd) → IsUnshading made home shadow frame pages g view now → EndsSo own (This (SetShadow made.page home None)) g now end later
-    → RunsChoose made (PuttingBack home shadow frame pages) (PutsBack g made home shadow frame pages) g view later
+pub after-unshading : (made : ChooseMade) (home shadow frame : ℕ) (pages : List ℕ) (g : Geometry) (view now later : View) (own : Own) (end : PieceEndInMove) → IsUnshadingInMove made home shadow frame pages g view now → EndsSo own (This (SetShadow made.page home None)) g now end later
+    → RunsChoose made (PuttingBack home shadow frame pages) (PutsBackInMove g made home shadow frame pages) g view later
 after-unshading made home shadow frame pages g view now later own (This (Word w)) h a = absurd a.0.fits.kind
 after-unshading made home shadow frame pages g view now later own (This (Busy w)) h a = absurd a.0.fits.kind
 after-unshading made home shadow frame pages g view now later own (This (Lost w)) h a = absurd a.0.fits.kind
 after-unshading made home shadow frame pages g view now later own (Other x) h a = absurd a.0
 after-unshading made home shadow frame pages g view now later own (This Done) h a =
-    let o : Op = looked_op made.page view.room.aliases (Some (home_word home)) (Some shadow) h.has.got.looked in
+    let o : Op = move_looked_op made.page view.room.aliases (Some (home_word home)) (Some shadow) h.has.got.looked in
     let new : Owned = record { frame = shadow_frame shadow; fill = Raw } in
     let owned : List Owned = owning (shadow_frame shadow) Raw (owning frame Raw view.owned) in
-    let is : later ≡ opened_view (looked_op made.page view.room.aliases (Some (home_word home)) (Some 0) h.has.got.looked) owned h.has.got.scan view =
+    let is : later ≡ opened_view (move_looked_op made.page view.room.aliases (Some (home_word home)) (Some 0) h.has.got.looked) owned h.has.got.scan view =
     a.0.is ∙ ap (λ (v : View). after_of g v (SetShadow made.page home None) Done) h.is ∙ after-unshade g o (owning frame Raw view.owned) h.has.got.scan made.page home view refl in
     let there : IsSome (find owned_frame (shadow_frame shadow) owned) = some-is (find owned_frame (shadow_frame shadow) owned) new (find_put owned_frame new (owning frame Raw view.owned)) in
     let may : MayBegin (pool_made g (Back (shadow_frame shadow))) g later = record {
@@ -450,15 +450,15 @@ after-unshading made home shadow frame pages g view now later own (This Done) h 
     task-run made (PuttingBack home shadow frame pages) (λ back. Ends (ends.Ready home frame pages)) (pool_made g (Back (shadow_frame shadow))) g view later refl may (record { has = h.has; is = is })
     (λ own outcome f. f) (λ own end shown. can-ends (ends.Ready home frame pages))
 
-pub after-putting-back : (made : ChooseMade) (home shadow frame : ℕ) (pages : List ℕ) (g : Geometry) (view now later : View) (own : Own) (end : PieceEnd) → IsPuttingBack made home shadow frame pages g view now → EndsSo own (Other (Other (pool_made g (Back (shadow_frame shadow))))) g now end later
-    → HasReady made g view home frame pages later
+pub after-putting-back : (made : ChooseMade) (home shadow frame : ℕ) (pages : List ℕ) (g : Geometry) (view now later : View) (own : Own) (end : PieceEndInMove) → IsPuttingBackInMove made home shadow frame pages g view now → EndsSo own (Other (Other (pool_made g (Back (shadow_frame shadow))))) g now end later
+    → HasReadyInMove made g view home frame pages later
 after-putting-back made home shadow frame pages g view now later own (This x) h a = absurd a.0
 after-putting-back made home shadow frame pages g view now later own (Other (This x)) h a = absurd a.0
 after-putting-back made home shadow frame pages g view now later own (Other (Other (pools.Got f))) h a = absurd a.1.work
 after-putting-back made home shadow frame pages g view now later own (Other (Other (pools.AtFloor n))) h a = absurd a.1.work
 after-putting-back made home shadow frame pages g view now later own (Other (Other (pools.Level n))) h a = absurd a.1.work
 after-putting-back made home shadow frame pages g view now later own (Other (Other pools.Back)) h a =
-    let o : Op = looked_op made.page view.room.aliases (Some (home_word home)) (Some 0) h.has.got.looked in
+    let o : Op = move_looked_op made.page view.room.aliases (Some (home_word home)) (Some 0) h.has.got.looked in
     let new : Owned = record { frame = shadow_frame shadow; fill = Raw } in
     let rest : List Owned = owning frame Raw view.owned in
     ready-now made home frame pages g view later h.has.got unscanned
@@ -467,7 +467,7 @@ after-putting-back made home shadow frame pages g view now later own (Other (Oth
     ∙ ap (λ (l : List Owned). opened_view o l unscanned view) (erase-put new rest h.has.fresh))
 
 -- nothing more happens where there is no shadow
-pub discards-none : (made : ChooseMade) (home shadow frame : ℕ) (pages : List ℕ) (g : Geometry) → shadow ≡ 0 → Discards g made home shadow frame pages [] (ends.Ready home frame pages)
+pub discards-none : (made : ChooseMade) (home shadow frame : ℕ) (pages : List ℕ) (g : Geometry) → shadow ≡ 0 → DiscardsInMove g made home shadow frame pages [] (ends.Ready home frame pages)
 discards-none made home shadow frame pages g none =
     let test : (shadow == 0) ≡ true = grind (arith, none) in
-    either-yes (shadow == 0) (Ends (ends.Ready home frame pages)) (Follows (IsAct (SetShadow made.page home None) g) (λ set. PutsBack g made home shadow frame pages)) [] (ends.Ready home frame pages) test (ends-now (ends.Ready home frame pages))
+    either-yes (shadow == 0) (Ends (ends.Ready home frame pages)) (Follows (IsAct (SetShadow made.page home None) g) (λ set. PutsBackInMove g made home shadow frame pages)) [] (ends.Ready home frame pages) test (ends-now (ends.Ready home frame pages))

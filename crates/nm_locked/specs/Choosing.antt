@@ -26,60 +26,60 @@ use Rattle.nm_locked.specs.declared.choose.Chosen.{Chosen}
 use Rattle.nm_locked.specs.declared.choose.Chosen.TheVariants.{Busy, Closed, Ready}
 
 -- The early end: the page is pending no more, and it is unlocked.
-abbrev pub Unlocks : Geometry → ChooseMade → Early → Own → Chosen → Type 0
-Unlocks g made early = Follows (IsAct (Unlock made.page) g) (λ unlocked. Ends (Closed early))
+abbrev pub UnlocksInMove : Geometry → ChooseMade → Early → Own → Chosen → Type 0
+UnlocksInMove g made early = Follows (IsAct (Unlock made.page) g) (λ unlocked. Ends (Closed early))
 
-abbrev pub Closes : Geometry → ChooseMade → Early → Own → Chosen → Type 0
-Closes g made early = Follows (IsAct (Mark made.page 2 0) g) (λ marked. Unlocks g made early)
+abbrev pub ClosesInMove : Geometry → ChooseMade → Early → Own → Chosen → Type 0
+ClosesInMove g made early = Follows (IsAct (Mark made.page 2 0) g) (λ marked. UnlocksInMove g made early)
 
 -- each virtual page that has a word is armed before
 abbrev pub ArmsAll : Geometry → ChooseMade → Early → List ℕ → Own → Chosen → Type 0
-ArmsAll g made early pages = Follows (IsVisits (arms_made made.page pages) g) (λ armed. Closes g made early)
+ArmsAll g made early pages = Follows (IsVisits (arms_made made.page pages) g) (λ armed. ClosesInMove g made early)
 
 -- 6. The shadow word of the home is read; a shadow is given up: the word is set to none, and its frame is put back.
-abbrev pub PutsBack : Geometry → ChooseMade → ℕ → ℕ → ℕ → List ℕ → Own → Chosen → Type 0
-PutsBack g made home shadow frame pages = Follows (IsPool g (Back (shadow_frame shadow))) (λ back. Ends (Ready home frame pages))
+abbrev pub PutsBackInMove : Geometry → ChooseMade → ℕ → ℕ → ℕ → List ℕ → Own → Chosen → Type 0
+PutsBackInMove g made home shadow frame pages = Follows (IsPool g (Back (shadow_frame shadow))) (λ back. Ends (Ready home frame pages))
 
-abbrev pub Discards : Geometry → ChooseMade → ℕ → ℕ → ℕ → List ℕ → Own → Chosen → Type 0
-Discards g made home shadow frame pages = Either (shadow == 0) (Ends (Ready home frame pages))
-    (Follows (IsAct (SetShadow made.page home None) g) (λ set. PutsBack g made home shadow frame pages))
+abbrev pub DiscardsInMove : Geometry → ChooseMade → ℕ → ℕ → ℕ → List ℕ → Own → Chosen → Type 0
+DiscardsInMove g made home shadow frame pages = Either (shadow == 0) (Ends (Ready home frame pages))
+    (Follows (IsAct (SetShadow made.page home None) g) (λ set. PutsBackInMove g made home shadow frame pages))
 
-abbrev pub ReadsShadow : Geometry → ChooseMade → ℕ → ℕ → List ℕ → Own → Chosen → Type 0
-ReadsShadow g made home frame pages = Follows (IsAct (Read made.page (cells.Shadow home)) g) (λ reply. Discards g made home (told reply) frame pages)
+abbrev pub ReadsShadowInMove : Geometry → ChooseMade → ℕ → ℕ → List ℕ → Own → Chosen → Type 0
+ReadsShadowInMove g made home frame pages = Follows (IsAct (Read made.page (cells.Shadow home)) g) (λ reply. DiscardsInMove g made home (told reply) frame pages)
 
 -- no list has this pattern
-abbrev pub Never : Own → Chosen → Type 0
-Never own outcome = ⊥
+abbrev pub NeverInMove : Own → Chosen → Type 0
+NeverInMove own outcome = ⊥
 
 -- 5. A frame of the next faster tier is taken; where its frames are too few, the work ends.
-abbrev pub AfterTake : Geometry → ChooseMade → ℕ → List ℕ → PoolEnd → Own → Chosen → Type 0
-AfterTake g made home pages (pools.Got frame) = ReadsShadow g made home frame pages
-AfterTake g made home pages (pools.AtFloor n) = ArmsAll g made (NoFrame n) pages
-AfterTake g made home pages (pools.Level n) = Never
-AfterTake g made home pages pools.Back = Never
+abbrev pub AfterTakeInMove : Geometry → ChooseMade → ℕ → List ℕ → PoolEnd → Own → Chosen → Type 0
+AfterTakeInMove g made home pages (pools.Got frame) = ReadsShadowInMove g made home frame pages
+AfterTakeInMove g made home pages (pools.AtFloor n) = ArmsAll g made (NoFrame n) pages
+AfterTakeInMove g made home pages (pools.Level n) = NeverInMove
+AfterTakeInMove g made home pages pools.Back = NeverInMove
 
-abbrev pub Takes : Geometry → ChooseMade → ℕ → List ℕ → Own → Chosen → Type 0
-Takes g made home pages = Follows (IsPool g (Take (tier_above g home) (floor_above g home))) (AfterTake g made home pages)
+abbrev pub TakesInMove : Geometry → ChooseMade → ℕ → List ℕ → Own → Chosen → Type 0
+TakesInMove g made home pages = Follows (IsPool g (Take (tier_above g home) (floor_above g home))) (AfterTakeInMove g made home pages)
 
 -- 4. Each virtual page of the page is looked at; where another number of them have words, the work ends.
-abbrev pub AfterLooks : Geometry → ChooseMade → ℕ → List ℕ → Own → Chosen → Type 0
-AfterLooks g made home pages = Either (length pages == made.count) (Takes g made home pages) (ArmsAll g made Gone pages)
+abbrev pub AfterLooksInMove : Geometry → ChooseMade → ℕ → List ℕ → Own → Chosen → Type 0
+AfterLooksInMove g made home pages = Either (length pages == made.count) (TakesInMove g made home pages) (ArmsAll g made Gone pages)
 
-abbrev pub Looks : Geometry → ChooseMade → ℕ → Own → Chosen → Type 0
-Looks g made home = Follows (IsVisits (looks_made made.page (vpages_of g made.page)) g) (AfterLooks g made home)
+abbrev pub LooksInMove : Geometry → ChooseMade → ℕ → Own → Chosen → Type 0
+LooksInMove g made home = Follows (IsVisits (looks_made made.page (vpages_of g made.page)) g) (AfterLooksInMove g made home)
 
 -- 3. The home is read; where there is none, or it is in tier 0, the work ends.
-abbrev pub AfterHome : Geometry → ChooseMade → ℕ → Own → Chosen → Type 0
-AfterHome g made word = Either (is_slow_home g word) (Looks g made (word - 1)) (Closes g made Gone)
+abbrev pub AfterHomeInMove : Geometry → ChooseMade → ℕ → Own → Chosen → Type 0
+AfterHomeInMove g made word = Either (is_slow_home g word) (LooksInMove g made (word - 1)) (ClosesInMove g made Gone)
 
-abbrev pub ReadsHome : Geometry → ChooseMade → Own → Chosen → Type 0
-ReadsHome g made = Follows (IsAct (Read made.page (cells.Home made.page)) g) (λ reply. AfterHome g made (told reply))
+abbrev pub ReadsHomeInMove : Geometry → ChooseMade → Own → Chosen → Type 0
+ReadsHomeInMove g made = Follows (IsAct (Read made.page (cells.Home made.page)) g) (λ reply. AfterHomeInMove g made (told reply))
 
 -- 2. Where almost all numbers are drawn, the work ends.
 -- 1. The page is locked; where that is Busy, the work ends.
-abbrev pub AfterLock : Geometry → ChooseMade → Reply → Own → Chosen → Type 0
-AfterLock g made Done = Either (is_worn made.spent) (Closes g made Worn) (ReadsHome g made)
-AfterLock g made _ = Ends Busy
+abbrev pub AfterLockInMove : Geometry → ChooseMade → Reply → Own → Chosen → Type 0
+AfterLockInMove g made Done = Either (is_worn made.spent) (ClosesInMove g made Worn) (ReadsHomeInMove g made)
+AfterLockInMove g made _ = Ends Busy
 
 abbrev pub IsChoosing : ChooseMade → Geometry → Own → Chosen → Type 0
-IsChoosing made g = Follows (IsAct (Lock made.page) g) (AfterLock g made)
+IsChoosing made g = Follows (IsAct (Lock made.page) g) (AfterLockInMove g made)

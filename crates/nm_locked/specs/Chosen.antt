@@ -38,11 +38,11 @@ abbrev pub opened_view : Op → List Owned → Scanned → View → View
 opened_view op owned scan view = record view { ops = op ∷ []; owned = owned; scan = scan }
 
 -- an operation of which nothing was changed: what it knows of its home and shadow word, and what it has looked at
-abbrev pub looked_op : ℕ → ℕ → Option ℕ → Option ℕ → List (ℕ × ℕ) → Op
-looked_op page room home shadow looked = record (opened page room) { home = home; shadow = shadow; looked = looked }
+abbrev pub move_looked_op : ℕ → ℕ → Option ℕ → Option ℕ → List (ℕ × ℕ) → Op
+move_looked_op page room home shadow looked = record (opened page room) { home = home; shadow = shadow; looked = looked }
 
 -- the home was read: it is there, in a tier other than 0, and not owned; and numbers enough are left
-pub record IsSlowHome (made : ChooseMade) (g : Geometry) (view : View) (home : ℕ) : Type 0 where
+pub record IsSlowHomeInMove (made : ChooseMade) (g : Geometry) (view : View) (home : ℕ) : Type 0 where
   pub may : MayChoose g made g view
   pub left : is_worn made.spent ≡ false
   pub range : IsFrame g home
@@ -50,7 +50,7 @@ pub record IsSlowHome (made : ChooseMade) (g : Geometry) (view : View) (home : �
   pub unowned : IsNotOwned view home
 
 -- every virtual page of the page was looked at, and these have words, as many as are wanted
-pub record HasSeen (made : ChooseMade) (g : Geometry) (pages : List ℕ) (looked : List (ℕ × ℕ)) : Type 0 where
+pub record HasSeenInMove (made : ChooseMade) (g : Geometry) (pages : List ℕ) (looked : List (ℕ × ℕ)) : Type 0 where
   pub of : All (λ v. backing_page g v ≡ Some made.page) pages
   pub over : IsLookedOver g made.page looked
   pub mapped : All (λ v. IsSomeAnd (find first v looked) (λ p. p.1 ≢ 0)) pages
@@ -59,27 +59,27 @@ pub record HasSeen (made : ChooseMade) (g : Geometry) (pages : List ℕ) (looked
   pub few : length pages ≤ most_vpages
 
 -- a frame was taken: the view did not own it, and it is not the home
-pub record IsNewFrame (g : Geometry) (view : View) (home frame : ℕ) : Type 0 where
+pub record IsNewFrameInMove (g : Geometry) (view : View) (home frame : ℕ) : Type 0 where
   pub range : IsFrame g frame
   pub fresh : IsNotOwned view frame
   pub other : frame ≢ home
 
 -- the page is ready: its operation is the only one, with no shadow, and the new frame is owned
-pub record HasReady (made : ChooseMade) (g : Geometry) (view : View) (home frame : ℕ) (pages : List ℕ) (left : View) : Type 0 where
-  pub slow : IsSlowHome made g view home
-  pub new : IsNewFrame g view home frame
+pub record HasReadyInMove (made : ChooseMade) (g : Geometry) (view : View) (home frame : ℕ) (pages : List ℕ) (left : View) : Type 0 where
+  pub slow : IsSlowHomeInMove made g view home
+  pub new : IsNewFrameInMove g view home frame
   pub looked : List (ℕ × ℕ)
-  pub seen : HasSeen made g pages looked
+  pub seen : HasSeenInMove made g pages looked
   pub scan : Scanned
-  pub is : left ≡ opened_view (looked_op made.page view.room.aliases (Some (home_word home)) (Some 0) looked) (owning frame Raw view.owned) scan view
+  pub is : left ≡ opened_view (move_looked_op made.page view.room.aliases (Some (home_word home)) (Some 0) looked) (owning frame Raw view.owned) scan view
 
 -- the work ended early, and the page is unlocked again
-pub record HasClosed (page : ℕ) (view left : View) : Type 0 where
+pub record HasClosedInMove (page : ℕ) (view left : View) : Type 0 where
   pub scan : Scanned
   pub is : left ≡ record view { owned = spoiled page view.owned; scan = scan }
 
 -- what they leave
 abbrev pub IsChosen : ChooseMade → Geometry → View → Chosen → View → Type 0
 IsChosen made g view Busy left = left ≡ view
-IsChosen made g view (Closed early) left = HasClosed made.page view left
-IsChosen made g view (Ready home frame pages) left = HasReady made g view home frame pages left
+IsChosen made g view (Closed early) left = HasClosedInMove made.page view left
+IsChosen made g view (Ready home frame pages) left = HasReadyInMove made g view home frame pages left

@@ -6,7 +6,7 @@ use Rattle.nm_event.specs.After.{spoiled}
 use Rattle.nm_locked.specs.declared.choose.ChooseMade.{ChooseMade}
 use Rattle.nm_locked.specs.declared.locked.LockedEnd.{LockedEnd}
 use Rattle.nm_locked.specs.declared.locked.LockedEnd.TheVariants.{Moved, NoFrame, Gone, Worn, Busy}
-use Rattle.nm_locked.specs.Chosen.{HasClosed}
+use Rattle.nm_locked.specs.Chosen.{HasClosedInMove}
 
 -- the page is moved and unlocked: one bump more, and a raise of each of its virtual pages; no operation and no frame of the
 -- move is left
@@ -16,7 +16,7 @@ pub record HasMoved (made : ChooseMade) (view left : View) : Type 0 where
 
 abbrev pub IsLockedLeft : ChooseMade → View → LockedEnd → View → Type 0
 IsLockedLeft made view Moved left = HasMoved made view left
-IsLockedLeft made view (NoFrame n) left = HasClosed made.page view left
-IsLockedLeft made view Gone left = HasClosed made.page view left
-IsLockedLeft made view Worn left = HasClosed made.page view left
+IsLockedLeft made view (NoFrame n) left = HasClosedInMove made.page view left
+IsLockedLeft made view Gone left = HasClosedInMove made.page view left
+IsLockedLeft made view Worn left = HasClosedInMove made.page view left
 IsLockedLeft made view Busy left = left ≡ view

@@ -17,19 +17,19 @@ use Rattle.nm_pool.specs.Stages.{made_of, IsNewPool}
 use Rattle.nm_pool.specs.declared.job.PoolMade.{PoolMade}
 use Rattle.nm_pool.specs.declared.job.PoolEnd.{PoolEnd}
 use Rattle.nm_pool.specs.declared.task.PoolTask.{PoolTask}
-use Rattle.nm_prepare.specs.Placing.{IsPlaced}
+use Rattle.nm_prepare.specs.Placing.{IsPlanPlaced}
 use Rattle.nm_transfer.specs.declared.transfer.TransferMade.{TransferMade}
 use Rattle.nm_transfer.specs.declared.transfer.Transfer.{Transfer}
 use Rattle.nm_transfer.specs.Transferring.{IsTransfer}
 use Rattle.nm_transfer.specs.Moving.{MayTransfer, IsTransferred}
-use Rattle.nm_transfer.specs.Stages.{place_of, left_at, transfer_stages}
+use Rattle.nm_transfer.specs.Stages.{transfer_place, transfer_left, transfer_stages}
 use Rattle.nm_transfer.specs.Stages as transfers
 use Rattle.nm_locked.specs.declared.choose.ChooseMade.{ChooseMade}
 use Rattle.nm_locked.specs.declared.choose.Choose.{Choose}
 use Rattle.nm_locked.specs.declared.choose.Chosen.{Chosen}
 use Rattle.nm_locked.specs.Choosing.{IsChoosing}
 use Rattle.nm_locked.specs.Chosen.{MayChoose, IsChosen}
-use Rattle.nm_locked.specs.Stages.{Piece, piece_made, IsNewPiece, MayPiece, IsPoolOf, IsPiece, choose_piece, choose_left, ChooseKnown}
+use Rattle.nm_locked.specs.Stages.{PieceInMove, move_piece_made, IsNewPieceInMove, MayPieceInMove, IsPoolOf, IsPieceInMove, choose_piece, choose_left, ChooseKnown}
 
 abbrev pub LockedParts : Type 0
 LockedParts = Or (Geometry × ChooseMade) (Or TransferMade (Or Action PoolMade))
@@ -55,10 +55,10 @@ LockedPieceLeaves = LeavesOr (λ made g view outcome left. IsChosen made.1 g vie
     (LeavesOr (λ action g view reply left. IsActed g view action reply left) (λ made g view end left. Leaves g made.job view end left)))
 
 abbrev pub ChoosePart : Type 0
-ChoosePart = Composite Choose Piece
+ChoosePart = Composite Choose PieceInMove
 
 abbrev pub TransferPart : Type 0
-TransferPart = Composite Transfer transfers.Piece
+TransferPart = Composite Transfer transfers.PieceOfTransfer
 
 abbrev pub LockedPiece : Type 0
 LockedPiece = Or ChoosePart (Or TransferPart (Or Act PoolTask))
@@ -68,11 +68,11 @@ abbrev pub locked_parts : LockedPiece → LockedParts
 locked_parts = or_made (λ c. record { 0 = c.plan.geometry.now; 1 = c.plan.made }) (or_made (λ c. c.plan.made) (or_made (λ a. a.action) made_of))
 
 abbrev pub IsNewChoosePart : ChoosePart → Type 0
-IsNewChoosePart c = HasFirst piece_made IsNewPiece MayPiece IsPiece (IsPlaced choose_piece ChooseKnown c.plan.geometry.now c.plan.made c.plan.stage) (choose_left c.plan.made c.plan.stage)
+IsNewChoosePart c = HasFirst move_piece_made IsNewPieceInMove MayPieceInMove IsPieceInMove (IsPlanPlaced choose_piece ChooseKnown c.plan.geometry.now c.plan.made c.plan.stage) (choose_left c.plan.made c.plan.stage)
     MayChooseOf IsChoosingOf (record { 0 = c.plan.geometry.now; 1 = c.plan.made }) c.piece
 
 abbrev pub IsNewTransferPart : TransferPart → Type 0
-IsNewTransferPart c = HasFirst transfers.piece_made transfers.IsNewPiece transfers.MayPiece transfers.IsPiece (IsPieceAt transfer_stages c.plan.made (place_of c.plan)) (left_at c.plan.made (place_of c.plan)) MayTransfer IsTransfer c.plan.made c.piece
+IsNewTransferPart c = HasFirst transfers.transfer_piece_made transfers.IsNewTransferPiece transfers.MayTransferPiece transfers.IsTransferPiece (IsPieceAt transfer_stages c.plan.made (transfer_place c.plan)) (transfer_left c.plan.made (transfer_place c.plan)) MayTransfer IsTransfer c.plan.made c.piece
 
 abbrev pub IsNewLockedPiece : LockedPiece → Type 0
 IsNewLockedPiece = IsNewOr IsNewChoosePart (IsNewOr IsNewTransferPart (IsNewOr (λ a. Unit {0}) IsNewPool))

@@ -26,8 +26,8 @@ use Rattle.nm_locked.specs.declared.locked.LockedOver.{LockedOver}
 use Rattle.nm_locked.specs.declared.locked.LockedStage.{LockedStage}
 use Rattle.nm_locked.specs.declared.locked.LockedStage.TheVariants.{Idle, Choosing, Moving, Marking, Unlocking, GivingBack}
 use Rattle.nm_locked.specs.declared.locked.Locked.{Locked}
-use Rattle.nm_locked.specs.Chosen.{MayChoose, IsSlowHome, HasReady}
-use Rattle.nm_locked.specs.Moves.{GivesBack, UnlocksMoved, Marks, locked_transfer, AfterChoosing}
+use Rattle.nm_locked.specs.Chosen.{MayChoose, IsSlowHomeInMove, HasReadyInMove}
+use Rattle.nm_locked.specs.Moves.{GivesBackInMove, UnlocksMoved, MarksInMove, locked_transfer, AfterChoosing}
 use Rattle.nm_locked.specs.Pieces.{LockedParts, LockedPieceEnd, LockedPiece}
 
 -- the stage of a move, and the list that it holds for the words
@@ -69,9 +69,9 @@ chosen_in (Other end) = chosen.Busy
 abbrev pub stage_left : ChooseMade → LockedStage → Geometry → LockedPieceEnd → Own → LockedEnd → Type 0
 stage_left made Idle g end own outcome = ⊥
 stage_left made Choosing g end own outcome = AfterChoosing g made (chosen_in end) own outcome
-stage_left made (Moving home frame pages) g end own outcome = Marks g made home own outcome
+stage_left made (Moving home frame pages) g end own outcome = MarksInMove g made home own outcome
 stage_left made (Marking home) g end own outcome = UnlocksMoved g made home own outcome
-stage_left made (Unlocking home) g end own outcome = GivesBack g made home own outcome
+stage_left made (Unlocking home) g end own outcome = GivesBackInMove g made home own outcome
 stage_left made (GivingBack home) g end own outcome = Ends Moved own outcome
 
 abbrev pub locked_left : ChooseMade → LockedPlace → Geometry → LockedPieceEnd → Own → LockedOver → Type 0
@@ -86,7 +86,7 @@ pub record IsChoosingNow (made : ChooseMade) (g : Geometry) (view now : View) : 
 
 -- the page is moved, and its operation may be closed
 pub record IsMovedNow (made : ChooseMade) (home : ℕ) (g : Geometry) (view now : View) : Type 0 where
-  pub slow : IsSlowHome made g view home
+  pub slow : IsSlowHomeInMove made g view home
   pub op : Op
   pub page_is : op.page ≡ made.page
   pub unlock : MayUnlock g op
@@ -95,14 +95,14 @@ pub record IsMovedNow (made : ChooseMade) (home : ℕ) (g : Geometry) (view now 
 
 -- it is unlocked
 pub record IsUnlockedNow (made : ChooseMade) (home : ℕ) (g : Geometry) (view now : View) : Type 0 where
-  pub slow : IsSlowHome made g view home
+  pub slow : IsSlowHomeInMove made g view home
   pub scan : Scanned
   pub is : now ≡ record view { owned = spoiled made.page (owning home (Equal made.page) view.owned); scan = scan; bumps = view.bumps + 1; raises = view.raises + made.count }
 
 abbrev pub StageKnown : ChooseMade → LockedStage → Geometry → View → View → Type 0
 StageKnown made Idle g view now = ⊥
 StageKnown made Choosing g view now = IsChoosingNow made g view now
-StageKnown made (Moving home frame pages) g view now = HasReady made g view home frame pages now
+StageKnown made (Moving home frame pages) g view now = HasReadyInMove made g view home frame pages now
 StageKnown made (Marking home) g view now = IsMovedNow made home g view now
 StageKnown made (Unlocking home) g view now = IsMovedNow made home g view now
 StageKnown made (GivingBack home) g view now = IsUnlockedNow made home g view now

@@ -11,7 +11,7 @@ ghost use Rattle.nm_pool.specs.declared.job.PoolJob.{PoolJob};
 ghost use Rattle.nm_mappings.specs.Visiting.{IsNewVisits};
 ghost use Rattle.nm_prepare.specs.Preparing.{is_slow_home, tier_above, floor_above};
 ghost use Rattle.nm_locked.specs.declared.choose.Stage.{Stage};
-ghost use Rattle.nm_locked.specs.Stages.{choose_piece, piece_made, IsNewPiece, MayGo, MayTakeFrom, lock_stage, home_stage, looked_stage, arm_stage, told_in, found_in};
+ghost use Rattle.nm_locked.specs.Stages.{choose_piece, move_piece_made, IsNewPieceInMove, MayGoInMove, MayTakeFromInMove, move_lock_stage, move_home_stage, move_looked_stage, move_arm_stage, move_told_in, move_found_in};
 
 use nm_base::Geometry;
 use nm_base::shadow_word::shadow_frame;
@@ -158,36 +158,36 @@ impl<'a> Choose<'a> {
     }
 
     /// The stage after the home word was read.
-    fn home_stage(&self, word: u64) -> Stage
+    fn move_home_stage(&self, word: u64) -> Stage
         requires geometry { IsGeometry self.now.geometry.now }
         requires word { IsHomeWord self.now.geometry.now word }
-        ensures { result ≡ home_stage self.now.geometry.now self.now.made word }
+        ensures { result ≡ move_home_stage self.now.geometry.now self.now.made word }
     {
         if !self.is_slow_home(word) {
             return Stage::Marking(Early::Gone);
         }
         let home = (word - 1) as u32;
         if VPageSet::of_page(self.geometry, self.made.page).is_empty() {
-            self.looked_stage(home, VPageSet::new())
+            self.move_looked_stage(home, VPageSet::new())
         } else {
             Stage::Looking { home }
         }
     }
 
     /// The stage after the virtual pages were looked at, by those that have words.
-    fn looked_stage(&self, home: u32, pages: VPageSet) -> Stage
-        ensures { result ≡ looked_stage self.now.made home pages }
+    fn move_looked_stage(&self, home: u32, pages: VPageSet) -> Stage
+        ensures { result ≡ move_looked_stage self.now.made home pages }
     {
         if pages.len() == self.made.count {
             Stage::Taking { home, pages }
         } else {
-            arm_stage(Early::Gone, pages)
+            move_arm_stage(Early::Gone, pages)
         }
     }
 
     /// The task that takes a frame of the tier above a home.
     fn take(&self, home: u32) -> PoolTask
-        requires { MayTakeFrom self.now.geometry.now home }
+        requires { MayTakeFromInMove self.now.geometry.now home }
         ensures made { made_of result ≡ pool_made self.now.geometry.now (PoolJob.Take (tier_above self.now.geometry.now home) (floor_above self.now.geometry.now home)) }
         ensures new { IsNewPool result }
     {
@@ -199,9 +199,9 @@ impl<'a> Choose<'a> {
 
     /// The piece of a stage.
     fn piece_of(&self, stage: &Stage) -> ChoosePiece
-        requires { MayGo self.now.geometry.now self.now.made stage.now }
-        ensures made { piece_made result ≡ choose_piece self.now.geometry.now self.now.made stage.now }
-        ensures new { IsNewPiece result }
+        requires { MayGoInMove self.now.geometry.now self.now.made stage.now }
+        ensures made { move_piece_made result ≡ choose_piece self.now.geometry.now self.now.made stage.now }
+        ensures new { IsNewPieceInMove result }
     {
         let page = self.made.page;
         match stage {
@@ -240,10 +240,10 @@ impl<'a> Choose<'a> {
 
     /// Comes to a stage, and gives its piece.
     fn go(&mut self, stage: Stage) -> ChoosePiece
-        requires { MayGo self.old.geometry.now self.old.made stage }
+        requires { MayGoInMove self.old.geometry.now self.old.made stage }
         ensures stage { self.new ≡ record self.old { stage = stage } }
-        ensures made { piece_made result ≡ choose_piece self.old.geometry.now self.old.made stage }
-        ensures new { IsNewPiece result }
+        ensures made { move_piece_made result ≡ choose_piece self.old.geometry.now self.old.made stage }
+        ensures new { IsNewPieceInMove result }
     {
         let piece = self.piece_of(&stage);
         self.stage = stage;
@@ -252,8 +252,8 @@ impl<'a> Choose<'a> {
 }
 
 /// The stage after the page was locked.
-fn lock_stage(spent: Spent) -> Stage
-    ensures { result ≡ lock_stage spent }
+fn move_lock_stage(spent: Spent) -> Stage
+    ensures { result ≡ move_lock_stage spent }
 {
     if is_worn(spent) {
         Stage::Marking(Early::Worn)
@@ -263,8 +263,8 @@ fn lock_stage(spent: Spent) -> Stage
 }
 
 /// The stage in which these virtual pages are armed, since the work ends so; the next one where there is none.
-fn arm_stage(early: Early, pages: VPageSet) -> Stage
-    ensures { result ≡ arm_stage early pages }
+fn move_arm_stage(early: Early, pages: VPageSet) -> Stage
+    ensures { result ≡ move_arm_stage early pages }
 {
     if pages.is_empty() {
         Stage::Marking(early)
@@ -274,8 +274,8 @@ fn arm_stage(early: Early, pages: VPageSet) -> Stage
 }
 
 /// The word that the reply carries with which a piece ended (0 where it carries none, of which nothing is claimed).
-fn told_in(end: ChooseEnd) -> u64
-    ensures { result ≡ told_in end }
+fn move_told_in(end: ChooseEnd) -> u64
+    ensures { result ≡ move_told_in end }
 {
     match end {
         Or::This(reply) => match reply {
@@ -287,8 +287,8 @@ fn told_in(end: ChooseEnd) -> u64
 }
 
 /// The virtual pages that visits found (none where the piece was no visits, of which nothing is claimed).
-fn found_in(end: ChooseEnd) -> VPageSet
-    ensures { result ≡ found_in end }
+fn move_found_in(end: ChooseEnd) -> VPageSet
+    ensures { result ≡ move_found_in end }
 {
     match end {
         Or::This(_) => VPageSet::new(),
@@ -301,8 +301,8 @@ fn found_in(end: ChooseEnd) -> VPageSet
 
 /// The piece that makes an action.
 fn action(action: Action) -> ChoosePiece
-    ensures made { piece_made result ≡ Or.This action }
-    ensures new { IsNewPiece result }
+    ensures made { move_piece_made result ≡ Or.This action }
+    ensures new { IsNewPieceInMove result }
 {
     Or::This(Act::new(action))
 }
@@ -310,8 +310,8 @@ fn action(action: Action) -> ChoosePiece
 /// The piece that visits virtual pages.
 fn visits(plan: VisitPlan) -> ChoosePiece
     requires { IsNewVisits plan }
-    ensures made { piece_made result ≡ Or.Other (Or.This plan.made) }
-    ensures new { IsNewPiece result }
+    ensures made { move_piece_made result ≡ Or.Other (Or.This plan.made) }
+    ensures new { IsNewPieceInMove result }
 {
     Or::Other(Or::This(Composite::new(plan)))
 }
@@ -319,8 +319,8 @@ fn visits(plan: VisitPlan) -> ChoosePiece
 /// The piece that runs a task on the free frames.
 fn task(task: PoolTask) -> ChoosePiece
     requires { IsNewPool task }
-    ensures made { piece_made result ≡ Or.Other (Or.Other (made_of task)) }
-    ensures new { IsNewPiece result }
+    ensures made { move_piece_made result ≡ Or.Other (Or.Other (made_of task)) }
+    ensures new { IsNewPieceInMove result }
 {
     Or::Other(Or::Other(task))
 }
@@ -332,7 +332,7 @@ impl<'a> Plan<ChoosePiece> for Choose<'a> {
 
     ghost use Rattle.std.specs.Prelude.{◌≡◌};
     ghost use Rattle.nm_locked.specs.declared.choose.Stage.TheVariants.{New};
-    ghost use Rattle.nm_prepare.specs.Placing.{IsPlaced};
+    ghost use Rattle.nm_prepare.specs.Placing.{IsPlanPlaced};
     ghost use Rattle.nm_locked.specs.Choosing.{IsChoosing};
     ghost use Rattle.nm_locked.specs.Chosen.{MayChoose, IsChosen};
     ghost use Rattle.nm_locked.specs.Stages.{choose_piece, choose_left, ChooseKnown};
@@ -347,7 +347,7 @@ impl<'a> Plan<ChoosePiece> for Choose<'a> {
 
     ghost leaves = { λ made g view outcome left. IsChosen made.1 g view outcome left };
 
-    ghost knows = { λ s. IsPlaced choose_piece ChooseKnown s.geometry.now s.made s.stage };
+    ghost knows = { λ s. IsPlanPlaced choose_piece ChooseKnown s.geometry.now s.made s.stage };
 
     ghost left = { λ s. choose_left s.made s.stage };
 
@@ -363,7 +363,7 @@ impl<'a> Plan<ChoosePiece> for Choose<'a> {
             Stage::Locking => {
                 let Or::This(reply) = end else { unreachable!() };
                 match reply {
-                    Reply::Done => Next::Run(self.go(lock_stage(self.made.spent))),
+                    Reply::Done => Next::Run(self.go(move_lock_stage(self.made.spent))),
                     Reply::Busy(_) => Next::Over(Chosen::Busy),
                     Reply::Word(_) | Reply::Lost(_) => unreachable!(),
                 }
@@ -371,11 +371,11 @@ impl<'a> Plan<ChoosePiece> for Choose<'a> {
             Stage::Marking(early) => Next::Run(self.go(Stage::Unlocking(early))),
             Stage::Unlocking(early) => Next::Over(Chosen::Closed(early)),
             Stage::ReadingHome => {
-                let stage = self.home_stage(told_in(end));
+                let stage = self.move_home_stage(move_told_in(end));
                 Next::Run(self.go(stage))
             }
             Stage::Looking { home } => {
-                let stage = self.looked_stage(home, found_in(end));
+                let stage = self.move_looked_stage(home, move_found_in(end));
                 Next::Run(self.go(stage))
             }
             Stage::Arming { early, .. } => Next::Run(self.go(Stage::Marking(early))),
@@ -388,12 +388,12 @@ impl<'a> Plan<ChoosePiece> for Choose<'a> {
                     PoolEnd::Got(frame) => {
                         Next::Run(self.go(Stage::ReadingShadow { home, frame, pages }))
                     }
-                    PoolEnd::AtFloor(n) => Next::Run(self.go(arm_stage(Early::NoFrame(n), pages))),
+                    PoolEnd::AtFloor(n) => Next::Run(self.go(move_arm_stage(Early::NoFrame(n), pages))),
                     PoolEnd::Level(_) | PoolEnd::Back => unreachable!(),
                 }
             }
             Stage::ReadingShadow { home, frame, pages } => {
-                let shadow = told_in(end);
+                let shadow = move_told_in(end);
                 if shadow == 0 {
                     Next::Over(Chosen::Ready { home, frame, pages })
                 } else {

@@ -8,7 +8,7 @@ ghost use Rattle.nm_locked.specs.declared.locked.LockedStage.{LockedStage};
 ghost use Rattle.nm_locked.specs.Pieces.{locked_parts, IsNewLockedPiece};
 ghost use Rattle.nm_pool.specs.Given.{pool_made};
 ghost use Rattle.nm_pool.specs.declared.job.PoolJob.{PoolJob};
-ghost use Rattle.nm_locked.specs.Moves.{early_end, locked_transfer};
+ghost use Rattle.nm_locked.specs.Moves.{move_early_end, locked_transfer};
 ghost use Rattle.nm_locked.specs.Places.{IsOverWith};
 
 use crate::choose::{Choose, ChooseMade, ChoosePiece, Chosen, Early};
@@ -176,8 +176,8 @@ impl<'a> Locked<'a> {
 }
 
 /// How a move ends that ended early.
-fn early_end(early: Early) -> LockedEnd
-    ensures { result ≡ early_end early }
+fn move_early_end(early: Early) -> LockedEnd
+    ensures { result ≡ move_early_end early }
 {
     match early {
         Early::NoFrame(n) => LockedEnd::NoFrame(n),
@@ -191,9 +191,9 @@ impl<'a> Plan<LockedPiece<'a>> for Locked<'a> {
 
     type Made = (Geometry, ChooseMade);
 
-    ghost use Rattle.nm_prepare.specs.Placing.{IsPlaced};
+    ghost use Rattle.nm_prepare.specs.Placing.{IsPlanPlaced};
     ghost use Rattle.nm_locked.specs.Chosen.{MayChoose};
-    ghost use Rattle.nm_locked.specs.Moves.{IsLocked};
+    ghost use Rattle.nm_locked.specs.Moves.{IsLockedInMove};
     ghost use Rattle.nm_locked.specs.Leaving.{IsLockedLeft};
     ghost use Rattle.nm_locked.specs.Places.{IsNewLocked, locked_at, locked_piece, locked_left, LockedKnown};
 
@@ -203,11 +203,11 @@ impl<'a> Plan<LockedPiece<'a>> for Locked<'a> {
 
     ghost may_begin = { λ made g view. MayChoose made.0 made.1 g view };
 
-    ghost shape = { λ made g own over. IsLocked made.1 g own over.end };
+    ghost shape = { λ made g own over. IsLockedInMove made.1 g own over.end };
 
     ghost leaves = { λ made g view over left. IsLockedLeft made.1 view over.end left };
 
-    ghost knows = { λ s. IsPlaced locked_piece LockedKnown s.geometry.now s.made (locked_at s) };
+    ghost knows = { λ s. IsPlanPlaced locked_piece LockedKnown s.geometry.now s.made (locked_at s) };
 
     ghost left = { λ s. locked_left s.made (locked_at s) };
 
@@ -237,7 +237,7 @@ impl<'a> Plan<LockedPiece<'a>> for Locked<'a> {
                 };
                 match chosen {
                     Chosen::Busy => self.over(LockedEnd::Busy),
-                    Chosen::Closed(early) => self.over(early_end(early)),
+                    Chosen::Closed(early) => self.over(move_early_end(early)),
                     Chosen::Ready { home, frame, pages } => {
                         Next::Run(self.transfer(home, frame, pages))
                     }

@@ -20,7 +20,7 @@ pub returns-in-Closed-clause-next : goal.returns-in-Closed-clause-next
 returns-in-Closed-clause-next c = λ g first now later own known shown left over.
     let old = c.args.self.now in
     let at = sym c.replace.ensures.value ∙ c.in-Choosing.is in
-    after-early old c.over-in-Closed.new.self c.over-in-Closed.result c.args.end c.in-Closed.early c.early_end.result _ g first now later own at (c.in-This.is ∙ ap This c.in-Closed.is) c.early_end.ensures known left shown c.over-in-Closed.ensures.over
+    after-early old c.over-in-Closed.new.self c.over-in-Closed.result c.args.end c.in-Closed.early c.move_early_end.result _ g first now later own at (c.in-This.is ∙ ap This c.in-Closed.is) c.move_early_end.ensures known left shown c.over-in-Closed.ensures.over
 
 pub returns-in-Ready-clause-next : goal.returns-in-Ready-clause-next
 returns-in-Ready-clause-next c = λ g first now later own known shown left over. record {
