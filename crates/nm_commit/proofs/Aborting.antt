@@ -23,7 +23,7 @@ use Rattle.nm_pool.specs.Given.{pool_made, Leaves, released}
 use Rattle.nm_pool.specs.declared.job.PoolJob.TheVariants.{Back}
 use Rattle.nm_pool.specs.declared.job.PoolEnd.{PoolEnd}
 use Rattle.nm_pool.specs.declared.job.PoolEnd.TheVariants as pools
-use Rattle.nm_prepare.specs.Placing.{IsPlaced}
+use Rattle.nm_prepare.specs.Placing.{IsPlanPlaced}
 use Rattle.nm_prepare.proofs.Held.{some-of}
 use Rattle.nm_mappings.proofs.Lists.{vpage-there}
 use Rattle.nm_commit.specs.declared.decide.DecideMade.{DecideMade}
@@ -67,7 +67,7 @@ may-map-back g page v word home o dirty h =
 -- the taken word is mapped again
 pub runs-mapping-back : (made : DecideMade) (g : Geometry) (view : View) → MayDecide g made g view → is_dirty made.word ≡ true → RunsDecide made MappingBack (Aborts g made) g view view
 runs-mapping-back made g view may dirty =
-    decide-act (IsPlaced decide_piece DecideKnown g made MappingBack) (λ g. UnlocksOld g made) (Map made.vpage made.word) g view view
+    decide-act (IsPlanPlaced decide_piece DecideKnown g made MappingBack) (λ g. UnlocksOld g made) (Map made.vpage made.word) g view view
     tt
     (record {
       range = vpage-there g made.vpage made.page may.backing;
@@ -95,7 +95,7 @@ runs-unlocking-old made g first now later reply h acted =
     let V : View → Type 0 = λ v. IsActed g v (Map made.vpage made.word) Done later in
     let a = subst V h.same (done-acted (Map made.vpage made.word) g now later reply acted.fits.kind acted) in
     let is : later ≡ page_changed made.page (mapped_at made.vpage made.word) (spoiled made.page first.owned) first = a.is ∙ mapped-view g made.page made.vpage made.word first h.may.backing in
-    decide-act (IsPlaced decide_piece DecideKnown g made UnlockingOld) (λ g. GivesBack g made) (Unlock made.page) g first later
+    decide-act (IsPlanPlaced decide_piece DecideKnown g made UnlockingOld) (λ g. GivesBack g made) (Unlock made.page) g first later
     tt
     (record {
       range = h.may.page;
@@ -132,7 +132,7 @@ runs-putting-back made g first now later reply h acted =
     let a = done-acted (Unlock made.page) g now later reply acted.fits.kind acted in
     let is = a.is ∙ closed-view made.page (mapped_at made.vpage made.word) first.owned first now h.same (λ o. refl) in
     let S : View → Type 0 = λ v. IsSome (find owned_frame made.frame v.owned) in
-    decide-task (IsPlaced decide_piece DecideKnown g made PuttingBack) (λ g. Ends (Aborted made.word)) (pool_made g (Back made.frame)) g first later
+    decide-task (IsPlanPlaced decide_piece DecideKnown g made PuttingBack) (λ g. Ends (Aborted made.word)) (pool_made g (Back made.frame)) g first later
     (record {
       geometry = h.may.geometry;
       is = refl;

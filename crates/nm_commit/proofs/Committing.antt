@@ -24,7 +24,7 @@ use Rattle.nm_part.specs.Patterns.{Ends}
 use Rattle.nm_part.proofs.Patterns.{can-ends}
 use Rattle.nm_compose.specs.Acts.{IsActed}
 use Rattle.nm_copying.proofs.Edits.{edit-twice}
-use Rattle.nm_prepare.specs.Placing.{IsPlaced}
+use Rattle.nm_prepare.specs.Placing.{IsPlanPlaced}
 use Rattle.nm_prepare.proofs.Lists.{owning-erased, some-and}
 use Rattle.nm_prepare.proofs.Held.{some-of}
 use Rattle.nm_mappings.proofs.Lists.{vpage-there}
@@ -61,7 +61,7 @@ may-set-home g page v word home fill o e clean h = some-and (λ known. HasNewHom
 -- the new home is set
 pub runs-setting-home : (made : DecideMade) (g : Geometry) (view : View) → MayDecide g made g view → is_dirty made.word ≡ false → RunsDecide made SettingHome (Commits g made) g view view
 runs-setting-home made g view may clean =
-    decide-act (IsPlaced decide_piece DecideKnown g made SettingHome) (λ g. ReadsShadowWord g made) (SetHome made.page made.frame) g view view
+    decide-act (IsPlanPlaced decide_piece DecideKnown g made SettingHome) (λ g. ReadsShadowWord g made) (SetHome made.page made.frame) g view view
     tt
     (record {
       range = record { page = may.page; frame = may.frame };
@@ -84,7 +84,7 @@ homed-now made g first now later reply h acted =
 pub runs-reading : (made : DecideMade) (g : Geometry) (first now later : View) (reply : Reply) → IsAt made g first now first → IsActed g now (SetHome made.page made.frame) reply later → RunsDecide made Reading (ReadsShadowWord g made) g first later
 runs-reading made g first now later reply h acted =
     let is = homed-now made g first now later reply h acted in
-    decide-act (IsPlaced decide_piece DecideKnown g made Reading) (λ g. Shades g made) (Read made.page (cells.Shadow made.frame)) g first later
+    decide-act (IsPlanPlaced decide_piece DecideKnown g made Reading) (λ g. Shades g made) (Read made.page (cells.Shadow made.frame)) g first later
     tt
     (record {
       range = record { page = h.may.page; cell = h.may.frame };
@@ -134,7 +134,7 @@ pub runs-shading : (made : DecideMade) (g : Geometry) (first now later : View) (
 runs-shading made g first now later reply h acted =
     let is = read-now made g first now later reply h acted in
     let at : IsAt made g first later (page_changed made.page (homed made) (owning made.home (Equal made.page) (frames_left made first)) first) = record { may = h.may; same = is } in
-    decide-act (IsPlaced decide_piece DecideKnown g made Shading) (λ g. Maps g made) (SetShadow made.page made.frame (Some made.home)) g first later
+    decide-act (IsPlanPlaced decide_piece DecideKnown g made Shading) (λ g. Maps g made) (SetShadow made.page made.frame (Some made.home)) g first later
     tt
     (record {
       range = record { page = h.may.page; master = h.may.frame; shadow = h.may.home };
@@ -199,7 +199,7 @@ pub runs-mapping : (made : DecideMade) (g : Geometry) (first now later : View) (
 runs-mapping made g first now later reply h acted =
     let is = shaded-now made g first now later reply h acted in
     let word = moved_word g made.frame made.word in
-    decide-act (IsPlaced decide_piece DecideKnown g made Mapping) (λ g. Marks g made) (Map made.vpage word) g first later
+    decide-act (IsPlanPlaced decide_piece DecideKnown g made Mapping) (λ g. Marks g made) (Map made.vpage word) g first later
     tt
     (record {
       range = vpage-there g made.vpage made.page h.may.backing;
@@ -224,7 +224,7 @@ pub runs-marking : (made : DecideMade) (g : Geometry) (first now later : View) (
     → RunsDecide made Marking (Marks g made) g first later
 runs-marking made g first now later reply h acted =
     let is = mapped-now made g first now later reply h acted in
-    decide-act (IsPlaced decide_piece DecideKnown g made Marking) (λ g. UnlocksPage g made) (Mark made.page 2 0) g first later
+    decide-act (IsPlanPlaced decide_piece DecideKnown g made Marking) (λ g. UnlocksPage g made) (Mark made.page 2 0) g first later
     tt
     (record {
       range = h.may.page;
@@ -250,7 +250,7 @@ pub runs-unlocking : (made : DecideMade) (g : Geometry) (first now later : View)
     → RunsDecide made Unlocking (UnlocksPage g made) g first later
 runs-unlocking made g first now later reply h acted =
     let is : later ≡ page_changed made.page (remapped g made) (spoiled made.page (frames_left made first)) first = acted.is ∙ h.same in
-    decide-act (IsPlaced decide_piece DecideKnown g made Unlocking) (λ g. Ends Committed) (Unlock made.page) g first later
+    decide-act (IsPlanPlaced decide_piece DecideKnown g made Unlocking) (λ g. Ends Committed) (Unlock made.page) g first later
     tt
     (record {
       range = h.may.page;

@@ -24,7 +24,7 @@ use Rattle.nm_pool.specs.Given.{MayBegin, Leaves}
 use Rattle.nm_pool.specs.declared.job.PoolJob.TheVariants.{Back}
 use Rattle.nm_pool.specs.declared.job.PoolMade.{PoolMade}
 use Rattle.nm_pool.specs.declared.job.PoolEnd.{PoolEnd}
-use Rattle.nm_prepare.specs.Placing.{IsPlaced, RunsPlaced}
+use Rattle.nm_prepare.specs.Placing.{IsPlanPlaced, RunsPlaced}
 use Rattle.nm_prepare.proofs.Placed.{at-placed, run-placed}
 use Rattle.nm_prepare.proofs.Ending.{some-back}
 use Rattle.nm_commit.specs.declared.decide.Decide.{Decide}
@@ -109,7 +109,7 @@ abbrev pub RunsDecide : DecideMade → DecideStage → (Own → Decided → Type
 RunsDecide = RunsPlaced MayDecidePiece IsDecidePiece decide_piece decide_left DecideKnown
 
 abbrev pub AtDecide : Decide → Geometry → View → View → DecideParts → Type 0
-AtDecide s = IsPlaced decide_piece DecideKnown s.geometry.now s.made s.stage
+AtDecide s = IsPlanPlaced decide_piece DecideKnown s.geometry.now s.made s.stage
 
 abbrev pub GivesDecide : Decide → DecideParts → (Own → Decided → Type 0) → Geometry → View → View → Type 0
 GivesDecide new runs was g first now = IsPieceRun MayDecidePiece IsDecidePiece (AtDecide new) (decide_left new.made new.stage) was runs g first now

@@ -176,7 +176,7 @@ impl<'a> Plan<DecidePiece> for Decide<'a> {
 
     ghost use Rattle.std.specs.Prelude.{◌≡◌};
     ghost use Rattle.nm_commit.specs.declared.decide.DecideStage.TheVariants.{Start};
-    ghost use Rattle.nm_prepare.specs.Placing.{IsPlaced};
+    ghost use Rattle.nm_prepare.specs.Placing.{IsPlanPlaced};
     ghost use Rattle.nm_commit.specs.Deciding.{IsDeciding, MayDecide, IsDecision};
     ghost use Rattle.nm_commit.specs.Stages.{decide_piece, decide_left, DecideKnown};
 
@@ -190,7 +190,7 @@ impl<'a> Plan<DecidePiece> for Decide<'a> {
 
     ghost leaves = { λ made g view outcome left. IsDecision made.1 view left };
 
-    ghost knows = { λ s. IsPlaced decide_piece DecideKnown s.geometry.now s.made s.stage };
+    ghost knows = { λ s. IsPlanPlaced decide_piece DecideKnown s.geometry.now s.made s.stage };
 
     ghost left = { λ s. decide_left s.made s.stage };
 
