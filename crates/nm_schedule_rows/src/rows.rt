@@ -5,12 +5,13 @@ ghost use Rattle.nm_script.specs.Script.{IsSchedule};
 ghost use Rattle.nm_schedule_rows.specs.Listed.{IsSmall, IsAlwaysPermitted, IsListed};
 
 use crate::listed::Listed;
-use nm_action::{Action, ActionKind, Lane, Turn};
+use nm_action::{Action, ActionKind, Event, Lane, Turn};
 use nm_base::{Geometry, VPage};
 use nm_play::{Actors, run_schedule};
 use nm_schedule::{SimAct, SimTurn};
 use nm_script::{PlanItem, PlanItems, Schedule};
 use std::alloc::Global;
+use std::mem::size_of;
 use std::process::Abort;
 use std::test::Fail;
 
@@ -201,4 +202,10 @@ fn a_lane_gives_the_first_page(rt: HostRuntime) -> Result<(), Fail> {
         assert_eq!(rt; turn.act, *act);
     }
     Ok(())
+}
+
+#[test]
+fn an_entry_takes_few_bytes(rt: HostRuntime) {
+    assert!(rt; size_of::<Event>() <= 64);
+    assert!(rt; size_of::<SimTurn>() <= 32);
 }
