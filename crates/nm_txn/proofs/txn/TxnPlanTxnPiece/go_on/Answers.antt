@@ -49,8 +49,8 @@ returns-in-Copying-clause-next c = λ g first now later own known shown left ove
 pub returns-in-Unmapping-clause-next : goal.returns-in-Unmapping-clause-next
 returns-in-Unmapping-clause-next c = λ g first now later own known shown left over. record {
   new = c.go-in-Unmapping.ensures.new;
-  run = step-txn c.args.self.now c.go-in-Unmapping.new.self (Unmapping c.in-Unmapping.home c.in-Unmapping.frame) (FlushingAgain c.in-Unmapping.home c.in-Unmapping.frame c.word_in-word.result) c.args.end c.args.end (txn_parts c.args._piece.now) (txn_parts c.go-in-Unmapping.result) g first now later c.in-Unmapping.is refl known left c.go-in-Unmapping.ensures.stage c.go-in-Unmapping.ensures.made
-      (λ k a. let W : ℕ → Type 0 = λ w. RunsTxn c.args.self.now.made (FlushingAgain c.in-Unmapping.home c.in-Unmapping.frame w) (txn_left c.args.self.now.made (Unmapping c.in-Unmapping.home c.in-Unmapping.frame) g c.args.end) g first later in subst W (sym c.word_in-word.ensures) (after-unmapping c.args.self.now.made g first now later c.in-Unmapping.home c.in-Unmapping.frame c.args.end k a));
+  run = step-txn c.args.self.now c.go-in-Unmapping.new.self (Unmapping c.in-Unmapping.home c.in-Unmapping.frame) (FlushingAgain c.in-Unmapping.home c.in-Unmapping.frame c.txn_word_in-word.result) c.args.end c.args.end (txn_parts c.args._piece.now) (txn_parts c.go-in-Unmapping.result) g first now later c.in-Unmapping.is refl known left c.go-in-Unmapping.ensures.stage c.go-in-Unmapping.ensures.made
+      (λ k a. let W : ℕ → Type 0 = λ w. RunsTxn c.args.self.now.made (FlushingAgain c.in-Unmapping.home c.in-Unmapping.frame w) (txn_left c.args.self.now.made (Unmapping c.in-Unmapping.home c.in-Unmapping.frame) g c.args.end) g first later in subst W (sym c.txn_word_in-word.ensures) (after-unmapping c.args.self.now.made g first now later c.in-Unmapping.home c.in-Unmapping.frame c.args.end k a));
 }
 
 pub returns-in-FlushingAgain-clause-next : goal.returns-in-FlushingAgain-clause-next
