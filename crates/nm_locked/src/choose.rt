@@ -388,7 +388,10 @@ impl<'a> Plan<ChoosePiece> for Choose<'a> {
                     PoolEnd::Got(frame) => {
                         Next::Run(self.go(Stage::ReadingShadow { home, frame, pages }))
                     }
-                    PoolEnd::AtFloor(n) => Next::Run(self.go(move_arm_stage(Early::NoFrame(n), pages))),
+                    PoolEnd::AtFloor(n) => Next::Run(self.go(move_arm_stage(
+                        Early::NoFrame(n),
+                        pages,
+                    ))),
                     PoolEnd::Level(_) | PoolEnd::Back => unreachable!(),
                 }
             }

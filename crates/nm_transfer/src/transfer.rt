@@ -339,7 +339,11 @@ impl Plan<TransferPiece> for Transfer {
         self.go(Stage::Unmapping(vpage))
     }
 
-    fn go_on(&mut self, _piece: &TransferPiece, end: TransferPieceEnd) -> Next<TransferPiece, TakenWords> {
+    fn go_on(
+        &mut self,
+        _piece: &TransferPiece,
+        end: TransferPieceEnd,
+    ) -> Next<TransferPiece, TakenWords> {
         match self.stage {
             Stage::New => unreachable!(),
             Stage::Unmapping(vpage) => {

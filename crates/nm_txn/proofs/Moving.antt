@@ -100,7 +100,7 @@ first-flushed : (made : PrepareMade) (g : Geometry) (first now later : View) (ho
 first-flushed made g first now later home frame number h f =
     let is = ready-ops made g first now home frame h in
     let at : now ≡ moving h.ready.op (owning frame Raw first.owned) h.ready.scan 0 1 first =
-        is ∙ ap (λ (n : ℕ). record first { ops = h.ready.op ∷ []; owned = owning frame Raw first.owned; scan = h.ready.scan; bumps = n; raises = first.raises + 1 }) (no-more first.bumps) in
+    is ∙ ap (λ (n : ℕ). record first { ops = h.ready.op ∷ []; owned = owning frame Raw first.owned; scan = h.ready.scan; bumps = n; raises = first.raises + 1 }) (no-more first.bumps) in
     record {
       facts = record { may = h.may; worn = h.ready.worn; backing = h.ready.backing; range = h.ready.range; unowned = h.ready.unowned; new = h.ready.new };
       op = f.flushed h.ready.op;
@@ -173,17 +173,19 @@ unmapped-now : (made : PrepareMade) (g : Geometry) (first now later : View) (hom
     → IsMovingWith made g first later home frame (IsTakenOp g made.page made.vpage word home) (Copied made.page g.words) 1 2 × IsRightful g made.vpage word
 unmapped-now made g first now later home frame word m left =
     let f : Op → Op = unmapped_at made.vpage word left.number in
-    let owned = owning frame (Copied made.page g.words) first.owned in
-    (record {
-      facts = m.facts;
-      op = f m.op;
-      kind = unmapped-taken g made.page made.vpage home word left.number m.op m.kind;
-      scan = m.scan;
-      is = left.is
-          ∙ (ap (λ (v : View). record v { ops = edit page_of made.page f v.ops; raises = v.raises + 1 }) m.is
-          ∙ (ap (λ (l : List Op). record first { ops = l; owned = owned; scan = m.scan; bumps = first.bumps + 1; raises = first.raises + 1 + 1 }) (edit-only made.page f m.op m.kind.page_is)
-          ∙ ap (λ (n : ℕ). record first { ops = f m.op ∷ []; owned = owned; scan = m.scan; bumps = first.bumps + 1; raises = n }) (two-more first.raises)));
-    }, record { writable = left.reply.carried.table.writable; saved = left.reply.carried.table.saved })
+    let owned = owning frame (Copied made.page g.words) first.owned in (
+      record {
+        facts = m.facts;
+        op = f m.op;
+        kind = unmapped-taken g made.page made.vpage home word left.number m.op m.kind;
+        scan = m.scan;
+        is = left.is
+            ∙ (ap (λ (v : View). record v { ops = edit page_of made.page f v.ops; raises = v.raises + 1 }) m.is
+            ∙ (ap (λ (l : List Op). record first { ops = l; owned = owned; scan = m.scan; bumps = first.bumps + 1; raises = first.raises + 1 + 1 }) (edit-only made.page f m.op m.kind.page_is)
+            ∙ ap (λ (n : ℕ). record first { ops = f m.op ∷ []; owned = owned; scan = m.scan; bumps = first.bumps + 1; raises = n }) (two-more first.raises)));
+      },
+      record { writable = left.reply.carried.table.writable; saved = left.reply.carried.table.saved },
+    )
 
 -- the second flush runs
 pub runs-flushing-again : (made : PrepareMade) (g : Geometry) (first now later : View) (home frame word : ℕ) → IsMovingWith made g first now home frame (IsClearedOp g made.page made.vpage home) (Copied made.page g.words) 1 1 → IsUnmappedOne (record { page = made.page; vpage = made.vpage }) g now word later

@@ -63,5 +63,6 @@ to-batch made g (prepared.Ready home frame) own end h =
 -- the lists of a batch of one piece are those of a transaction
 pub one-transaction : IsOneTransaction
 one-transaction made g own end = (
-    (λ h. follows-map (IsPrepare made g) _ (AfterPrepare g made) own (end ∷ []) end (λ prepared own h. from-batch made g prepared own end h) h),
-    (λ h. follows-map (IsPrepare made g) (AfterPrepare g made) _ own end (end ∷ []) (λ prepared own h. to-batch made g prepared own end h) h))
+  (λ h. follows-map (IsPrepare made g) _ (AfterPrepare g made) own (end ∷ []) end (λ prepared own h. from-batch made g prepared own end h) h),
+  (λ h. follows-map (IsPrepare made g) (AfterPrepare g made) _ own end (end ∷ []) (λ prepared own h. to-batch made g prepared own end h) h),
+)

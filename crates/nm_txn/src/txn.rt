@@ -38,7 +38,10 @@ pub type TxnPiece<'a> = Or<
     Composite<Prepare<'a>, PreparePiece>,
     Or<
         Shoot,
-        Or<Composite<Copies, Act>, Or<Composite<UnmapOne, Act>, Composite<Decide<'a>, DecidePiece>>>,
+        Or<
+            Composite<Copies, Act>,
+            Or<Composite<UnmapOne, Act>, Composite<Decide<'a>, DecidePiece>>,
+        >,
     >,
 >;
 
@@ -97,9 +100,7 @@ impl<'a> Txn<'a> {
                     home,
                     frame,
                 };
-                Or::Other(Or::Other(Or::Other(Or::Other(Composite::new(
-                    Decide::new(g, made),
-                )))))
+                Or::Other(Or::Other(Or::Other(Or::Other(Composite::new(Decide::new(g, made))))))
             }
         }
     }
@@ -122,9 +123,15 @@ pub fn txn_word_in(end: TxnPieceEnd) -> u64
 fn end_in(end: TxnPieceEnd) -> TxnEnd
     ensures { result ≡ end_in end }
 {
-    let Or::Other(end) = end else { return TxnEnd::Busy };
-    let Or::Other(end) = end else { return TxnEnd::Busy };
-    let Or::Other(end) = end else { return TxnEnd::Busy };
+    let Or::Other(end) = end else {
+        return TxnEnd::Busy
+    };
+    let Or::Other(end) = end else {
+        return TxnEnd::Busy
+    };
+    let Or::Other(end) = end else {
+        return TxnEnd::Busy
+    };
     match end {
         Or::This(_) => TxnEnd::Busy,
         Or::Other(decided) => TxnEnd::of_decided(decided),
