@@ -51,8 +51,8 @@ returns-in-ReadingHome-clause-next c = λ g first now later own known shown left
   new = c.go-in-ReadingHome.ensures.new;
   run = let old = c.args.self.now in
       let at = sym c.replace.ensures.value ∙ c.in-ReadingHome.is in
-      step-choose old c.go-in-ReadingHome.new.self ReadingHome c.home_stage-stage.result c.args.end c.args.end _ (move_piece_made c.go-in-ReadingHome.result) g first now later own at refl known left shown c.go-in-ReadingHome.ensures.stage c.go-in-ReadingHome.ensures.made
-      (λ k a. let e : c.home_stage-stage.result ≡ move_home_stage g old.made (move_told_in c.args.end) = c.home_stage-stage.ensures ∙ (ap (λ (w : ℕ). move_home_stage old.geometry.now old.made w) c.move_told_in.ensures ∙ ap (λ (h : Geometry). move_home_stage h old.made (move_told_in c.args.end)) known.geometry) in subst (λ (s : Stage). RunsChoose old.made s (choose_left old.made ReadingHome g c.args.end) g first later) (sym e) (after-reading-home old.made g first now later own c.args.end k a));
+      step-choose old c.go-in-ReadingHome.new.self ReadingHome c.move_home_stage-stage.result c.args.end c.args.end _ (move_piece_made c.go-in-ReadingHome.result) g first now later own at refl known left shown c.go-in-ReadingHome.ensures.stage c.go-in-ReadingHome.ensures.made
+      (λ k a. let e : c.move_home_stage-stage.result ≡ move_home_stage g old.made (move_told_in c.args.end) = c.move_home_stage-stage.ensures ∙ (ap (λ (w : ℕ). move_home_stage old.geometry.now old.made w) c.move_told_in.ensures ∙ ap (λ (h : Geometry). move_home_stage h old.made (move_told_in c.args.end)) known.geometry) in subst (λ (s : Stage). RunsChoose old.made s (choose_left old.made ReadingHome g c.args.end) g first later) (sym e) (after-reading-home old.made g first now later own c.args.end k a));
 }
 
 pub returns-in-Looking-clause-next : goal.returns-in-Looking-clause-next
@@ -60,8 +60,8 @@ returns-in-Looking-clause-next c = λ g first now later own known shown left ove
   new = c.go-in-Looking.ensures.new;
   run = let old = c.args.self.now in
       let at = sym c.replace.ensures.value ∙ c.in-Looking.is in
-      step-choose old c.go-in-Looking.new.self (Looking c.in-Looking.home) c.looked_stage-stage.result c.args.end c.args.end _ (move_piece_made c.go-in-Looking.result) g first now later own at refl known left shown c.go-in-Looking.ensures.stage c.go-in-Looking.ensures.made
-      (λ k a. let e : c.looked_stage-stage.result ≡ move_looked_stage old.made c.in-Looking.home (move_found_in c.args.end) = c.looked_stage-stage.ensures ∙ ap (λ (l : List ℕ). move_looked_stage old.made c.in-Looking.home l) c.move_found_in.ensures in subst (λ (s : Stage). RunsChoose old.made s (choose_left old.made (Looking c.in-Looking.home) g c.args.end) g first later) (sym e) (after-looking old.made c.in-Looking.home g first now later own c.args.end k a));
+      step-choose old c.go-in-Looking.new.self (Looking c.in-Looking.home) c.move_looked_stage-stage.result c.args.end c.args.end _ (move_piece_made c.go-in-Looking.result) g first now later own at refl known left shown c.go-in-Looking.ensures.stage c.go-in-Looking.ensures.made
+      (λ k a. let e : c.move_looked_stage-stage.result ≡ move_looked_stage old.made c.in-Looking.home (move_found_in c.args.end) = c.move_looked_stage-stage.ensures ∙ ap (λ (l : List ℕ). move_looked_stage old.made c.in-Looking.home l) c.move_found_in.ensures in subst (λ (s : Stage). RunsChoose old.made s (choose_left old.made (Looking c.in-Looking.home) g c.args.end) g first later) (sym e) (after-looking old.made c.in-Looking.home g first now later own c.args.end k a));
 }
 
 pub returns-in-Arming-clause-next : goal.returns-in-Arming-clause-next
@@ -96,7 +96,7 @@ returns-then-shadow-eq0-clause-next c = λ g first now later own known shown lef
     let old = c.args.self.now in
     let r = c.in-ReadingShadow in
     let at = sym c.replace.ensures.value ∙ r.is in
-    let none : move_told_in c.args.end ≡ 0 = sym c.told_in-shadow.ensures ∙ c.if-shadow-eq0.true in
+    let none : move_told_in c.args.end ≡ 0 = sym c.move_told_in-shadow.ensures ∙ c.if-shadow-eq0.true in
     over-choose old (ReadingShadow r.home r.frame r.pages) c.args.end c.args.end _ (ends.Ready r.home r.frame r.pages) g first now later own at refl known left shown
     (λ k a. record { shown = discards-none old.made r.home (move_told_in c.args.end) r.frame r.pages g none; left = after-no-shadow old.made r.home r.frame r.pages g first now later own c.args.end k a none; over = tt })
 
@@ -107,9 +107,9 @@ returns-else-shadow-eq0-clause-next c = λ g first now later own known shown lef
       let r = c.in-ReadingShadow in
       let go = c.go-else-shadow-eq0 in
       let at = sym c.replace.ensures.value ∙ r.is in
-      let some : move_told_in c.args.end ≢ 0 = λ e. c.if-shadow-eq0.false (c.told_in-shadow.ensures ∙ e) in
-      step-choose old go.new.self (ReadingShadow r.home r.frame r.pages) (Unshading r.home c.told_in-shadow.result r.frame r.pages) c.args.end c.args.end _ (move_piece_made go.result) g first now later own at refl known left shown go.ensures.stage go.ensures.made
-      (λ k a. subst (λ (w : ℕ). RunsChoose old.made (Unshading r.home w r.frame r.pages) (choose_left old.made (ReadingShadow r.home r.frame r.pages) g c.args.end) g first later) (sym c.told_in-shadow.ensures) (after-shadow old.made r.home r.frame r.pages g first now later own c.args.end k a some));
+      let some : move_told_in c.args.end ≢ 0 = λ e. c.if-shadow-eq0.false (c.move_told_in-shadow.ensures ∙ e) in
+      step-choose old go.new.self (ReadingShadow r.home r.frame r.pages) (Unshading r.home c.move_told_in-shadow.result r.frame r.pages) c.args.end c.args.end _ (move_piece_made go.result) g first now later own at refl known left shown go.ensures.stage go.ensures.made
+      (λ k a. subst (λ (w : ℕ). RunsChoose old.made (Unshading r.home w r.frame r.pages) (choose_left old.made (ReadingShadow r.home r.frame r.pages) g c.args.end) g first later) (sym c.move_told_in-shadow.ensures) (after-shadow old.made r.home r.frame r.pages g first now later own c.args.end k a some));
 }
 
 pub returns-in-Unshading-clause-next : goal.returns-in-Unshading-clause-next
