@@ -14,7 +14,7 @@ fn form_in(alloc: Global, texts: &[&str]) -> Result<Option<Form>, Fail> {
 
 #[test]
 fn reads_forms(rt: HostRuntime) -> Result<(), Fail> {
-    let rows: [(&[&str], Option<Form>); 22] = [
+    let rows: [(&[&str], Option<Form>); 36] = [
         (&["sim"], Some(Form::Sim)),
         (&["gen", "0", "1"], Some(Form::Gen { number: 0, size: 1 })),
         (
@@ -43,6 +43,35 @@ fn reads_forms(rt: HostRuntime) -> Result<(), Fail> {
         (&["gen", "18446744073709551616", "1"], None),
         (&["gen", "7", "1", "1"], None),
         (&["drill", "7"], None),
+        (
+            &["import", "4", "9"],
+            Some(Form::Import { fast: 4, slow: 9 }),
+        ),
+        (
+            &["import", "4095", "1"],
+            Some(Form::Import {
+                fast: 4095,
+                slow: 1,
+            }),
+        ),
+        (
+            &["import", "1", "4095"],
+            Some(Form::Import {
+                fast: 1,
+                slow: 4095,
+            }),
+        ),
+        (&["import"], None),
+        (&["import", "4"], None),
+        (&["import", "4", "9", "9"], None),
+        (&["import", "04", "9"], None),
+        (&["import", "4", "+9"], None),
+        (&["import", "0", "9"], None),
+        (&["import", "4", "0"], None),
+        (&["import", "4096", "1"], None),
+        (&["import", "4", "4093"], None),
+        (&["import", "4", "18446744073709551615"], None),
+        (&["gen", "import", "9"], None),
     ];
     for (texts, want) in rows {
         assert_eq!(rt; form_in(rt.alloc(), texts)?, want, "{texts:?}");

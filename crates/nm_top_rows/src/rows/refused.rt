@@ -3,6 +3,7 @@ use super::calls::words;
 use nm_io::{MemSink, MemSource};
 use nm_script::ScriptFault;
 use nm_top::{Status, plain_call};
+use nm_trace::TraceFault;
 use std::alloc::Global;
 use std::test::Fail;
 
@@ -146,7 +147,7 @@ fn answers_scripts_that_are_not_served(rt: HostRuntime) -> Result<(), Fail> {
 #[test]
 fn tells_lines_of_statuses(rt: HostRuntime) -> Result<(), Fail> {
     let fault = ScriptFault::BadLine;
-    let rows: [(Status, &str); 7] = [
+    let rows: [(Status, &str); 8] = [
         (Status::Done, ""),
         (Status::Usage, "nomad: usage"),
         (
@@ -157,6 +158,13 @@ fn tells_lines_of_statuses(rt: HostRuntime) -> Result<(), Fail> {
         (Status::ReadFault, "nomad: read fault"),
         (Status::WriteFault, "nomad: write fault"),
         (Status::Memory, "nomad: memory"),
+        (
+            Status::Trace {
+                fault: TraceFault::TooManyPages,
+                row: 4,
+            },
+            "nomad: trace row 4: TooManyPages",
+        ),
     ];
     for (status, line) in rows {
         assert!(rt; status.to_string(rt.alloc())?.as_str() == line);
