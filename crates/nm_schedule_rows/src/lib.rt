@@ -1,7 +1,6 @@
-//! Rows of simulations: the order in which actors make their turns. The library itself is empty.
+//! Rows of simulations: the order in which actors make their turns. The library itself has actors that give turns from a list.
 #![tactic(auto)]
 
-#[cfg(test)]
-mod listed;
+pub mod listed;
 #[cfg(test)]
 mod rows;

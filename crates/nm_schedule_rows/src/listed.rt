@@ -6,14 +6,17 @@ use nm_base::Geometry;
 
 /// Gives the turns of a list, one after the other, and then End.
 #[derive(Drop)]
-pub(crate) struct Listed<'a> {
-    pub(crate) geometry: &'a Geometry,
-    pub(crate) number: u32,
-    pub(crate) turns: &'a [Turn],
-    // How many turns of the list it gave.
-    pub(crate) given: usize,
-    // The turn that it gave last.
-    pub(crate) last: Option<Turn>,
+pub struct Listed<'a> {
+    /// The machine that it acts on.
+    pub geometry: &'a Geometry,
+    /// Its number among the actors.
+    pub number: u32,
+    /// The turns that it gives.
+    pub turns: &'a [Turn],
+    /// How many turns of the list it gave.
+    pub given: usize,
+    /// The turn that it gave last.
+    pub last: Option<Turn>,
 }
 
 impl<'a> Actor for Listed<'a> {
