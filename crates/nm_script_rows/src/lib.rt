@@ -1,4 +1,4 @@
-//! Rows of the crates of texts: tables of texts, of scripts and of reports, with what each must give.
+//! Rows of the crates of texts: tables of fields and lines, and of reports, with what each must give.
 #![tactic(auto)]
 
 #[cfg(test)]

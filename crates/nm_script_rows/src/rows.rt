@@ -1,6 +1,4 @@
 //! The rows, by crate.
 
-mod generated;
 mod reports;
-mod scripts;
 mod texts;

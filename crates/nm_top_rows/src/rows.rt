@@ -1,7 +1,4 @@
-//! Rows of each crate of the layer.
+//! Rows of sources and sinks, and of calls of the program in which one of theirs fails.
 mod calls;
-mod command;
-mod imports;
 mod memory;
-mod refused;
 mod standard;

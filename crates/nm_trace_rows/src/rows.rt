@@ -1,4 +1,0 @@
-//! The rows.
-
-mod imports;
-mod traces;
