@@ -28,7 +28,7 @@ use Rattle.nm_prepare.proofs.Found.{vpages-all}
 use Rattle.nm_looks.specs.declared.seen.Seen.{Seen}
 use Rattle.nm_looks.specs.Seeing.{LooksData, IsLooks, MayLooks, seen_view, IsSeen}
 use Rattle.nm_looks.specs.Parts.{page_looks}
-use Rattle.nm_looks.proofs.Seen.{outside-told, outside-all}
+use Rattle.nm_looks.proofs.Leaving.{outside-told, outside-all}
 use Rattle.nm_cool.specs.declared.cool.Cool.{Cool}
 use Rattle.nm_cool.specs.declared.cool.CoolStage.{CoolStage}
 use Rattle.nm_cool.specs.declared.cool.CoolStage.TheVariants.{Locking, Looking, Arming, Marking, Unlocking}

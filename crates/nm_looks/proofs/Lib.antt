@@ -1,4 +1,4 @@
 pub mod Shown
 pub mod Looking
-pub mod Seen
+pub mod Leaving
 pub mod Softening
