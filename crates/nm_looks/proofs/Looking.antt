@@ -1,5 +1,5 @@
 -- The steps of Looks.
-use Rattle.std.proofs.Common.{◌≡◌, ◌≢◌, ℕ, ◌+◌, ◌<◌, List, [], ◌∷◌, ◌++◌, map, All, Option, Some, None, refl, sym, ap, ◌∙◌, subst, arith, append_assoc}
+use Rattle.std.proofs.Common.{◌≡◌, ◌≢◌, ℕ, ◌+◌, ◌<◌, List, [], ◌∷◌, ◌++◌, map, Option, Some, refl, sym, ap, ◌∙◌, subst, arith, append_assoc}
 use Rattle.std.proofs.lemmas.List.{map-append}
 use Rattle.std.proofs.lemmas.List.Elements.{All-nil}
 use Rattle.nm_base.specs.Geometry.{Geometry, backing_page}
@@ -28,7 +28,6 @@ use Rattle.nm_mappings.specs.declared.visits.Visit.TheVariants as visits
 use Rattle.nm_mappings.specs.Visits.{visited}
 use Rattle.nm_mappings.proofs.Lists.{first-least, split-has, below-push, vpage-there, below-absent}
 use Rattle.nm_mappings.proofs.Operations.{edit-then, edit-nothing, visited-push, visited-page}
-use Rattle.nm_looks.specs.declared.looks.LooksMade.{LooksMade}
 use Rattle.nm_looks.specs.declared.looks.Looks.{Looks}
 use Rattle.nm_looks.specs.declared.seen.Seen.{Seen}
 use Rattle.nm_looks.specs.Seeing.{LooksData, look_at, is_mapped_word, is_outside, nothing_seen, seen_with, seen_after, seen_of, LookAt, LooksFrom, IsLooks, MayLooks, seen_view, IsSeen}

@@ -1,5 +1,5 @@
 -- The steps of Softens.
-use Rattle.std.proofs.Common.{◌≡◌, ℕ, nat_le, ◌+◌, ◌<◌, List, [], ◌∷◌, All, Option, Some, None, refl, sym, ◌∙◌, subst}
+use Rattle.std.proofs.Common.{◌≡◌, ℕ, nat_le, ◌+◌, ◌<◌, List, [], ◌∷◌, All, Option, Some, refl, sym, ◌∙◌, subst}
 use Rattle.nm_base.specs.Geometry.{Geometry}
 use Rattle.nm_base.specs.Ranges.{IsVPage}
 use Rattle.nm_action.specs.declared.action.Action.{Action}

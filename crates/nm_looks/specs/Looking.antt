@@ -9,7 +9,6 @@ use Rattle.nm_view.specs.Views.{View}
 use Rattle.nm_part.specs.Patterns.{Ends}
 use Rattle.nm_compose.specs.Stages.{Stages}
 use Rattle.nm_vpages.specs.VPages.{most_vpages, at_or_after, AreBelow}
-use Rattle.nm_looks.specs.declared.looks.LooksMade.{LooksMade}
 use Rattle.nm_looks.specs.declared.looks.Looks.{Looks}
 use Rattle.nm_looks.specs.declared.seen.Seen.{Seen}
 use Rattle.nm_looks.specs.Seeing.{LooksData, look_at, nothing_seen, seen_after, seen_of, LooksFrom, MayLooks, seen_view}

@@ -1,6 +1,6 @@
 //! What the table words of a page show.
 
-ghost use Rattle.std.specs.Prelude.{◌≡◌};
+ghost use Rattle.std.specs.Prelude.{◌≡◌, ◌<◌};
 ghost use Rattle.nm_vpages.specs.VPages.{most_vpages, AreBelow};
 ghost use Rattle.nm_looks.specs.Seeing.{nothing_seen, where_so, is_hot_word, is_accessed_word};
 
