@@ -1,0 +1,2 @@
+pub mod Cooling
+pub mod Stages

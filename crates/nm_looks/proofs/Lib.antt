@@ -1,0 +1,4 @@
+pub mod Shown
+pub mod Looking
+pub mod Leaving
+pub mod Softening

@@ -1,0 +1,4 @@
+pub mod Seeing
+pub mod Looking
+pub mod Softening
+pub mod Parts

@@ -1,0 +1,10 @@
+//! What the table words of a page show, and Softens of them, as parts.
+#![tactic(auto)]
+
+pub mod looks;
+pub mod seen;
+pub mod softens;
+
+pub use looks::{Looks, LooksMade, LooksPart};
+pub use seen::Seen;
+pub use softens::{Softens, SoftensPart};
