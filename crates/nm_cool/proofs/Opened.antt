@@ -1,12 +1,11 @@
 -- The view with the operation on the page, along the steps.
-use Rattle.std.proofs.Common.{◌≡◌, ◌≢◌, ℕ, List, [], ◌∷◌, ◌++◌, All, Option, Some, None, IsSome, IsSomeAnd, refl, sym, ap, ◌∙◌, subst}
+use Rattle.std.proofs.Common.{◌≡◌, ◌≢◌, ℕ, List, [], ◌∷◌, ◌++◌, All, Option, Some, None, IsSomeAnd, refl, sym, ap, ◌∙◌, subst}
 use Rattle.nm_base.specs.Geometry.{Geometry}
 use Rattle.nm_action.specs.declared.action.Action.TheVariants.{Unlock}
 use Rattle.nm_action.specs.declared.action.Reply.TheVariants.{Done}
 use Rattle.nm_view.specs.declared.view.Owned.{Owned}
-use Rattle.nm_view.specs.Lists.{find, edit, erase, first, Once}
+use Rattle.nm_view.specs.Lists.{find, first, Once}
 use Rattle.nm_view.specs.Views.{Op, View}
-use Rattle.nm_view.specs.Opening.{opened}
 use Rattle.nm_view.specs.Operations.{page_of, op_on, IsLookedMapped}
 use Rattle.nm_event.specs.After.{after_of, spoiled}
 use Rattle.nm_mappings.specs.declared.visits.Visit.TheVariants as visits

@@ -1,16 +1,15 @@
 -- The steps of the cooling of a candidate, each at its stage.
-use Rattle.std.proofs.Common.{◌≡◌, ◌≢◌, ℕ, List, [], ◌∷◌, All, Some, inl, inr, refl, sym, ap, ◌∙◌, subst}
+use Rattle.std.proofs.Common.{◌≡◌, ℕ, List, [], ◌∷◌, All, Some, inl, inr, refl, sym, ap, ◌∙◌, subst}
 use Rattle.nm_base.specs.Geometry.{Geometry, backing_page}
 use Rattle.nm_action.specs.declared.action.Action.{Action}
 use Rattle.nm_action.specs.declared.action.Action.TheVariants.{Lock, Unlock, Mark}
-use Rattle.nm_action.specs.declared.action.Reply.{Reply}
 use Rattle.nm_action.specs.declared.action.Reply.TheVariants.{Done, Word, Busy, Lost}
 use Rattle.nm_action.specs.Own.{Own}
-use Rattle.nm_view.specs.Views.{Op, View}
+use Rattle.nm_view.specs.Views.{View}
 use Rattle.nm_view.specs.Operations.{IsLookedMapped}
 use Rattle.nm_permit.specs.Permitted.{MayUnlock}
 use Rattle.nm_event.specs.After.{after_of}
-use Rattle.nm_part.specs.Patterns.{Ends, Follows, CanEnd}
+use Rattle.nm_part.specs.Patterns.{Follows, CanEnd}
 use Rattle.nm_part.proofs.Patterns.{ends-now, over-at-once, can-ends}
 use Rattle.nm_compose.specs.Acts.{MayAct, IsAct}
 use Rattle.nm_compose.specs.Choices.{IsOr}
@@ -26,7 +25,7 @@ use Rattle.nm_mappings.specs.declared.visits.VisitsMade.{VisitsMade}
 use Rattle.nm_mappings.proofs.Visited.{arms-left}
 use Rattle.nm_prepare.proofs.Found.{vpages-all}
 use Rattle.nm_looks.specs.declared.seen.Seen.{Seen}
-use Rattle.nm_looks.specs.Seeing.{LooksData, IsLooks, MayLooks, seen_view, IsSeen}
+use Rattle.nm_looks.specs.Seeing.{LooksData, IsLooks, seen_view, IsSeen}
 use Rattle.nm_looks.specs.Parts.{page_looks}
 use Rattle.nm_looks.proofs.Leaving.{outside-told, outside-all}
 use Rattle.nm_cool.specs.declared.cool.Cool.{Cool}
@@ -35,7 +34,7 @@ use Rattle.nm_cool.specs.declared.cool.CoolStage.TheVariants.{Locking, Looking, 
 use Rattle.nm_cool.specs.declared.cool.Cooled.{Cooled}
 use Rattle.nm_cool.specs.declared.cool.Cooled.TheVariants as ends
 use Rattle.nm_cool.specs.Cooling.{CoolData, UnlocksCold, MarksCold, ArmsCold, LooksCold, AfterColdLock, IsCooling, MayCool, IsCooledLeft}
-use Rattle.nm_cool.specs.Stages.{cool_data, CoolPieceMade, CoolPieceEnd, MayCoolPiece, IsCoolPiece, CoolPieceLeaves, CoolPiece, cool_piece_made, IsNewCoolPiece, cool_reply, outside_in, cool_piece, arm_stage, cool_left, IsColdLocking, cold_op, cold_view, IsColdOpen, IsColdArming, IsColdArmed, KnownInCool, cool_stages}
+use Rattle.nm_cool.specs.Stages.{cool_data, CoolPieceMade, CoolPieceEnd, MayCoolPiece, IsCoolPiece, CoolPieceLeaves, CoolPiece, cool_piece_made, IsNewCoolPiece, cool_reply, outside_in, cool_piece, arm_stage, cool_left, IsColdLocking, cold_op, IsColdOpen, IsColdArming, IsColdArmed, KnownInCool, cool_stages}
 use Rattle.nm_cool.proofs.Ending.{can-unlocks, can-marks, can-arms, can-after-lock}
 use Rattle.nm_cool.proofs.Opened.{cold-some, cold-seen, cold-unlocked, looked-each}
 
@@ -162,9 +161,9 @@ pub after-marking : (made : CoolData) (g : Geometry) (view now later : View) (ow
     → RunsCool made Unlocking (UnlocksCold made g) g view later
 after-marking made g view now later own (Other x) h a = absurd a.0
 after-marking made g view now later own (This reply) h a =
-    let open = open-same made h.looked g view now later a.0.is h.opened in
+    let still = open-same made h.looked g view now later a.0.is h.opened in
     act-run made Unlocking (Unlock made.1) g view later refl
-    (record { quiet = tt; allowed = record { range = open.may.page; permitted = cold-some made.1 h.looked view later (MayUnlock g) open.may.lock.fresh open.is (unlock-cold made h.looked g view) } }) (record { looked = h.looked; opened = open })
+    (record { quiet = tt; allowed = record { range = still.may.page; permitted = cold-some made.1 h.looked view later (MayUnlock g) still.may.lock.fresh still.is (unlock-cold made h.looked g view) } }) (record { looked = h.looked; opened = still })
     (λ end. can-ends ends.Cold)
 
 -- 5. The Unlock.

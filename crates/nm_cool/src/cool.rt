@@ -87,12 +87,7 @@ impl<'a> Cool<'a> {
         let page = self.page;
         match stage {
             CoolStage::New | CoolStage::Locking => action(Action::Lock { page }),
-            CoolStage::Looking => looks(Looks::new(
-                g,
-                page,
-                FASTEST,
-                VPageSet::of_page(g, page),
-            )),
+            CoolStage::Looking => looks(Looks::new(g, page, FASTEST, VPageSet::of_page(g, page))),
             CoolStage::Arming(pages) => arms(VisitPlan::arms(page, pages.copy())),
             CoolStage::Marking => action(Action::Mark {
                 page,
@@ -151,7 +146,7 @@ fn action<'a>(action: Action) -> CoolPiece<'a>
 /// The piece that looks at virtual pages.
 fn looks<'a>(plan: Looks<'a>) -> CoolPiece<'a>
     requires { IsNewLooks plan }
-    ensures made { cool_piece_made result ≡ Or.Other (Or.This (looks_data plan)) }
+    ensures made { cool_piece_made result ≡ Or.Other (Or.This (looks_data plan.entry)) }
     ensures new { IsNewCoolPiece result }
 {
     Or::Other(Or::This(Composite::new(plan)))

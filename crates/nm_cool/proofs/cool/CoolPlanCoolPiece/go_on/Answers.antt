@@ -1,4 +1,4 @@
-use Rattle.std.proofs.Common.{◌≡◌, List, ℕ, sym, ap, ◌∙◌, subst, refl}
+use Rattle.std.proofs.Common.{◌≡◌, sym, ap, ◌∙◌, subst, refl}
 use Rattle.nm_action.specs.declared.action.Reply.TheVariants.{Done}
 use Rattle.nm_action.specs.declared.action.Reply.TheVariants as replies
 use Rattle.nm_compose.specs.declared.or.Or.TheVariants.{This}
