@@ -1,6 +1,6 @@
 //! How many shadows were reclaimed inside an operation on a page.
 
-ghost use Rattle.std.specs.Prelude.{◌≡◌, ◌-◌, ◌^◌, [], ◌∷◌, ◌++◌, min};
+ghost use Rattle.std.specs.Prelude.{◌≡◌, ◌-◌, ◌^◌, ◌&&◌, not, [], ◌∷◌, ◌++◌, min};
 ghost use Rattle.nm_action.specs.Own.{Own};
 ghost use Rattle.nm_action.specs.declared.action.Reply.{Reply};
 ghost use Rattle.nm_obtain.specs.Freed.{unlocks, is_put, is_release, freed_inside};
@@ -13,7 +13,7 @@ use nm_event::Action;
 #[derive(Clone, Copy, Debug, PartialEq, Eq)]
 pub struct FreedCount {
     page: u32,
-    open: bool,
+    locked: bool,
     putting: bool,
     freed: u64,
 }
@@ -26,7 +26,7 @@ impl FreedCount {
     {
         FreedCount {
             page,
-            open: true,
+            locked: true,
             putting: false,
             freed: 0,
         }
@@ -37,18 +37,25 @@ impl FreedCount {
         ensures page { self.new.page ≡ self.old.page }
         ensures counted { (own : Own) (reply : Reply) → HasCounted self.old own → HasCounted self.new (own ++ (action, reply) ∷ []) }
     {
-        let unlocked = unlocks(self.page, action);
         let freed = self.freed_with(action);
-        self.open = self.open && !unlocked;
-        self.putting = is_put(action);
+        let locked = self.stays_locked(action);
         self.freed = freed;
+        self.locked = locked;
+        self.putting = is_put(action);
+    }
+
+    /// Whether the page is still locked after this action.
+    fn stays_locked(&self, action: Action) -> bool
+        ensures { result ≡ (self.now.locked && not (unlocks self.now.page action)) }
+    {
+        self.locked && !unlocks(self.page, action)
     }
 
     /// The count with this action.
     fn freed_with(&self, action: Action) -> u64
         ensures { result ≡ freed_with self.now action }
     {
-        if self.open && self.putting && is_release(action) {
+        if self.locked && self.putting && is_release(action) {
             self.freed.saturating_add(1)
         } else {
             self.freed
