@@ -32,10 +32,10 @@ same-number n = grind arith
 pub op-there : (first : View) (o : Op) (owned : List Owned) → op_on (with_op first o owned) o.page ≡ Some o
 op-there first o owned = rw (same-number o.page) refl
 
-edits-it : (o : Op) (f : Op → Op) → edit page_of o.page f (o ∷ []) ≡ f o ∷ []
+pub edits-it : (o : Op) (f : Op → Op) → edit page_of o.page f (o ∷ []) ≡ f o ∷ []
 edits-it o f = rw (same-number o.page) refl
 
-erases-it : (o : Op) → erase page_of o.page (o ∷ []) ≡ []
+pub erases-it : (o : Op) → erase page_of o.page (o ∷ []) ≡ []
 erases-it o = rw (same-number o.page) refl
 
 -- something is known of the operation
@@ -47,7 +47,7 @@ known-there first o owned now page Said is of said =
     subst V (sym is) (subst N of (subst P (sym (op-there first o owned)) said))
 
 -- what a reply says of the operation
-told-there : (first : View) (o : Op) (owned : List Owned) (now : View) (page : ℕ) (Said : Op → Type 0) → now ≡ with_op first o owned → o.page ≡ page → IfSome (op_on now page) Said → Said o
+pub told-there : (first : View) (o : Op) (owned : List Owned) (now : View) (page : ℕ) (Said : Op → Type 0) → now ≡ with_op first o owned → o.page ≡ page → IfSome (op_on now page) Said → Said o
 told-there first o owned now page Said is of said =
     let P : Option Op → Type 0 = λ x. IfSome x Said in
     let V : View → Type 0 = λ v. IfSome (op_on v page) Said in
@@ -64,12 +64,12 @@ looked-view made g first now later word at acted =
     ∙ rw (at.may.mapped, same-number made.1.page) refl)
 
 -- a word of the page was read
-read-view : (made : FaultsMade) (g : Geometry) (first now later : View) (look word : ℕ) (home shadow : Option ℕ) → now ≡ with_op first (fault_op made.1 first look home shadow) first.owned
+pub read-view : (made : FaultsMade) (g : Geometry) (first now later : View) (look word : ℕ) (home shadow : Option ℕ) → now ≡ with_op first (fault_op made.1 first look home shadow) first.owned
     → IsActed g now (Read made.1.page (Home made.1.page)) (Word word) later → later ≡ with_op first (fault_op made.1 first look (Some word) shadow) first.owned
 read-view made g first now later look word home shadow is acted =
     acted.is ∙ (ap (λ (v : View). after_of g v (Read made.1.page (Home made.1.page)) (Word word)) is ∙ rw (same-number made.1.page) refl)
 
-read-shadow : (made : FaultsMade) (g : Geometry) (first now later : View) (look word master : ℕ) (home shadow : Option ℕ) → now ≡ with_op first (fault_op made.1 first look home shadow) first.owned
+pub read-shadow : (made : FaultsMade) (g : Geometry) (first now later : View) (look word master : ℕ) (home shadow : Option ℕ) → now ≡ with_op first (fault_op made.1 first look home shadow) first.owned
     → IsActed g now (Read made.1.page (Shadow master)) (Word word) later → later ≡ with_op first (fault_op made.1 first look home (Some word)) first.owned
 read-shadow made g first now later look word master home shadow is acted =
     acted.is ∙ (ap (λ (v : View). after_of g v (Read made.1.page (Shadow master)) (Word word)) is ∙ rw (same-number made.1.page) refl)
@@ -188,7 +188,7 @@ granted made shadow g first now later word at acted =
     }
 
 -- an Unlock of the operation
-unlocked-view : (made : FaultsMade) (g : Geometry) (first now later : View) (o : Op) (owned : List Owned) → MayFault made g first → o.page ≡ made.1.page → now ≡ with_op first o owned → IsActed g now (Unlock made.1.page) Done later
+pub unlocked-view : (made : FaultsMade) (g : Geometry) (first now later : View) (o : Op) (owned : List Owned) → MayFault made g first → o.page ≡ made.1.page → now ≡ with_op first o owned → IsActed g now (Unlock made.1.page) Done later
     → later ≡ record first { owned = spoiled made.1.page owned }
 unlocked-view made g first now later o owned may of is acted =
     let N : ℕ → Type 0 = λ n. erase page_of n (o ∷ []) ≡ [] in

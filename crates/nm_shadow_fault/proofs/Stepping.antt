@@ -145,11 +145,11 @@ runs-look made end g first now at =
     runs-act made Looking (Look made.1.vpage) (fault_left made Locking g end) g first now refl (record { quiet = tt; allowed = record { range = at.may.vpage; permitted = tt } }) at
     (λ end. can-after-look g made.1 (fault_told end)) (λ own outcome f. f)
 
-some-test : (word : ℕ) → word ≢ 0 → (word == 0) ≡ false
+pub some-test : (word : ℕ) → word ≢ 0 → (word == 0) ≡ false
 some-test word some = grind arith
 
 -- an operation in which nothing was taken out of the table may be unlocked
-free-op : (made : FaultsMade) (g : Geometry) (first : View) (look : ℕ) (home shadow : Option ℕ) → MayUnlock g (fault_op made.1 first look home shadow)
+pub free-op : (made : FaultsMade) (g : Geometry) (first : View) (look : ℕ) (home shadow : Option ℕ) → MayUnlock g (fault_op made.1 first look home shadow)
 free-op made g first look home shadow = record { back = refl; flushed = record { made = refl; seen = tt }; phase = λ e. cc e }
 
 may-unlock : (made : FaultsMade) (g : Geometry) (first now : View) (look : ℕ) (home shadow : Option ℕ) (owned : List Owned) → MayFault made g first → now ≡ with_op first (fault_op made.1 first look home shadow) owned
@@ -300,7 +300,7 @@ done old here outcome end so g first now later runs at known left over =
     by-stage shadow_stages LeavesFaultPiece (λ stage end. IsDone (Was old g stage end) g first later outcome) (fault_made old.geometry.now old.made) old.stage here end so g first now later runs at.from at.ended known left over
 
 -- a reply of an action that is a put is Done
-unlock-done : (g : Geometry) (now later : View) (page : ℕ) (reply : Reply) → IsActed g now (Unlock page) reply later → IsActed g now (Unlock page) Done later
+pub unlock-done : (g : Geometry) (now later : View) (page : ℕ) (reply : Reply) → IsActed g now (Unlock page) reply later → IsActed g now (Unlock page) Done later
 unlock-done g now later page Done a = a
 unlock-done g now later page (Word w) a = absurd a.fits.kind
 unlock-done g now later page (Busy w) a = absurd a.fits.kind
@@ -312,7 +312,7 @@ set-done g now later page master (Word w) a = absurd a.fits.kind
 set-done g now later page master (Busy w) a = absurd a.fits.kind
 set-done g now later page master (Lost w) a = absurd a.fits.kind
 
-none-test : (word : ℕ) → word ≡ 0 → (word == 0) ≡ true
+pub none-test : (word : ℕ) → word ≡ 0 → (word == 0) ≡ true
 none-test word none = grind arith
 
 grant-word : (made : FaultsMade) (shadow : Option ℕ) (g : Geometry) (first now later : View) (reply : Reply) → IsAtGrant made shadow g first now → IsActed g now (Grant made.1.vpage) reply later → IsAtUnlock made shadow g first later

@@ -1,0 +1,4 @@
+pub mod Views
+pub mod Written
+pub mod Runs
+pub mod Steps

@@ -1,0 +1,3 @@
+pub mod MissingFault
+pub mod Pieces
+pub mod Stages
