@@ -4,5 +4,5 @@
 pub mod sweep;
 pub mod task;
 
-pub use sweep::ReclaimMade;
-pub use task::ReclaimTask;
+pub use sweep::{ReclaimMade, Sweep, SweepMade, SweepPiece};
+pub use task::{ReclaimTask, first_visited};

@@ -62,11 +62,11 @@ pub(crate) struct Place {
 }
 
 /// A piece of a sweep: a single action, or a frame put back.
-pub(crate) type Piece = Or<Act, PoolTask>;
+pub type SweepPiece = Or<Act, PoolTask>;
 
 /// The plan of Reclaim, where there is a page to visit.
 #[derive(Clone, Copy)]
-pub(crate) struct Sweep<'a> {
+pub struct Sweep<'a> {
     geometry: &'a Geometry,
     made: SweepMade,
     place: Place,
@@ -74,7 +74,7 @@ pub(crate) struct Sweep<'a> {
 
 impl<'a> Sweep<'a> {
     /// The sweep from its first page on.
-    pub(crate) fn new(geometry: &'a Geometry, made: SweepMade) -> Sweep<'a>
+    pub fn new(geometry: &'a Geometry, made: SweepMade) -> Sweep<'a>
         ensures geometry { result.geometry.now ≡ geometry.now }
         ensures made { result.made ≡ made }
         ensures new { result.place ≡ new_place made }
@@ -98,7 +98,7 @@ impl<'a> Sweep<'a> {
     }
 
     /// Comes to a stage at its page, and gives its piece.
-    fn go(&mut self, stage: Stage) -> Piece
+    fn go(&mut self, stage: Stage) -> SweepPiece
         requires { HasFrame self.old.geometry.now stage }
         ensures stage { self.new ≡ record self.old { place = record self.old.place { stage = stage } } }
         ensures made { sweep_piece_made result ≡ sweep_piece_at self.old.geometry.now self.new.place }
@@ -132,7 +132,7 @@ impl<'a> Sweep<'a> {
 
     /// Visits the next page that is at least `page`, with so many freed before. It is over where enough are freed or there is
     /// no such page.
-    fn visit_from(&mut self, page: u32, freed: u32) -> Next<Piece, u32>
+    fn visit_from(&mut self, page: u32, freed: u32) -> Next<SweepPiece, u32>
         requires { page + 1 < 2 ^ 32 }
         ensures { IsNextVisit page freed self.old self.new result }
     {
@@ -187,7 +187,7 @@ fn is_shadow_in(geometry: &Geometry, tier: u32, word: u64) -> bool
     word != 0 && geometry.tier_of(shadow_frame(word)) == tier
 }
 
-impl<'a> Plan<Piece> for Sweep<'a> {
+impl<'a> Plan<SweepPiece> for Sweep<'a> {
     type Outcome = u32;
 
     type Made = (Geometry, SweepMade);
@@ -212,11 +212,11 @@ impl<'a> Plan<Piece> for Sweep<'a> {
 
     ghost ended = { λ s g freed. s.place.freed ≡ freed };
 
-    fn begin(&mut self) -> Piece {
+    fn begin(&mut self) -> SweepPiece {
         self.go(Stage::Locking)
     }
 
-    fn go_on(&mut self, _piece: &Piece, end: Or<Reply, PoolEnd>) -> Next<Piece, u32> {
+    fn go_on(&mut self, _piece: &SweepPiece, end: Or<Reply, PoolEnd>) -> Next<SweepPiece, u32> {
         match end {
             Or::Other(_) => {
                 let Stage::PuttingBack(_) = self.place.stage else {

@@ -1,13 +1,13 @@
 //! Reclaim as a part of an actor's work.
 
 ghost use Rattle.std.specs.Prelude.{◌≡◌};
-ghost use Rattle.nm_reclaim.specs.Tasks.{task_made, IsNewWork, freed_by};
+ghost use Rattle.nm_reclaim.specs.Tasks.{first_visited, task_made, IsNewWork, freed_by};
 
-use crate::sweep::{Piece, ReclaimMade, Sweep, SweepMade, next_visited};
+use crate::sweep::{ReclaimMade, Sweep, SweepMade, SweepPiece, next_visited};
 use nm_base::Geometry;
 use nm_compose::Composite;
 use nm_event::{Reply, Step};
-use nm_part::{Part, Piece as _};
+use nm_part::{Part, Piece};
 
 /// What a task does.
 #[derive(Drop)]
@@ -15,7 +15,7 @@ pub(crate) enum Work<'a> {
     /// There is no page to visit.
     Nothing,
     /// It visits pages.
-    Visits(Composite<Sweep<'a>, Piece>),
+    Visits(Composite<Sweep<'a>, SweepPiece>),
 }
 
 /// Reclaim: each backing page but one is locked in turn, and where it has a shadow in the tier, the shadow is discarded and
@@ -49,15 +49,10 @@ impl<'a> ReclaimTask<'a> {
     /// the page that is skipped.
     pub fn begin(&mut self, tier: u32, want: u32, skip: Option<u32>)
         ensures made { task_made self.new ≡ (self.old.geometry.now, record { tier = tier; want = want; skip = skip }) }
-        ensures new { IsNewWork ⟦<Composite<Sweep<'a>, Piece> as Part>⟧.is_new ⟦<Composite<Sweep<'a>, Piece> as Part>⟧.made (task_made self.new) self.new.work }
+        ensures new { IsNewWork ⟦<Composite<Sweep<'a>, SweepPiece> as Part>⟧.is_new ⟦<Composite<Sweep<'a>, SweepPiece> as Part>⟧.made (task_made self.new) self.new.work }
     {
         self.asked = ReclaimMade { tier, want, skip };
-        let first = if tier == 0 {
-            None
-        } else {
-            next_visited(self.geometry, self.asked, 0, 0)
-        };
-        self.work = match first {
+        self.work = match first_visited(self.geometry, self.asked) {
             Some(first) => Work::Visits(Composite::new(Sweep::new(
                 self.geometry,
                 SweepMade {
@@ -80,6 +75,18 @@ impl<'a> ReclaimTask<'a> {
     }
 }
 
+/// The first page that Reclaim visits. None where it is over at once: in the fastest tier, where none is to be freed, and
+/// where there is no page but the skipped one.
+pub fn first_visited(geometry: &Geometry, made: ReclaimMade) -> Option<u32>
+    ensures { result ≡ first_visited geometry.now made }
+{
+    if made.tier == 0 {
+        None
+    } else {
+        next_visited(geometry, made, 0, 0)
+    }
+}
+
 impl<'a> Part for ReclaimTask<'a> {
     type Outcome = u32;
 
@@ -92,7 +99,7 @@ impl<'a> Part for ReclaimTask<'a> {
 
     ghost made = { task_made };
 
-    ghost is_new = { λ task. IsNewWork ⟦<Composite<Sweep<'a>, Piece> as Part>⟧.is_new ⟦<Composite<Sweep<'a>, Piece> as Part>⟧.made (task_made task) task.work };
+    ghost is_new = { λ task. IsNewWork ⟦<Composite<Sweep<'a>, SweepPiece> as Part>⟧.is_new ⟦<Composite<Sweep<'a>, SweepPiece> as Part>⟧.made (task_made task) task.work };
 
     ghost may_begin = { MayTask };
 
@@ -100,7 +107,7 @@ impl<'a> Part for ReclaimTask<'a> {
 
     ghost leaves = { λ made g view freed left. IsSwept made.1.skip view left };
 
-    ghost awaits = { λ task. AwaitsWork ⟦<Composite<Sweep<'a>, Piece> as Part>⟧.awaits ⟦<Composite<Sweep<'a>, Piece> as Part>⟧.made (task_made task) task.work };
+    ghost awaits = { λ task. AwaitsWork ⟦<Composite<Sweep<'a>, SweepPiece> as Part>⟧.awaits ⟦<Composite<Sweep<'a>, SweepPiece> as Part>⟧.made (task_made task) task.work };
 
     ghost ended = { λ task g own freed. freed_by task.work ≡ freed };
 

@@ -1,7 +1,7 @@
 use Rattle.std.proofs.Common.{◌-◌, ◌∙◌, ap, refl, rules}
 use Rattle.nm_compose.specs.declared.or.Or.TheVariants.{This, Other}
 use Rattle.nm_reclaim.proofs.Sweeping.{after-lock, after-busy, after-no-home, after-home, after-kept, after-shadow, after-discard, after-free, after-unlock, after-back, freed-fits, shadow-frame}
-use Rattle.nm_reclaim.proofs.sweep.SweepPlanPiece.go_on.Goals as goal
+use Rattle.nm_reclaim.proofs.sweep.SweepPlanSweepPiece.go_on.Goals as goal
 
 pub overflow_add-self-in-Other : goal.overflow_add-self-in-Other
 overflow_add-self-in-Other c = freed-fits c.args.self.now c.in-PuttingBack.field-0 c.args.end (Other c.in-Other.field-0) c.requires.geometry c.requires.first c.requires.now c.requires.later _ c.in-PuttingBack.is c.in-Other.is c.requires.known c.requires.left

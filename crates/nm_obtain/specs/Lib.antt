@@ -1,0 +1,5 @@
+pub mod Freed
+pub mod FreedCounts
+pub mod Obtaining
+pub mod Obtains
+pub mod Searching

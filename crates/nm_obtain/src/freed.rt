@@ -1,0 +1,79 @@
+//! How many shadows were reclaimed inside an operation on a page.
+
+ghost use Rattle.std.specs.Prelude.{◌≡◌, ◌-◌, ◌^◌, [], ◌∷◌, ◌++◌, min};
+ghost use Rattle.nm_action.specs.Own.{Own};
+ghost use Rattle.nm_action.specs.declared.action.Reply.{Reply};
+ghost use Rattle.nm_obtain.specs.Freed.{unlocks, is_put, is_release, freed_inside};
+ghost use Rattle.nm_obtain.specs.FreedCounts.{HasCounted};
+
+use nm_event::Action;
+
+/// Counts the shadows that were reclaimed inside an operation on a page, as the actions of its own list are answered: the
+/// frames that were put back before the page was unlocked.
+#[derive(Clone, Copy, Debug, PartialEq, Eq)]
+pub struct FreedCount {
+    page: u32,
+    open: bool,
+    putting: bool,
+    freed: u64,
+}
+
+impl FreedCount {
+    /// The count for an operation on this page, of which nothing is done yet.
+    pub fn new(page: u32) -> FreedCount
+        ensures page { result.page ≡ page }
+        ensures counted { HasCounted result [] }
+    {
+        FreedCount {
+            page,
+            open: true,
+            putting: false,
+            freed: 0,
+        }
+    }
+
+    /// Notes that this action was answered.
+    pub fn note(&mut self, action: Action)
+        ensures page { self.new.page ≡ self.old.page }
+        ensures counted { (own : Own) (reply : Reply) → HasCounted self.old own → HasCounted self.new (own ++ (action, reply) ∷ []) }
+    {
+        if self.open && self.putting && is_release(action) {
+            self.freed = self.freed.saturating_add(1);
+        }
+        self.putting = is_put(action);
+        if unlocks(self.page, action) {
+            self.open = false;
+        }
+    }
+
+    /// How many were freed so far; a count that has reached 2^64 - 1 stays there.
+    pub fn freed(&self) -> u64
+        ensures { (own : Own) → HasCounted self.now own → result ≡ min (freed_inside self.now.page own) (2 ^ 64 - 1) }
+    {
+        self.freed
+    }
+}
+
+/// Whether an action puts a frame back.
+fn is_put(action: Action) -> bool
+    ensures { result ≡ is_put action }
+{
+    matches!(action, Action::PutFrame { .. })
+}
+
+/// Whether an action releases a turn.
+fn is_release(action: Action) -> bool
+    ensures { result ≡ is_release action }
+{
+    matches!(action, Action::ReleaseTurn { .. })
+}
+
+/// Whether an action unlocks this page.
+fn unlocks(page: u32, action: Action) -> bool
+    ensures { result ≡ unlocks page action }
+{
+    match action {
+        Action::Unlock { page: unlocked } => unlocked == page,
+        _ => false,
+    }
+}

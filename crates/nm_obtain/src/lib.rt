@@ -1,0 +1,8 @@
+//! A frame of a tier is sought inside an operation on a page: shadows are reclaimed where none is free.
+#![tactic(auto)]
+
+pub mod freed;
+pub mod obtain;
+
+pub use freed::FreedCount;
+pub use obtain::{Obtain, ObtainMade, ObtainPiece, Obtained};
