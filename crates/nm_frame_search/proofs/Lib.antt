@@ -1,2 +1,3 @@
+pub mod Forgets
 pub mod Searched
 pub mod Steps

@@ -1,22 +1,24 @@
 -- Searches have finished lists.
-use Rattle.std.proofs.Common.{◌≡◌, ℕ, zero, suc, ◌+◌, ◌-◌, ◌<◌, ◌≤◌, List, [], ◌∷◌, ◌++◌, length, replicate, slice_index, sum_by, count_ones, refl, sym, ap, ◌∙◌, append-nil, arith}
+use Rattle.std.proofs.Common.{◌≡◌, ℕ, zero, suc, ◌+◌, ◌-◌, ◌<◌, ◌≤◌, nat_le, Bool, true, false, List, [], ◌∷◌, ◌++◌, All, Option, Some, None, length, replicate, slice_index, sum_by, count_ones, refl, sym, ap, ◌∙◌, append-nil, arith}
+use Rattle.std.specs.List.{range_with_len}
 use Rattle.std.proofs.lemmas.List.{length-replicate}
 use Rattle.nm_base.specs.Geometry.{Geometry, IsGeometry, AreTiers, first_frame}
+use Rattle.nm_base.specs.Ranges.{IsTier}
 use Rattle.nm_base.specs.FreeWords.{free_words}
 use Rattle.nm_action.specs.declared.action.Action.TheVariants.{TakeTurn, GiveFrame, ReleaseTurn}
 use Rattle.nm_action.specs.declared.action.Reply.TheVariants.{Done, Word}
 use Rattle.nm_action.specs.Own.{Own}
-use Rattle.nm_part.specs.Parts.{IsBegun}
-use Rattle.nm_part.specs.Patterns.{Ends, Follows, Sometimes, CanEnd}
+use Rattle.nm_part.specs.Patterns.{Follows, Each, Sometimes, CanEnd}
 use Rattle.nm_part.proofs.Patterns.{can-ends, can-follow, can-sometimes}
-use Rattle.nm_pool.specs.declared.job.PoolEnd.{PoolEnd}
-use Rattle.nm_pool.specs.declared.job.PoolEnd.TheVariants as ends
+use Rattle.nm_pool.specs.declared.job.PoolEnd.TheVariants as pools
 use Rattle.nm_pool.specs.declared.job.PoolJob.{PoolJob}
 use Rattle.nm_pool.specs.declared.job.PoolJob.TheVariants.{Take}
 use Rattle.nm_pool.specs.Pool.{IsPool, IsFree, IsLeastFree, tier_for, scanned, free_bits}
 use Rattle.nm_pool.proofs.Begun.{some-pool}
 use Rattle.nm_frame_search.specs.declared.search.SearchMade.{SearchMade}
-use Rattle.nm_frame_search.specs.Searching.{low_mark, TakenOr, TakesLast, Round, Rounds, IsSearch}
+use Rattle.nm_obtain.specs.Obtains.{IsObtain}
+use Rattle.nm_obtain.proofs.Searching.{some-obtain}
+use Rattle.nm_frame_search.specs.Searching.{low_mark, taken_in, obtained_in, FoundOr, TakesLast, SeeksIn, SeeksFrom, Round, Rounds, IsSearch}
 
 -- A frame of tier 0 can be had.
 
@@ -46,7 +48,7 @@ unfolding one-free
 one-more g = omega arith
 
 -- the last frames of tier 0 can be taken
-pub can-take : (g : Geometry) → IsGeometry g → IsPool g (Take 0 0) ((TakeTurn 0, Done) ∷ (scanned 0 0 (one-free g) ++ (GiveFrame (first_frame g 0), Word 0) ∷ []) ++ (ReleaseTurn 0, Done) ∷ []) (ends.Got (first_frame g 0))
+pub can-take : (g : Geometry) → IsGeometry g → IsPool g (Take 0 0) ((TakeTurn 0, Done) ∷ (scanned 0 0 (one-free g) ++ (GiveFrame (first_frame g 0), Word 0) ∷ []) ++ (ReleaseTurn 0, Done) ∷ []) (pools.Got (first_frame g 0))
 can-take g fine = record {
   busy = [];
   inner = scanned 0 0 (one-free g) ++ (GiveFrame (first_frame g 0), Word 0) ∷ [];
@@ -56,24 +58,46 @@ can-take g fine = record {
 
 pub can-last : (g : Geometry) (again : Own → ℕ → Type 0) → IsGeometry g → CanEnd (TakesLast g again)
 can-last g again fine =
-    can-follow (IsPool g (Take 0 0)) (λ end. TakenOr end again)
-    (record { rest = (TakeTurn 0, Done) ∷ (scanned 0 0 (one-free g) ++ (GiveFrame (first_frame g 0), Word 0) ∷ []) ++ (ReleaseTurn 0, Done) ∷ []; outcome = ends.Got (first_frame g 0); shown = can-take g fine })
+    can-follow (IsPool g (Take 0 0)) (λ end. FoundOr again (taken_in end))
+    (record { rest = (TakeTurn 0, Done) ∷ (scanned 0 0 (one-free g) ++ (GiveFrame (first_frame g 0), Word 0) ∷ []) ++ (ReleaseTurn 0, Done) ∷ []; outcome = pools.Got (first_frame g 0); shown = can-take g fine })
     (can-ends (first_frame g 0))
 
-pub can-taken : (end : PoolEnd) (next : Own → ℕ → Type 0) → CanEnd next → CanEnd (TakenOr end next)
-can-taken (ends.Got frame) next can = can-ends frame
-can-taken (ends.AtFloor n) next can = can
-can-taken (ends.Level n) next can = can
-can-taken ends.Back next can = can
+pub can-found : (next : Own → ℕ → Type 0) (found : Option ℕ) → CanEnd next → CanEnd (FoundOr next found)
+can-found next (Some frame) can = can-ends frame
+can-found next None can = can
+
+-- What comes before it.
 
 -- a pool task has a list
 can-pool : (g : Geometry) (job : PoolJob) → tier_for g job < length g.tiers → CanEnd (IsPool g job)
 can-pool g job exists = let some = some-pool g job exists in record { rest = some.rest; outcome = some.outcome; shown = some.whole }
 
+-- the tiers of a list are there
+abbrev AreTiersOf : Geometry → List ℕ → Type 0
+AreTiersOf g tiers = All (IsTier g) tiers
+
+can-seeks : (made : SearchMade) (g : Geometry) (tiers : List ℕ) (again : Own → ℕ → Type 0) → IsGeometry g → AreTiersOf g tiers → CanEnd (Each (SeeksIn made g) tiers tt (λ kept. TakesLast g again))
+can-seeks made g [] again fine are = can-last g again fine
+can-seeks made g (tier ∷ tiers) again fine are =
+    let some : CanEnd (IsObtain (record { page = made.page; tier = tier }) g) = some-obtain (record { page = made.page; tier = tier }) g are.0 in
+    can-follow (IsObtain (record { page = made.page; tier = tier }) g) (λ end. FoundOr (Each (SeeksIn made g) tiers tt (λ kept. TakesLast g again)) (obtained_in end)) some
+    (can-found (Each (SeeksIn made g) tiers tt (λ kept. TakesLast g again)) (obtained_in some.outcome) (can-seeks made g tiers again fine are.1))
+
+range-tiers : (g : Geometry) (tier count : ℕ) → tier + count ≤ length g.tiers → AreTiersOf g (range_with_len tier count)
+range-tiers g tier zero le = tt
+range-tiers g tier (suc count) le = (omega (arith, le), range-tiers g (tier + 1) count (omega (arith, le)))
+
+any-tiers : (g : Geometry) (tier : ℕ) (some : Bool) → nat_le tier (length g.tiers) ≡ some → AreTiersOf g (range_with_len tier (length g.tiers - tier))
+any-tiers g tier true is = range-tiers g tier (length g.tiers - tier) (grind (arith, is))
+any-tiers g tier false is = let none : length g.tiers - tier ≡ 0 = grind (arith, is) in rw none tt
+
+pub can-from : (made : SearchMade) (g : Geometry) (tier : ℕ) (again : Own → ℕ → Type 0) → IsGeometry g → CanEnd (SeeksFrom made g tier again)
+can-from made g tier again fine = can-seeks made g (range_with_len tier (length g.tiers - tier)) again fine (any-tiers g tier (nat_le tier (length g.tiers)) refl)
+
 pub can-round : (made : SearchMade) (g : Geometry) (again : Own → ℕ → Type 0) → IsGeometry g → CanEnd (Round made g again)
 can-round made g again fine =
     let some : CanEnd (IsPool g (Take 0 (low_mark g))) = can-pool g (Take 0 (low_mark g)) (omega (arith, fine.ranges.1.0)) in
-    can-follow (IsPool g (Take 0 (low_mark g))) (λ end. TakenOr end (TakesLast g again)) some (can-taken some.outcome (TakesLast g again) (can-last g again fine))
+    can-follow (IsPool g (Take 0 (low_mark g))) (λ end. FoundOr (SeeksFrom made g 1 again) (taken_in end)) some (can-found (SeeksFrom made g 1 again) (taken_in some.outcome) (can-from made g 1 again fine))
 
 pub can-rounds : (made : SearchMade) (g : Geometry) (n : ℕ) → IsGeometry g → CanEnd (Rounds made g (suc n))
 can-rounds made g n fine = can-round made g (Rounds made g n) fine

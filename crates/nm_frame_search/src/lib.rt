@@ -3,4 +3,4 @@
 
 pub mod search;
 
-pub use search::{FrameSearch, SearchMade, SearchPiece};
+pub use search::{FrameSearch, SearchMade, SearchPiece, SearchPieceEnd};

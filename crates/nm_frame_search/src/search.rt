@@ -1,11 +1,13 @@
 //! The plan of the search for a frame.
 
-ghost use Rattle.std.specs.Prelude.{◌≡◌, ◌<◌, length};
+ghost use Rattle.std.specs.Prelude.{◌≡◌, ◌+◌, ◌^◌, ◌<◌, length};
 ghost use Rattle.nm_frame_search.specs.declared.search.SearchStage.TheVariants.{New};
-ghost use Rattle.nm_frame_search.specs.Stages.{search_piece_made, search_piece_of, IsNewSearchPiece};
+ghost use Rattle.nm_frame_search.specs.Searching.{found_in};
+ghost use Rattle.nm_frame_search.specs.Stages.{search_piece_made, search_piece_of, IsNewSearchPiece, HasTier, stage_from};
 
 use nm_base::Geometry;
-use nm_compose::{Next, Plan};
+use nm_compose::{Composite, Next, Or, Plan};
+use nm_obtain::{Obtain, ObtainPiece, Obtained};
 use nm_policy::Watermarks;
 use nm_pool::{PoolEnd, PoolTask};
 
@@ -23,12 +25,17 @@ pub(crate) enum SearchStage {
     New,
     /// A frame of tier 0 is taken above its watermark `low`.
     TakingAboveLow,
+    /// A frame of this slower tier is sought.
+    Obtaining(u32),
     /// A frame of tier 0 is taken, down to the last one.
     TakingLast,
 }
 
-/// A piece of a search.
-pub type SearchPiece = PoolTask;
+/// A piece of a search: a task on the free frames, or a frame of a tier is sought.
+pub type SearchPiece<'a> = Or<PoolTask, Composite<Obtain<'a>, ObtainPiece<'a>>>;
+
+/// How a piece of a search ends.
+pub type SearchPieceEnd = Or<PoolEnd, Obtained>;
 
 /// The plan of a search.
 #[derive(Clone, Copy)]
@@ -36,6 +43,22 @@ pub struct FrameSearch<'a> {
     geometry: &'a Geometry,
     made: SearchMade,
     stage: SearchStage,
+}
+
+/// The frame that a piece had, if it had one.
+fn found_in(end: SearchPieceEnd) -> Option<u32>
+    ensures { result ≡ found_in end }
+{
+    match end {
+        Or::This(end) => match end {
+            PoolEnd::Got(frame) => Some(frame),
+            PoolEnd::AtFloor(_) | PoolEnd::Level(_) | PoolEnd::Back => None,
+        },
+        Or::Other(end) => match end {
+            Obtained::Got(frame) => Some(frame),
+            Obtained::AtFloor(_) => None,
+        },
+    }
 }
 
 impl<'a> FrameSearch<'a> {
@@ -52,8 +75,20 @@ impl<'a> FrameSearch<'a> {
         }
     }
 
+    /// The stage that seeks a frame of this tier, or the last one where there is no such tier.
+    fn stage_from(&self, tier: u32) -> SearchStage
+        ensures { result ≡ stage_from self.now.geometry.now tier }
+    {
+        if (tier as usize) < self.geometry.tiers.len() {
+            SearchStage::Obtaining(tier)
+        } else {
+            SearchStage::TakingLast
+        }
+    }
+
     /// Comes to a stage, and gives its piece.
-    fn go(&mut self, stage: SearchStage) -> SearchPiece
+    fn go(&mut self, stage: SearchStage) -> SearchPiece<'a>
+        requires { HasTier self.old.geometry.now stage }
         ensures stage { self.new ≡ record self.old { stage = stage } }
         ensures made { search_piece_made result ≡ search_piece_of self.old.geometry.now self.old.made stage }
         ensures new { IsNewSearchPiece result }
@@ -62,14 +97,27 @@ impl<'a> FrameSearch<'a> {
         let g = self.geometry;
         match stage {
             SearchStage::New | SearchStage::TakingAboveLow => {
-                PoolTask::take(g, 0, Watermarks::of(g.tiers[0]).low)
+                Or::This(PoolTask::take(g, 0, Watermarks::of(g.tiers[0]).low))
             }
-            SearchStage::TakingLast => PoolTask::take(g, 0, 0),
+            SearchStage::Obtaining(tier) => {
+                Or::Other(Composite::new(Obtain::new(g, self.made.page, tier)))
+            }
+            SearchStage::TakingLast => Or::This(PoolTask::take(g, 0, 0)),
         }
+    }
+
+    /// Seeks a frame of this tier, or takes one of the last frames of tier 0 where there is no such tier.
+    fn go_from(&mut self, tier: u32) -> SearchPiece<'a>
+        ensures stage { self.new ≡ record self.old { stage = stage_from self.old.geometry.now tier } }
+        ensures made { search_piece_made result ≡ search_piece_of self.old.geometry.now self.old.made (stage_from self.old.geometry.now tier) }
+        ensures new { IsNewSearchPiece result }
+    {
+        let stage = self.stage_from(tier);
+        self.go(stage)
     }
 }
 
-impl<'a> Plan<SearchPiece> for FrameSearch<'a> {
+impl<'a> Plan<SearchPiece<'a>> for FrameSearch<'a> {
     type Outcome = u32;
 
     type Made = (Geometry, SearchMade);
@@ -97,17 +145,22 @@ impl<'a> Plan<SearchPiece> for FrameSearch<'a> {
 
     ghost ended = { λ s g frame. Unit {0} };
 
-    fn begin(&mut self) -> SearchPiece {
+    fn begin(&mut self) -> SearchPiece<'a> {
         self.go(SearchStage::TakingAboveLow)
     }
 
-    fn go_on(&mut self, _piece: &SearchPiece, end: PoolEnd) -> Next<SearchPiece, u32> {
-        if let PoolEnd::Got(frame) = end {
+    fn go_on(
+        &mut self,
+        _piece: &SearchPiece<'a>,
+        end: SearchPieceEnd,
+    ) -> Next<SearchPiece<'a>, u32> {
+        if let Some(frame) = found_in(end) {
             return Next::Over(frame);
         }
         match self.stage {
             SearchStage::New => unreachable!(),
-            SearchStage::TakingAboveLow => Next::Run(self.go(SearchStage::TakingLast)),
+            SearchStage::TakingAboveLow => Next::Run(self.go_from(1)),
+            SearchStage::Obtaining(tier) => Next::Run(self.go_from(tier + 1)),
             SearchStage::TakingLast => Next::Run(self.go(SearchStage::TakingAboveLow)),
         }
     }

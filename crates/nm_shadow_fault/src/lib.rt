@@ -7,4 +7,4 @@ pub mod shadow;
 
 pub use fault::{FaultEnd, FaultMade};
 pub use locks::Locks;
-pub use shadow::ShadowFault;
+pub use shadow::{FaultPiece, ShadowFault};

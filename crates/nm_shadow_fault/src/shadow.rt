@@ -41,7 +41,7 @@ pub(crate) enum ShadowStage {
 }
 
 /// A piece of the fault: the page is locked, a single action, or a frame is put back.
-pub(crate) type FaultPiece = Or<Locks, Or<Act, PoolTask>>;
+pub type FaultPiece = Or<Locks, Or<Act, PoolTask>>;
 
 /// The plan of the fault.
 #[derive(Clone, Copy)]

@@ -1,0 +1,8 @@
+//! Page faults as a part of an actor's work.
+#![tactic(auto)]
+
+pub mod task;
+pub mod wait;
+
+pub use nm_shadow_fault::FaultEnd;
+pub use task::FaultTask;
