@@ -2,8 +2,6 @@
 use Rattle.std.specs.Prelude.{◌≡◌, ℕ, Option, Some, None, []}
 use Rattle.nm_base.specs.Geometry.{Geometry, backing_page}
 use Rattle.nm_action.specs.declared.action.Action.{Action}
-use Rattle.nm_action.specs.declared.turn.Step.{Step}
-use Rattle.nm_action.specs.declared.turn.Step.TheVariants.{Do, Over}
 use Rattle.nm_action.specs.Own.{Own}
 use Rattle.nm_view.specs.Views.{View}
 use Rattle.nm_compose.specs.declared.or.Or.{Or}
@@ -42,10 +40,6 @@ IsFault (Other made) = IsShadowFault made.1
 abbrev pub either_end : Or FaultEnd FaultEnd → FaultEnd
 either_end (This end) = end
 either_end (Other end) = end
-
-abbrev pub either_step : Step (Or FaultEnd FaultEnd) → Step FaultEnd
-either_step (Do action) = Do action
-either_step (Over end) = Over (either_end end)
 
 -- What the fault inside tells of itself stands in for `is_new` and `awaits`; `page` is that of the fault.
 

@@ -8,7 +8,7 @@ ghost use Rattle.nm_view.specs.Views.{View};
 ghost use Rattle.nm_compose.specs.declared.or.Or.{Or};
 ghost use Rattle.nm_obtain.specs.Freed.{freed_inside};
 ghost use Rattle.nm_shadow_fault.specs.declared.fault.FaultEnd.{FaultEnd};
-ghost use Rattle.nm_fault.specs.Tasks.{fault_at, fault_in, either_end, either_step, IsNewFault, IsFaultAwaited, IsFaultEnded};
+ghost use Rattle.nm_fault.specs.Tasks.{fault_at, fault_in, either_end, IsNewFault, IsFaultAwaited, IsFaultEnded};
 ghost use Rattle.nm_fault.specs.Waits.{is_waiting};
 
 use crate::wait::waits_after;
@@ -54,16 +54,6 @@ fn either_end(end: Or<FaultEnd, FaultEnd>) -> FaultEnd
     match end {
         Or::This(end) => end,
         Or::Other(end) => end,
-    }
-}
-
-/// The step of the task, by that of the fault.
-fn either_step(step: Step<Or<FaultEnd, FaultEnd>>) -> Step<FaultEnd>
-    ensures { result ≡ either_step step }
-{
-    match step {
-        Step::Do(action) => Step::Do(action),
-        Step::Over(end) => Step::Over(either_end(end)),
     }
 }
 
@@ -162,11 +152,13 @@ impl<'a> Part for FaultTask<'a> {
     fn after(&mut self, reply: Reply) -> Step<FaultEnd> {
         self.freed.note(self.given);
         self.before = Some((self.given, reply));
-        let step = either_step(self.run.after(reply));
-        if let Step::Do(action) = step {
-            self.given = action;
+        match self.run.after(reply) {
+            Step::Do(action) => {
+                self.given = action;
+                Step::Do(action)
+            }
+            Step::Over(end) => Step::Over(either_end(end)),
         }
-        step
     }
 }
 

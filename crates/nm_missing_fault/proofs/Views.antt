@@ -117,11 +117,11 @@ zeroed-view made frame g first now later at zeroed =
     let fill : zeroed_fill g.words ≡ Zeroed g.words = all-zeroed g.words (some-words g at.may.geometry) in
     let frames : edit owned_frame frame (filled (zeroed_fill g.words)) now.owned ≡ at.before ++ record { frame = frame; fill = Zeroed g.words } ∷ [] =
     ap (λ (v : View). edit owned_frame frame (filled (zeroed_fill g.words)) v.owned) at.is
-        ∙ (edit_last owned_frame (filled (zeroed_fill g.words)) (record { frame = frame; fill = Raw }) at.before at.fresh
-        ∙ ap (λ (f : Fill). at.before ++ record { frame = frame; fill = f } ∷ []) fill) in
+    ∙ (edit_last owned_frame (filled (zeroed_fill g.words)) (record { frame = frame; fill = Raw }) at.before at.fresh
+    ∙ ap (λ (f : Fill). at.before ++ record { frame = frame; fill = f } ∷ []) fill) in
     let is : later ≡ with_scan first (fault_op made first 0 (Some 0) None) (at.before ++ record { frame = frame; fill = Zeroed g.words } ∷ []) now.scan =
     zeroed.is ∙ (ap (λ (ws : List Owned). record now { owned = ws }) frames
-        ∙ ap (λ (v : View). record v { owned = at.before ++ record { frame = frame; fill = Zeroed g.words } ∷ [] }) at.is) in
+    ∙ ap (λ (v : View). record v { owned = at.before ++ record { frame = frame; fill = Zeroed g.words } ∷ [] }) at.is) in
     record {
       may = at.may;
       before = at.before;
@@ -146,7 +146,7 @@ home-set made frame g first now later at acted =
     let gone : erase owned_frame frame frames ≡ at.before = erase_last owned_frame (record { frame = frame; fill = Zeroed g.words }) at.before at.fresh in
     let is : later ≡ with_scan first (homed_op made first 0 frame (Some 0) true) at.before now.scan =
     acted.is ∙ (ap (λ (v : View). after_of g v (SetHome made.page frame) Done) at.is
-        ∙ rw (same-number made.page, gone) refl) in
+    ∙ rw (same-number made.page, gone) refl) in
     let V : View → Type 0 = λ v. IsAtMap made frame false g first v in
     subst V (sym is) (record { may = at.may; frame_is = at.exists; shadow = 0; moved = true; known = refl; owned = at.owned; is = refl })
 
@@ -156,7 +156,7 @@ pub mapped-view : (made : FaultMade) (frame : ℕ) (shadowed : Bool) (word : ℕ
 mapped-view made frame shadowed word g first now later at acted =
     let is : later ≡ with_scan first (homed_op made first word frame (Some at.shadow) at.moved) (spoiled made.page now.owned) now.scan =
     acted.is ∙ (ap (λ (v : View). after_of g v (Map made.vpage word) Done) at.is
-        ∙ rw (at.may.mapped, same-number made.page, same-number made.vpage) refl) in
+    ∙ rw (at.may.mapped, same-number made.page, same-number made.vpage) refl) in
     let V : View → Type 0 = λ v. IsMapped made g first v in
     subst V (sym is) (record {
       may = at.may;
@@ -174,6 +174,6 @@ unlocked-end made g first now later at acted =
     let o : Op = homed_op made first at.look at.frame at.shadow at.moved in
     let is : later ≡ record first { owned = spoiled made.page now.owned; scan = now.scan } =
     acted.is ∙ (ap (λ (v : View). after_of g v (Unlock made.page) Done) at.is
-        ∙ ap (λ (ops : List Op). record first { ops = ops; owned = spoiled made.page now.owned; scan = now.scan }) (erases-it o ∙ sym at.may.ops)) in
+    ∙ ap (λ (ops : List Op). record first { ops = ops; owned = spoiled made.page now.owned; scan = now.scan }) (erases-it o ∙ sym at.may.ops)) in
     let S : View → Type 0 = λ v. IsSwept None first v in
     subst S (sym is) (record { is = refl; owned = forgets-more None made.page first.owned now.owned refl at.owned })

@@ -156,7 +156,11 @@ impl<'a> MissingFault<'a> {
                 return Or::Other(Or::Other(Or::Other(Composite::new(Zeroes::new(g, frame)))))
             }
             MissingStage::SettingHome(frame) => Action::SetHome { page, frame },
-            MissingStage::Mapping { frame, shadowed, .. } => Action::Map {
+            MissingStage::Mapping {
+                frame,
+                shadowed,
+                ..
+            } => Action::Map {
                 vpage,
                 word: missing_word(g, vpage, frame, shadowed),
             },
