@@ -1,3 +1,2 @@
-pub mod Forgets
 pub mod Searched
 pub mod Steps

@@ -39,7 +39,7 @@ use Rattle.nm_frame_search.specs.declared.search.SearchStage.TheVariants.{New, T
 use Rattle.nm_frame_search.specs.Searching.{low_mark, taken_in, obtained_in, found_in, FoundOr, TakesLast, SeeksFrom, Round, Rounds, IsSearch}
 use Rattle.nm_frame_search.specs.Found.{MaySearch, IsFound}
 use Rattle.nm_frame_search.specs.Stages.{SearchPieceMade, SearchPieceEnd, MaySearchPiece, IsSearchPiece, LeavesSearchPiece, HasTier, stage_from, search_piece_of, search_left_in, search_left, IsWithout, KnownInSearch}
-use Rattle.nm_frame_search.proofs.Forgets.{forgets-after, swept-after}
+use Rattle.nm_reclaim.proofs.Forgetting.{forgets-after, swept-after}
 use Rattle.nm_frame_search.proofs.Searched.{can-found, can-from, can-rounds, tries-after, tries-more, tries-as}
 
 -- Views.

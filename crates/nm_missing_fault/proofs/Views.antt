@@ -1,12 +1,12 @@
 -- The views along the fault on a virtual page that is not mapped.
-use Rattle.std.proofs.Common.{◌≡◌, ◌≢◌, ℕ, zero, suc, ◌-◌, ◌<◌, ◌≤◌, ◌==◌, ◌⊎◌, inl, inr, not, Bool, true, false, List, [], ◌∷◌, ◌++◌, Option, Some, None, option_map, refl, sym, ap, ◌∙◌, subst, arith}
+use Rattle.std.proofs.Common.{◌≡◌, ◌≢◌, ℕ, zero, suc, ◌-◌, ◌<◌, ◌≤◌, ◌==◌, not, Bool, true, false, List, [], ◌∷◌, ◌++◌, Option, Some, None, option_map, refl, sym, ap, ◌∙◌, subst, arith}
 use Rattle.nm_base.specs.Geometry.{Geometry, frame_count}
 use Rattle.nm_base.specs.HomeWord.{home_word}
 use Rattle.nm_action.specs.declared.action.Action.TheVariants.{Unlock, Look, Read, Map, SetHome}
 use Rattle.nm_action.specs.declared.action.Cell.TheVariants.{Home, Shadow}
 use Rattle.nm_action.specs.declared.action.Reply.TheVariants.{Done, Word}
 use Rattle.nm_view.specs.declared.view.Fill.{Fill}
-use Rattle.nm_view.specs.declared.view.Fill.TheVariants.{Raw, Zeroed, Copied, Equal}
+use Rattle.nm_view.specs.declared.view.Fill.TheVariants.{Raw, Zeroed}
 use Rattle.nm_view.specs.declared.view.Owned.{Owned}
 use Rattle.nm_view.specs.declared.view.Scanned.{Scanned}
 use Rattle.nm_view.specs.Lists.{find, edit, erase}
@@ -19,8 +19,9 @@ use Rattle.nm_event.specs.Fitting.{IsHomeRead}
 use Rattle.nm_compose.specs.Acts.{IsActed}
 use Rattle.nm_copying.specs.Zeroing.{zeroed_fill, IsZeroed}
 use Rattle.nm_copying.proofs.Copied.{some-words}
-use Rattle.nm_reclaim.specs.Swept.{IsOfOther, IsForgotten, IsSwept}
+use Rattle.nm_reclaim.specs.Swept.{IsForgotten, IsSwept}
 use Rattle.nm_reclaim.proofs.Lasts.{edit_last, erase_last}
+use Rattle.nm_reclaim.proofs.Forgetting.{forgets-all}
 use Rattle.nm_reclaim.proofs.Views.{forgets-none, forgets-more}
 use Rattle.nm_frame_search.specs.Found.{IsFound}
 use Rattle.nm_shadow_fault.specs.declared.fault.FaultMade.{FaultMade}
@@ -28,21 +29,6 @@ use Rattle.nm_shadow_fault.specs.Locking.{LeavesLocked}
 use Rattle.nm_shadow_fault.specs.Granting.{FaultsMade, fault_made, MayFault, fault_op, with_op, IsAtLock, IsAtLook}
 use Rattle.nm_shadow_fault.proofs.Granting.{same-number, erases-it, told-there, looked-view, read-view, read-shadow}
 use Rattle.nm_missing_fault.specs.Stages.{IsMissing, IsAtShadowOf, with_scan, IsWithFrame, homed_op, IsAtMap, IsMapped}
-
--- What is known of frames by pages: where a page is passed over, less is forgotten.
-
-any-page : (page : ℕ) (fill : Fill) → IsOfOther (Some page) fill → IsOfOther None fill
-any-page page Raw h = absurd h
-any-page page (Zeroed n) h = absurd h
-any-page page (Copied b n) h = λ e. cc e
-any-page page (Equal b) h = λ e. cc e
-
-any-change : (page : ℕ) (change : Fill → Fill) (fill : Fill) → (change fill ≡ fill) ⊎ ((change fill ≡ Raw) × IsOfOther (Some page) fill) → (change fill ≡ fill) ⊎ ((change fill ≡ Raw) × IsOfOther None fill)
-any-change page change fill (inl same) = inl same
-any-change page change fill (inr lost) = inr (lost.0, any-page page fill lost.1)
-
-pub forgets-any : (page : ℕ) (first now : List Owned) → IsForgotten (Some page) first now → IsForgotten None first now
-forgets-any page first now h = record { change = h.change; may = record { each = λ fill. any-change page h.change fill (h.may.each fill) }; is = h.is }
 
 -- Steps.
 
@@ -101,7 +87,7 @@ found-view made frame g first now later at found =
     record {
       may = at.may;
       before = found.before;
-      owned = forgets-any made.page first.owned found.before (subst (λ (ws : List Owned). IsForgotten (Some made.page) ws found.before) frames found.owned);
+      owned = forgets-all (Some made.page) first.owned found.before (subst (λ (ws : List Owned). IsForgotten (Some made.page) ws found.before) frames found.owned);
       exists = found.exists;
       fresh = found.fresh;
       is = found.is ∙ ap (λ (v : View). record v { owned = found.before ++ record { frame = frame; fill = Raw } ∷ []; scan = later.scan }) at.is;

@@ -4,7 +4,7 @@ ghost use Rattle.std.specs.Prelude.{◌≡◌, ◌-◌, ◌^◌, [], ◌∷◌, 
 ghost use Rattle.nm_action.specs.Own.{Own};
 ghost use Rattle.nm_action.specs.declared.action.Reply.{Reply};
 ghost use Rattle.nm_obtain.specs.Freed.{unlocks, is_put, is_release, freed_inside};
-ghost use Rattle.nm_obtain.specs.FreedCounts.{HasCounted};
+ghost use Rattle.nm_obtain.specs.FreedCounts.{freed_with, HasCounted};
 
 use nm_event::Action;
 
@@ -37,12 +37,21 @@ impl FreedCount {
         ensures page { self.new.page ≡ self.old.page }
         ensures counted { (own : Own) (reply : Reply) → HasCounted self.old own → HasCounted self.new (own ++ (action, reply) ∷ []) }
     {
-        if self.open && self.putting && is_release(action) {
-            self.freed = self.freed.saturating_add(1);
-        }
+        let unlocked = unlocks(self.page, action);
+        let freed = self.freed_with(action);
+        self.open = self.open && !unlocked;
         self.putting = is_put(action);
-        if unlocks(self.page, action) {
-            self.open = false;
+        self.freed = freed;
+    }
+
+    /// The count with this action.
+    fn freed_with(&self, action: Action) -> u64
+        ensures { result ≡ freed_with self.now action }
+    {
+        if self.open && self.putting && is_release(action) {
+            self.freed.saturating_add(1)
+        } else {
+            self.freed
         }
     }
 

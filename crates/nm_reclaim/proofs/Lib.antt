@@ -4,3 +4,4 @@ pub mod Ending
 pub mod Views
 pub mod Sweeping
 pub mod Tasks
+pub mod Forgetting
