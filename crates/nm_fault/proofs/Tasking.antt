@@ -8,7 +8,7 @@ use Rattle.nm_action.specs.declared.turn.Step.TheVariants.{Do, Over}
 use Rattle.nm_action.specs.Own.{Own}
 use Rattle.nm_view.specs.Views.{View}
 use Rattle.nm_event.specs.After.{view_after}
-use Rattle.nm_part.specs.Parts.{IsBegunWith, IsAsked, IsEnded, IsPartStep}
+use Rattle.nm_part.specs.Parts.{HasBegin, IsHeard, IsAsked, IsEnded, IsPartStep}
 use Rattle.nm_compose.specs.declared.or.Or.{Or}
 use Rattle.nm_compose.specs.declared.or.Or.TheVariants.{This, Other}
 use Rattle.nm_compose.specs.Choices.{MayBeginOr, IsOr, LeavesOr}
@@ -80,6 +80,27 @@ task-asked awaits made page t g view own action given keeps h = record {
     begun = record { rest = h.begun.begun.rest; outcome = either_end h.begun.begun.outcome; whole = either-shown made g _ h.begun.begun.outcome h.begun.begun.whole };
   };
 }
+
+-- after one event more
+pub keeps-more : (awaits : Geometry → View → Own → Action → Type 0) (page now : ℕ) (old new : FaultTask) (g : Geometry) (view : View) (own : Own) (action : Action) (reply : Reply)
+    → IsFaultAwaited awaits page old g view own action → page ≡ now → new.before ≡ Some (old.given, reply) → new.freed.page ≡ old.freed.page
+    → ((own : Own) (reply : Reply) → HasCounted old.freed own → HasCounted new.freed (own ++ (old.given, reply) ∷ []))
+    → IsKeeping now new (own ++ (action, reply) ∷ [])
+keeps-more awaits page now old new g view own action reply h same before kept noted =
+    let A : Action → Type 0 = λ a. HasCounted new.freed (own ++ (a, reply) ∷ []) in
+    record {
+      before = before ∙ (ap (λ (a : Action). Some (a, reply)) h.given ∙ sym (last-push own (action, reply)));
+      page_is = kept ∙ (h.page_is ∙ same);
+      counted = subst A h.given (noted own reply h.counted);
+    }
+
+-- the fault may begin, and hears the reply
+
+pub begin-inside : (made : FaultBegun) → HasBegin (λ g view. MayFault (fault_in made) g view) → HasBegin (MayBeginOr MayFault MayFault made)
+begin-inside made h = record { geometry = h.geometry; view = h.view; allowed = either-may made h.geometry h.view h.allowed }
+
+pub heard-inside : (awaits : Geometry → View → Own → Action → Type 0) (page : ℕ) (t : FaultTask) (reply : Reply) → IsHeard (IsFaultAwaited awaits page t) reply → IsHeard awaits reply
+heard-inside awaits page t reply h = record { geometry = h.geometry; view = h.view; own = h.own; action = h.action; awaited = h.awaited.awaited; fits = h.fits }
 
 -- the first action
 pub task-first : (awaits : Geometry → View → Own → Action → Type 0) (made : FaultBegun) (page : ℕ) (t : FaultTask) (g : Geometry) (view : View) (action : Action)

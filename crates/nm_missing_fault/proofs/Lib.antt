@@ -1,3 +1,5 @@
+pub mod Searched
+pub mod SearchSteps
 pub mod Views
 pub mod Written
 pub mod Runs

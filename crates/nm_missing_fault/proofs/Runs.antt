@@ -29,10 +29,10 @@ use Rattle.nm_copying.proofs.Zeroed.{some-zeroes}
 use Rattle.nm_prepare.specs.Placing.{IsPlanPlaced, RunsPlaced}
 use Rattle.nm_prepare.proofs.Placed.{at-placed, run-placed}
 use Rattle.nm_reclaim.specs.Reclaims.{word_in}
-use Rattle.nm_frame_search.specs.declared.search.SearchMade.{SearchMade}
-use Rattle.nm_frame_search.specs.Searching.{IsSearch}
-use Rattle.nm_frame_search.specs.Found.{MaySearch}
-use Rattle.nm_frame_search.proofs.Searched.{some-search}
+use Rattle.nm_missing_fault.specs.declared.search.SearchMade.{SearchMade}
+use Rattle.nm_missing_fault.specs.Searching.{IsSearch}
+use Rattle.nm_missing_fault.specs.Found.{MaySearch}
+use Rattle.nm_missing_fault.proofs.Searched.{some-search}
 use Rattle.nm_shadow_fault.specs.declared.fault.FaultEnd.{FaultEnd}
 use Rattle.nm_shadow_fault.specs.declared.fault.FaultEnd.TheVariants.{Demand, Alias, Ready}
 use Rattle.nm_shadow_fault.specs.declared.fault.FaultMade.{FaultMade}

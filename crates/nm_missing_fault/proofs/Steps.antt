@@ -1,31 +1,35 @@
 -- The steps of the fault on a virtual page that is not mapped, each at its stage, whatever its piece ends with.
-use Rattle.std.proofs.Common.{◌≡◌, ◌≢◌, ℕ, ◌-◌, ◌==◌, not, Bool, false, None, refl}
+use Rattle.std.proofs.Common.{◌≡◌, ◌≢◌, ℕ, ◌-◌, ◌==◌, not, Bool, false, None, refl, sym, subst}
 use Rattle.nm_base.specs.Geometry.{Geometry}
+use Rattle.nm_base.specs.Ranges.{IsFrame}
 use Rattle.nm_action.specs.declared.action.Action.{Action}
 use Rattle.nm_action.specs.declared.action.Action.TheVariants.{Unlock, Look, Read, Map, SetHome}
 use Rattle.nm_action.specs.declared.action.Cell.TheVariants.{Home, Shadow}
 use Rattle.nm_action.specs.declared.action.Reply.{Reply}
 use Rattle.nm_action.specs.declared.action.Reply.TheVariants.{Done, Word, Busy, Lost}
+use Rattle.nm_view.specs.declared.view.Fill.TheVariants.{Zeroed}
 use Rattle.nm_view.specs.Views.{View}
 use Rattle.nm_part.proofs.Patterns.{ends-now}
 use Rattle.nm_compose.specs.declared.or.Or.TheVariants.{This, Other}
 use Rattle.nm_compose.specs.Acts.{IsActed}
 use Rattle.nm_copying.specs.declared.zeroes.ZeroesMade.{ZeroesMade}
 use Rattle.nm_copying.specs.Zeroing.{IsZeroed}
-use Rattle.nm_frame_search.specs.declared.search.SearchMade.{SearchMade}
-use Rattle.nm_frame_search.specs.Found.{IsFound}
+use Rattle.nm_missing_fault.specs.declared.search.SearchMade.{SearchMade}
+use Rattle.nm_missing_fault.specs.Found.{IsFound}
 use Rattle.nm_shadow_fault.specs.declared.fault.FaultEnd.{FaultEnd}
 use Rattle.nm_shadow_fault.specs.declared.fault.FaultEnd.TheVariants.{Demand, Alias, Ready}
 use Rattle.nm_shadow_fault.specs.declared.fault.FaultMade.{FaultMade}
 use Rattle.nm_shadow_fault.specs.Locking.{LeavesLocked}
-use Rattle.nm_shadow_fault.specs.Granting.{fault_made}
+use Rattle.nm_shadow_fault.specs.Granting.{fault_made, MayFault}
 use Rattle.nm_shadow_fault.proofs.Granting.{looked-view, left-ready}
+use Rattle.nm_missing_fault.specs.declared.missing.MissingFault.{MissingFault}
+use Rattle.nm_missing_fault.specs.declared.missing.MissingStage.{MissingStage}
 use Rattle.nm_missing_fault.specs.declared.missing.MissingStage.TheVariants.{Locking, Looking, Leaving, ReadingHome, ReadingShadow, Searching, Zeroing, SettingHome, Mapping, Unlocking}
 use Rattle.nm_missing_fault.specs.MissingFault.{missing_word}
-use Rattle.nm_missing_fault.specs.Pieces.{MissingPieceEnd, LeavesMissingPiece, missing_told, missing_found}
-use Rattle.nm_missing_fault.specs.Stages.{missing_piece_of, missing_left, KnownInMissing}
+use Rattle.nm_missing_fault.specs.Pieces.{MissingPieceMade, MissingPieceEnd, LeavesMissingPiece, missing_told, missing_found}
+use Rattle.nm_missing_fault.specs.Stages.{missing_piece_of, missing_left, IsAtShadowOf, IsWithFrame, KnownInMissing}
 use Rattle.nm_missing_fault.proofs.Views.{locked-view, looked-none, home-none, home-some, shadow-told, found-view, zeroed-view, home-set, mapped-view, unlocked-end}
-use Rattle.nm_missing_fault.proofs.Runs.{RunsMissing, IsMissingOver, runs-look, runs-leave, runs-home, runs-shadow, runs-search, runs-zeroes, runs-set, runs-map, runs-unlock}
+use Rattle.nm_missing_fault.proofs.Runs.{RunsMissing, AtMissing, IsMissingOver, runs-look, runs-leave, runs-home, runs-shadow, runs-search, runs-zeroes, runs-set, runs-map, runs-unlock}
 
 -- after each sort of piece
 
@@ -167,3 +171,23 @@ pub after-unlock : (made : FaultMade) (g : Geometry) (first now later : View) (o
 after-unlock made g first now later outcome end k a =
     by-act (Unlock made.page) g now later (λ e. IsMissingOver (missing_left made (Unlocking outcome) g e) g first later outcome) end a
     (λ reply l. record { shown = ends-now outcome; left = unlocked-end made g first now later k (unlock-done g now later made.page reply l); over = tt })
+
+-- The frames to which stages map are there.
+
+pub shadow-frame : (old : MissingFault) (home : ℕ) (g : Geometry) (first now : View) (runs : MissingPieceMade) → old.stage ≡ ReadingShadow home → AtMissing old g first now runs → IsFrame old.geometry.now home
+shadow-frame old home g first now runs at placed =
+    let K : MissingStage → Type 0 = λ s. KnownInMissing old.made s g first now in
+    let G : Geometry → Type 0 = λ h. IsFrame h home in
+    let k : IsAtShadowOf old.made home g first now = subst K at placed.holds in
+    subst G (sym placed.geometry) k.frame
+
+pub set-frame : (old : MissingFault) (frame : ℕ) (g : Geometry) (first now : View) (runs : MissingPieceMade) → old.stage ≡ SettingHome frame → AtMissing old g first now runs → IsFrame old.geometry.now frame
+set-frame old frame g first now runs at placed =
+    let K : MissingStage → Type 0 = λ s. KnownInMissing old.made s g first now in
+    let G : Geometry → Type 0 = λ h. IsFrame h frame in
+    let k : IsWithFrame old.made frame (Zeroed g.words) g first now = subst K at placed.holds in
+    subst G (sym placed.geometry) k.exists
+
+-- the plan was made for the geometry in which it begins
+pub missing-here : (mine : Geometry) (made : FaultMade) (g : Geometry) (view : View) → MayFault (fault_made mine made) g view → MayFault (fault_made g made) g view
+missing-here mine made g view h = record { same = refl; geometry = h.geometry; vpage = h.vpage; mapped = h.mapped; page = h.page; ops = h.ops; turn = h.turn }

@@ -23,7 +23,7 @@ use Rattle.nm_reclaim.specs.Swept.{IsForgotten, IsSwept}
 use Rattle.nm_reclaim.proofs.Lasts.{edit_last, erase_last}
 use Rattle.nm_reclaim.proofs.Forgetting.{forgets-all}
 use Rattle.nm_reclaim.proofs.Views.{forgets-none, forgets-more}
-use Rattle.nm_frame_search.specs.Found.{IsFound}
+use Rattle.nm_missing_fault.specs.Found.{IsFound}
 use Rattle.nm_shadow_fault.specs.declared.fault.FaultMade.{FaultMade}
 use Rattle.nm_shadow_fault.specs.Locking.{LeavesLocked}
 use Rattle.nm_shadow_fault.specs.Granting.{FaultsMade, fault_made, MayFault, fault_op, with_op, IsAtLock, IsAtLook}

@@ -11,7 +11,7 @@ use Rattle.nm_part.specs.Patterns.{Ends, Follows, Either}
 use Rattle.nm_compose.specs.Acts.{IsAct}
 use Rattle.nm_copying.specs.Zeroing.{IsZeroing}
 use Rattle.nm_reclaim.specs.Reclaims.{word_in}
-use Rattle.nm_frame_search.specs.Searching.{IsSearch}
+use Rattle.nm_missing_fault.specs.Searching.{IsSearch}
 use Rattle.nm_shadow_fault.specs.declared.fault.FaultEnd.{FaultEnd}
 use Rattle.nm_shadow_fault.specs.declared.fault.FaultEnd.TheVariants.{Demand, Alias, Ready}
 use Rattle.nm_shadow_fault.specs.declared.fault.FaultMade.{FaultMade}

@@ -19,11 +19,11 @@ use Rattle.nm_copying.specs.declared.zeroes.Zeroes.{Zeroes}
 use Rattle.nm_copying.specs.declared.zeroes.ZeroesMade.{ZeroesMade}
 use Rattle.nm_copying.specs.Zeroing.{MayZeroes, IsZeroing, IsZeroed, zeroes_left, zeroes_stages}
 use Rattle.nm_reclaim.specs.Reclaims.{word_in}
-use Rattle.nm_frame_search.specs.declared.search.FrameSearch.{FrameSearch}
-use Rattle.nm_frame_search.specs.declared.search.SearchMade.{SearchMade}
-use Rattle.nm_frame_search.specs.Searching.{IsSearch}
-use Rattle.nm_frame_search.specs.Found.{MaySearch, IsFound}
-use Rattle.nm_frame_search.specs.Stages.{SearchPiece, search_piece_made, IsNewSearchPiece, MaySearchPiece, IsSearchPiece, search_piece_of, search_left, KnownInSearch}
+use Rattle.nm_missing_fault.specs.declared.search.FrameSearch.{FrameSearch}
+use Rattle.nm_missing_fault.specs.declared.search.SearchMade.{SearchMade}
+use Rattle.nm_missing_fault.specs.Searching.{IsSearch}
+use Rattle.nm_missing_fault.specs.Found.{MaySearch, IsFound}
+use Rattle.nm_missing_fault.specs.SearchStages.{SearchPiece, search_piece_made, IsNewSearchPiece, MaySearchPiece, IsSearchPiece, search_piece_of, search_left, KnownInSearch}
 use Rattle.nm_shadow_fault.specs.declared.locks.Locks.{Locks}
 use Rattle.nm_shadow_fault.specs.Locking.{LocksPage, MayLocks, LeavesLocked}
 

@@ -7,11 +7,11 @@ ghost use Rattle.nm_missing_fault.specs.MissingFault.{missing_word};
 ghost use Rattle.nm_missing_fault.specs.Pieces.{missing_piece_made, IsNewMissingPiece, missing_told, missing_found};
 ghost use Rattle.nm_missing_fault.specs.Stages.{missing_piece_of, HasMappedFrame};
 
+use crate::search::{FrameSearch, SearchPiece};
 use nm_base::{Geometry, PageWord};
 use nm_compose::{Act, Composite, Next, Or, Plan};
 use nm_copying::Zeroes;
 use nm_event::{Action, Cell, Reply};
-use nm_frame_search::{FrameSearch, SearchPiece};
 use nm_shadow_fault::{FaultEnd, FaultMade, Locks};
 
 /// How far the fault has come.

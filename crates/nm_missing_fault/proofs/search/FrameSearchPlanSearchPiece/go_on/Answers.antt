@@ -1,8 +1,8 @@
 use Rattle.std.proofs.Common.{sym, ◌∙◌, ◌+◌, refl}
-use Rattle.nm_frame_search.specs.declared.search.SearchStage.TheVariants.{TakingAboveLow, Obtaining, TakingLast}
-use Rattle.nm_frame_search.specs.Stages.{search_piece_made, stage_from}
-use Rattle.nm_frame_search.proofs.Steps.{over-at, over-search, step-search, after-above, after-obtain, after-last}
-use Rattle.nm_frame_search.proofs.search.FrameSearchPlanSearchPiece.go_on.Goals as goal
+use Rattle.nm_missing_fault.specs.declared.search.SearchStage.TheVariants.{TakingAboveLow, Obtaining, TakingLast}
+use Rattle.nm_missing_fault.specs.SearchStages.{search_piece_made, stage_from}
+use Rattle.nm_missing_fault.proofs.SearchSteps.{over-at, over-search, step-search, after-above, after-obtain, after-last}
+use Rattle.nm_missing_fault.proofs.search.FrameSearchPlanSearchPiece.go_on.Goals as goal
 
 pub returns-in-Some-clause-next : goal.returns-in-Some-clause-next
 returns-in-Some-clause-next c = λ g first now later own known shown left over.

@@ -15,10 +15,10 @@ use Rattle.nm_pool.specs.declared.job.PoolJob.{PoolJob}
 use Rattle.nm_pool.specs.declared.job.PoolJob.TheVariants.{Take}
 use Rattle.nm_pool.specs.Pool.{IsPool, IsFree, IsLeastFree, tier_for, scanned, free_bits}
 use Rattle.nm_pool.proofs.Begun.{some-pool}
-use Rattle.nm_frame_search.specs.declared.search.SearchMade.{SearchMade}
+use Rattle.nm_missing_fault.specs.declared.search.SearchMade.{SearchMade}
 use Rattle.nm_obtain.specs.Obtains.{IsObtain}
 use Rattle.nm_obtain.proofs.Searching.{some-obtain}
-use Rattle.nm_frame_search.specs.Searching.{low_mark, taken_in, obtained_in, FoundOr, TakesLast, SeeksIn, SeeksFrom, Round, Rounds, IsSearch}
+use Rattle.nm_missing_fault.specs.Searching.{low_mark, taken_in, obtained_in, FoundOr, TakesLast, SeeksIn, SeeksFrom, Round, Rounds, IsSearch}
 
 -- A frame of tier 0 can be had.
 

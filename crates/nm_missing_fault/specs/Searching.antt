@@ -14,7 +14,7 @@ use Rattle.nm_pool.specs.Pool.{IsPool}
 use Rattle.nm_obtain.specs.declared.obtain.Obtained.{Obtained}
 use Rattle.nm_obtain.specs.declared.obtain.Obtained.TheVariants as obtained
 use Rattle.nm_obtain.specs.Obtains.{IsObtain}
-use Rattle.nm_frame_search.specs.declared.search.SearchMade.{SearchMade}
+use Rattle.nm_missing_fault.specs.declared.search.SearchMade.{SearchMade}
 
 -- the watermark `low` of tier 0
 abbrev pub low_mark : Geometry → ℕ

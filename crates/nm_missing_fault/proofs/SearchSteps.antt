@@ -1,5 +1,5 @@
 -- The steps of a search for a frame.
-use Rattle.std.proofs.Common.{◌≡◌, ℕ, suc, ◌+◌, ◌<◌, ◌≤◌, nat_lt, if◌then◌else◌, Bool, true, false, List, [], ◌∷◌, ◌++◌, length, Option, Some, None, refl, sym, ap, ◌∙◌, subst, arith}
+use Rattle.std.proofs.Common.{◌≡◌, ℕ, suc, ◌+◌, ◌^◌, ◌<◌, ◌≤◌, nat_lt, if◌then◌else◌, Bool, true, false, List, [], ◌∷◌, ◌++◌, length, Option, Some, None, refl, sym, ap, ◌∙◌, subst, arith}
 use Rattle.nm_base.specs.Geometry.{Geometry, IsGeometry}
 use Rattle.nm_base.specs.Ranges.{IsTier}
 use Rattle.nm_base.proofs.Tiers.{IsInTier-lt}
@@ -32,15 +32,15 @@ use Rattle.nm_prepare.proofs.Placed.{at-placed, run-placed}
 use Rattle.nm_reclaim.specs.Swept.{HasOnlySkipped, IsSwept}
 use Rattle.nm_reclaim.proofs.Lasts.{put_last}
 use Rattle.nm_reclaim.proofs.Views.{forgets-none}
-use Rattle.nm_frame_search.specs.declared.search.FrameSearch.{FrameSearch}
-use Rattle.nm_frame_search.specs.declared.search.SearchMade.{SearchMade}
-use Rattle.nm_frame_search.specs.declared.search.SearchStage.{SearchStage}
-use Rattle.nm_frame_search.specs.declared.search.SearchStage.TheVariants.{New, TakingAboveLow, Obtaining, TakingLast}
-use Rattle.nm_frame_search.specs.Searching.{low_mark, taken_in, obtained_in, found_in, FoundOr, TakesLast, SeeksFrom, Round, Rounds, IsSearch}
-use Rattle.nm_frame_search.specs.Found.{MaySearch, IsFound}
-use Rattle.nm_frame_search.specs.Stages.{SearchPieceMade, SearchPieceEnd, MaySearchPiece, IsSearchPiece, LeavesSearchPiece, HasTier, stage_from, search_piece_of, search_left_in, search_left, IsWithout, KnownInSearch}
+use Rattle.nm_missing_fault.specs.declared.search.FrameSearch.{FrameSearch}
+use Rattle.nm_missing_fault.specs.declared.search.SearchMade.{SearchMade}
+use Rattle.nm_missing_fault.specs.declared.search.SearchStage.{SearchStage}
+use Rattle.nm_missing_fault.specs.declared.search.SearchStage.TheVariants.{New, TakingAboveLow, Obtaining, TakingLast}
+use Rattle.nm_missing_fault.specs.Searching.{low_mark, taken_in, obtained_in, found_in, FoundOr, TakesLast, SeeksFrom, Round, Rounds, IsSearch}
+use Rattle.nm_missing_fault.specs.Found.{MaySearch, IsFound}
+use Rattle.nm_missing_fault.specs.SearchStages.{SearchPieceMade, SearchPieceEnd, MaySearchPiece, IsSearchPiece, LeavesSearchPiece, HasTier, stage_from, search_piece_of, search_left_in, search_left, IsWithout, IsSeeking, KnownInSearch}
 use Rattle.nm_reclaim.proofs.Forgetting.{forgets-after, swept-after}
-use Rattle.nm_frame_search.proofs.Searched.{can-found, can-from, can-rounds, tries-after, tries-more, tries-as}
+use Rattle.nm_missing_fault.proofs.Searched.{can-found, can-from, can-rounds, tries-after, tries-more, tries-as}
 
 -- Views.
 
@@ -294,3 +294,10 @@ pub over-search : (old : FrameSearch) (here : SearchStage) (end : SearchPieceEnd
     → IsSearchOver old.made (search_left old.made old.stage g end) g first later frame
 over-search old here end runs frame g first now later at placed left show =
     at-placed search_piece_of KnownInSearch LeavesSearchPiece (λ stage end. IsSearchOver old.made (search_left old.made stage g end) g first later frame) old.geometry.now old.made old.stage here end end g first now later runs at refl placed left show
+
+-- there are few tiers
+pub tier-few : (old : FrameSearch) (tier : ℕ) (g : Geometry) (first now : View) (runs : SearchPieceMade) → old.stage ≡ Obtaining tier → AtSearch old g first now runs → tier + 1 < 2 ^ 32
+tier-few old tier g first now runs at placed =
+    let K : SearchStage → Type 0 = λ s. KnownInSearch old.made s g first now in
+    let k : IsSeeking old.made tier g first now = subst K at placed.holds in
+    omega (arith, k.tier_is, k.without.may.geometry.ranges.1.1)

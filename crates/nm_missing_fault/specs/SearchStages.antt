@@ -25,11 +25,11 @@ use Rattle.nm_obtain.specs.declared.obtain.Obtained.{Obtained}
 use Rattle.nm_obtain.specs.Obtains.{IsObtain}
 use Rattle.nm_obtain.specs.Obtaining.{MayObtain, IsObtained}
 use Rattle.nm_obtain.specs.Searching.{ObtainPiece, obtain_parts, IsNewObtainPiece, MayObtainPiece, IsObtainPiece, IsPoolTask, obtain_made, obtain_left, obtain_stages}
-use Rattle.nm_frame_search.specs.declared.search.SearchMade.{SearchMade}
-use Rattle.nm_frame_search.specs.declared.search.SearchStage.{SearchStage}
-use Rattle.nm_frame_search.specs.declared.search.SearchStage.TheVariants.{New, TakingAboveLow, Obtaining, TakingLast}
-use Rattle.nm_frame_search.specs.Searching.{low_mark, found_in, FoundOr, TakesLast, SeeksFrom, Rounds}
-use Rattle.nm_frame_search.specs.Found.{MaySearch}
+use Rattle.nm_missing_fault.specs.declared.search.SearchMade.{SearchMade}
+use Rattle.nm_missing_fault.specs.declared.search.SearchStage.{SearchStage}
+use Rattle.nm_missing_fault.specs.declared.search.SearchStage.TheVariants.{New, TakingAboveLow, Obtaining, TakingLast}
+use Rattle.nm_missing_fault.specs.Searching.{low_mark, found_in, FoundOr, TakesLast, SeeksFrom, Rounds}
+use Rattle.nm_missing_fault.specs.Found.{MaySearch}
 
 -- Pieces: a task on the free frames, or a frame of a tier is sought.
 

@@ -8,7 +8,7 @@ use Rattle.nm_view.specs.Lists.{find}
 use Rattle.nm_view.specs.Operations.{owned_frame}
 use Rattle.nm_view.specs.Views.{View}
 use Rattle.nm_reclaim.specs.Swept.{HasOnlySkipped, IsForgotten}
-use Rattle.nm_frame_search.specs.declared.search.SearchMade.{SearchMade}
+use Rattle.nm_missing_fault.specs.declared.search.SearchMade.{SearchMade}
 
 -- it was made for this geometry, and the view holds no turn and has no operation but on the page
 pub record MaySearch (mine : Geometry) (made : SearchMade) (g : Geometry) (view : View) : Type 0 where

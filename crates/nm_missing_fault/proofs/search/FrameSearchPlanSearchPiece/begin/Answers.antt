@@ -1,8 +1,8 @@
-use Rattle.nm_frame_search.specs.declared.search.SearchStage.TheVariants.{TakingAboveLow}
-use Rattle.nm_frame_search.specs.Searching.{IsSearch}
-use Rattle.nm_frame_search.specs.Stages.{search_piece_made}
-use Rattle.nm_frame_search.proofs.Steps.{search-here, without-first, runs-above, gives-search}
-use Rattle.nm_frame_search.proofs.search.FrameSearchPlanSearchPiece.begin.Goals as goal
+use Rattle.nm_missing_fault.specs.declared.search.SearchStage.TheVariants.{TakingAboveLow}
+use Rattle.nm_missing_fault.specs.Searching.{IsSearch}
+use Rattle.nm_missing_fault.specs.SearchStages.{search_piece_made}
+use Rattle.nm_missing_fault.proofs.SearchSteps.{search-here, without-first, runs-above, gives-search}
+use Rattle.nm_missing_fault.proofs.search.FrameSearchPlanSearchPiece.begin.Goals as goal
 
 pub returns-clause-run : goal.returns-clause-run
 returns-clause-run c = λ g view may.

@@ -1,9 +1,9 @@
 //! The plan of the search for a frame.
 
 ghost use Rattle.std.specs.Prelude.{◌≡◌, ◌+◌, ◌^◌, ◌<◌, length};
-ghost use Rattle.nm_frame_search.specs.declared.search.SearchStage.TheVariants.{New};
-ghost use Rattle.nm_frame_search.specs.Searching.{found_in};
-ghost use Rattle.nm_frame_search.specs.Stages.{search_piece_made, search_piece_of, IsNewSearchPiece, HasTier, stage_from};
+ghost use Rattle.nm_missing_fault.specs.declared.search.SearchStage.TheVariants.{New};
+ghost use Rattle.nm_missing_fault.specs.Searching.{found_in};
+ghost use Rattle.nm_missing_fault.specs.SearchStages.{search_piece_made, search_piece_of, IsNewSearchPiece, HasTier, stage_from};
 
 use nm_base::Geometry;
 use nm_compose::{Composite, Next, Or, Plan};
@@ -124,10 +124,10 @@ impl<'a> Plan<SearchPiece<'a>> for FrameSearch<'a> {
 
     ghost use Rattle.std.specs.Prelude.{◌≡◌};
     ghost use Rattle.nm_prepare.specs.Placing.{IsPlanPlaced};
-    ghost use Rattle.nm_frame_search.specs.declared.search.SearchStage.TheVariants.{New};
-    ghost use Rattle.nm_frame_search.specs.Searching.{IsSearch};
-    ghost use Rattle.nm_frame_search.specs.Found.{MaySearch, IsFound};
-    ghost use Rattle.nm_frame_search.specs.Stages.{search_piece_of, search_left, KnownInSearch};
+    ghost use Rattle.nm_missing_fault.specs.declared.search.SearchStage.TheVariants.{New};
+    ghost use Rattle.nm_missing_fault.specs.Searching.{IsSearch};
+    ghost use Rattle.nm_missing_fault.specs.Found.{MaySearch, IsFound};
+    ghost use Rattle.nm_missing_fault.specs.SearchStages.{search_piece_of, search_left, KnownInSearch};
 
     ghost made = { λ s. record { 0 = s.geometry.now; 1 = s.made } };
 

@@ -1,8 +1,8 @@
 use Rattle.std.proofs.Common.{sym, subst}
-use Rattle.nm_frame_search.specs.declared.search.SearchStage.{SearchStage}
-use Rattle.nm_frame_search.specs.Stages.{HasTier}
-use Rattle.nm_frame_search.proofs.Steps.{stage-there}
-use Rattle.nm_frame_search.proofs.search.FrameSearch.go_from.Goals as goal
+use Rattle.nm_missing_fault.specs.declared.search.SearchStage.{SearchStage}
+use Rattle.nm_missing_fault.specs.SearchStages.{HasTier}
+use Rattle.nm_missing_fault.proofs.SearchSteps.{stage-there}
+use Rattle.nm_missing_fault.proofs.search.FrameSearch.go_from.Goals as goal
 
 pub go-requires : goal.go-requires
 go-requires c =
