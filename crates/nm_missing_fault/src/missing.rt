@@ -48,7 +48,7 @@ pub(crate) enum MissingStage {
 /// A piece of the fault: the page is locked, a single action, a frame is sought, or the words of a frame are set to 0.
 pub type MissingPiece<'a> = Or<
     Locks,
-    Or<Act, Or<Composite<FrameSearch<'a>, SearchPiece>, Composite<Zeroes, Act>>>,
+    Or<Act, Or<Composite<FrameSearch<'a>, SearchPiece<'a>>, Composite<Zeroes, Act>>>,
 >;
 
 /// How a piece of the fault ends.
