@@ -206,25 +206,23 @@ impl<'a> Plan<MissingPiece<'a>> for MissingFault<'a> {
         _piece: &MissingPiece<'a>,
         end: MissingPieceEnd,
     ) -> Next<MissingPiece<'a>, FaultEnd> {
+        let told = missing_told(end);
         match self.stage {
             MissingStage::New => unreachable!(),
             MissingStage::Locking => Next::Run(self.go(MissingStage::Looking)),
-            MissingStage::Looking => if missing_told(end) == 0 {
+            MissingStage::Looking => if told == 0 {
                 Next::Run(self.go(MissingStage::ReadingHome))
             } else {
                 Next::Run(self.go(MissingStage::Leaving))
             },
             MissingStage::Leaving => Next::Over(FaultEnd::Ready),
-            MissingStage::ReadingHome => {
-                let word = missing_told(end);
-                if word == 0 {
-                    Next::Run(self.go(MissingStage::Searching))
-                } else {
-                    Next::Run(self.go(MissingStage::ReadingShadow((word - 1) as u32)))
-                }
-            }
+            MissingStage::ReadingHome => if told == 0 {
+                Next::Run(self.go(MissingStage::Searching))
+            } else {
+                Next::Run(self.go(MissingStage::ReadingShadow((told - 1) as u32)))
+            },
             MissingStage::ReadingShadow(frame) => {
-                let shadowed = missing_told(end) != 0;
+                let shadowed = told != 0;
                 Next::Run(self.go(MissingStage::Mapping {
                     frame,
                     shadowed,
@@ -232,7 +230,8 @@ impl<'a> Plan<MissingPiece<'a>> for MissingFault<'a> {
                 }))
             }
             MissingStage::Searching => {
-                Next::Run(self.go(MissingStage::Zeroing(missing_found(end))))
+                let frame = missing_found(end);
+                Next::Run(self.go(MissingStage::Zeroing(frame)))
             }
             MissingStage::Zeroing(frame) => Next::Run(self.go(MissingStage::SettingHome(frame))),
             MissingStage::SettingHome(frame) => Next::Run(self.go(MissingStage::Mapping {
