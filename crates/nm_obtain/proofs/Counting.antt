@@ -93,27 +93,29 @@ open-step page own event false is locked =
 
 freed-step : (page : ℕ) (own : Own) (event : Action × Reply) (locked : Bool) → stays_locked page own ≡ locked → freed_inside page (own ++ event ∷ []) ≡ freed_inside page own + one (locked && (ends_put own && is_release event.0))
 freed-step page own event true is = open-step page own event (unlocks page event.0) refl is
-freed-step page own event false is = ap frames_back (before-cut page own (event ∷ []) is) ∙ add-last (freed_inside page own)
+freed-step page own event false is =
+    let cut : frames_back (before_unlock page (own ++ event ∷ [])) ≡ frames_back (before_unlock page own) = ap frames_back (before-cut page own (event ∷ []) is) in
+    omega (arith, cut)
 
-cap-step : (most : ℕ) (open putting release : Bool) (freed total : ℕ) → freed ≡ min total most → (if (open && putting) && release then min (freed + 1) most else freed) ≡ min (total + one (open && (putting && release))) most
+cap-step : (most : ℕ) (locked putting release : Bool) (freed total : ℕ) → freed ≡ min total most → (if (locked && putting) && release then min (freed + 1) most else freed) ≡ min (total + one (locked && (putting && release))) most
 cap-step most true true true freed total is = omega (arith, is)
 cap-step most true true false freed total is = omega (arith, is)
 cap-step most true false release freed total is = omega (arith, is)
 cap-step most false putting release freed total is = omega (arith, is)
 
 -- one action more is noted
-pub counted-push : (c new : FreedCount) (own : Own) (action : Action) (reply : Reply) → new.page ≡ c.page → new.open ≡ (c.open && not (unlocks c.page action)) → new.putting ≡ is_put action → new.freed ≡ freed_with c action
+pub counted-push : (c new : FreedCount) (own : Own) (action : Action) (reply : Reply) → new.page ≡ c.page → new.locked ≡ (c.locked && not (unlocks c.page action)) → new.putting ≡ is_put action → new.freed ≡ freed_with c action
     → HasCounted c own → HasCounted new (own ++ (action, reply) ∷ [])
-counted-push c new own action reply page open putting freed h =
-    let P : ℕ → Type 0 = λ p. new.open ≡ stays_locked p (own ++ (action, reply) ∷ []) in
+counted-push c new own action reply page locked putting freed h =
+    let P : ℕ → Type 0 = λ p. new.locked ≡ stays_locked p (own ++ (action, reply) ∷ []) in
     let F : ℕ → Type 0 = λ p. new.freed ≡ min (freed_inside p (own ++ (action, reply) ∷ [])) (2 ^ 64 - 1) in
     let total = freed-step c.page own (action, reply) (stays_locked c.page own) refl in
     record {
-      open = subst P (sym page) (open ∙ (ap (λ (b : Bool). b && not (unlocks c.page action)) h.open ∙ sym (locked-push c.page own (action, reply))));
+      locked = subst P (sym page) (locked ∙ (ap (λ (b : Bool). b && not (unlocks c.page action)) h.locked ∙ sym (locked-push c.page own (action, reply))));
       putting = putting ∙ sym (put-push own (action, reply));
       freed = subst F (sym page) (freed
-          ∙ (cap-step (2 ^ 64 - 1) c.open c.putting (is_release action) c.freed (freed_inside c.page own) h.freed
-          ∙ (ap (λ (b : Bool). min (freed_inside c.page own + one (b && (c.putting && is_release action))) (2 ^ 64 - 1)) h.open
+          ∙ (cap-step (2 ^ 64 - 1) c.locked c.putting (is_release action) c.freed (freed_inside c.page own) h.freed
+          ∙ (ap (λ (b : Bool). min (freed_inside c.page own + one (b && (c.putting && is_release action))) (2 ^ 64 - 1)) h.locked
           ∙ (ap (λ (b : Bool). min (freed_inside c.page own + one (stays_locked c.page own && (b && is_release action))) (2 ^ 64 - 1)) h.putting
           ∙ ap (λ (n : ℕ). min n (2 ^ 64 - 1)) (sym total)))));
     }

@@ -18,10 +18,10 @@ ends_put (event ∷ (next ∷ own)) = ends_put (next ∷ own)
 
 -- the count with one action more; one that has reached 2^64 - 1 stays there
 abbrev pub freed_with : FreedCount → Action → ℕ
-freed_with c action = if (c.open && c.putting) && is_release action then min (c.freed + 1) (2 ^ 64 - 1) else c.freed
+freed_with c action = if (c.locked && c.putting) && is_release action then min (c.freed + 1) (2 ^ 64 - 1) else c.freed
 
 -- the actions of this list were noted, and no others
 pub record HasCounted (c : FreedCount) (own : Own) : Type 0 where
-  pub open : c.open ≡ stays_locked c.page own
+  pub locked : c.locked ≡ stays_locked c.page own
   pub putting : c.putting ≡ ends_put own
   pub freed : c.freed ≡ min (freed_inside c.page own) (2 ^ 64 - 1)

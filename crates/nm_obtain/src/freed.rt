@@ -1,6 +1,6 @@
 //! How many shadows were reclaimed inside an operation on a page.
 
-ghost use Rattle.std.specs.Prelude.{◌≡◌, ◌-◌, ◌^◌, [], ◌∷◌, ◌++◌, min};
+ghost use Rattle.std.specs.Prelude.{◌≡◌, ◌-◌, ◌^◌, ◌&&◌, not, [], ◌∷◌, ◌++◌, min};
 ghost use Rattle.nm_action.specs.Own.{Own};
 ghost use Rattle.nm_action.specs.declared.action.Reply.{Reply};
 ghost use Rattle.nm_obtain.specs.Freed.{unlocks, is_put, is_release, freed_inside};
@@ -13,7 +13,7 @@ use nm_event::Action;
 #[derive(Clone, Copy, Debug, PartialEq, Eq)]
 pub struct FreedCount {
     page: u32,
-    open: bool,
+    locked: bool,
     putting: bool,
     freed: u64,
 }
@@ -26,7 +26,7 @@ impl FreedCount {
     {
         FreedCount {
             page,
-            open: true,
+            locked: true,
             putting: false,
             freed: 0,
         }
@@ -39,7 +39,7 @@ impl FreedCount {
     {
         let unlocked = unlocks(self.page, action);
         let freed = self.freed_with(action);
-        self.open = self.open && !unlocked;
+        self.locked = stays_locked(self.locked, unlocked);
         self.putting = is_put(action);
         self.freed = freed;
     }
@@ -48,7 +48,7 @@ impl FreedCount {
     fn freed_with(&self, action: Action) -> u64
         ensures { result ≡ freed_with self.now action }
     {
-        if self.open && self.putting && is_release(action) {
+        if self.locked && self.putting && is_release(action) {
             self.freed.saturating_add(1)
         } else {
             self.freed
@@ -61,6 +61,13 @@ impl FreedCount {
     {
         self.freed
     }
+}
+
+/// Whether a page stays locked, by whether an action unlocks it.
+fn stays_locked(locked: bool, unlocked: bool) -> bool
+    ensures { result ≡ (locked && not unlocked) }
+{
+    locked && !unlocked
 }
 
 /// Whether an action puts a frame back.
