@@ -1,5 +1,6 @@
 -- The pieces of the fault on a virtual page that is not mapped, each at its stage.
 use Rattle.std.proofs.Common.{◌≡◌, ◌≢◌, ℕ, ◌-◌, ◌≤◌, ◌==◌, not, Bool, true, false, List, [], ◌∷◌, ◌++◌, Option, Some, None, IsSomeAnd, refl, sym, ap, ◌∙◌, subst, inl, arith}
+use Rattle.std.proofs.lemmas.List.Elements.{All-nil, All-cons}
 use Rattle.nm_base.specs.Geometry.{Geometry, IsGeometry}
 use Rattle.nm_base.specs.HomeWord.{home_word}
 use Rattle.nm_action.specs.declared.action.Action.{Action}
@@ -197,7 +198,7 @@ pub runs-search : (made : FaultMade) (word : ℕ) (g : Geometry) (first now : Vi
 runs-search made word g first now none at =
     let V : View → Type 0 = λ v. MaySearch g (record { page = made.page }) g v in
     record {
-      begin = subst V (sym at.is) (record { same = refl; geometry = at.may.geometry; ops = record { few = omega arith; named = (refl, tt) }; turn = at.may.turn });
+      begin = subst V (sym at.is) (record { same = refl; geometry = at.may.geometry; ops = record { few = omega arith; named = All-cons (λ (o : Op). Some made.page ≡ Some o.page) (fault_op made first 0 (Some 0) None) [] refl (All-nil (λ (o : Op). Some made.page ≡ Some o.page)) }; turn = at.may.turn });
       known = record { geometry = refl; is = refl; holds = at };
       can = λ own end shown. can-zeroes g made (missing_found end);
       fits = λ own outcome f. rw (none-test word none)

@@ -1,7 +1,10 @@
 -- Searches have finished lists.
-use Rattle.std.proofs.Common.{◌≡◌, ℕ, zero, suc, ◌+◌, ◌-◌, ◌<◌, ◌≤◌, nat_le, Bool, true, false, List, [], ◌∷◌, ◌++◌, All, Option, Some, None, length, replicate, slice_index, sum_by, count_ones, refl, sym, ap, ◌∙◌, append-nil, arith}
+use Rattle.std.proofs.Common.{◌≡◌, ◌≢◌, ℕ, zero, suc, ◌+◌, ◌-◌, ◌<◌, ◌≤◌, nat_le, Bool, true, false, List, [], ◌∷◌, ◌++◌, All, Option, Some, None, length, replicate, slice_index, sum_by, count_ones, refl, sym, ap, ◌∙◌, append-nil, arith}
 use Rattle.std.specs.List.{range_with_len}
 use Rattle.std.proofs.lemmas.List.{length-replicate}
+use Rattle.std.proofs.lemmas.List.Elements.{All-nil, All-cons, All-head, All-tail}
+use Rattle.std.proofs.lemmas.List.Sums.{sum_by-cons}
+use Rattle.std.proofs.lemmas.Nat.{zero_from_ones}
 use Rattle.nm_base.specs.Geometry.{Geometry, IsGeometry, AreTiers, first_frame}
 use Rattle.nm_base.specs.Ranges.{IsTier}
 use Rattle.nm_base.specs.FreeWords.{free_words}
@@ -24,42 +27,43 @@ use Rattle.nm_missing_fault.specs.Searching.{low_mark, taken_in, obtained_in, Fo
 
 some-frames : (tiers : List ℕ) → AreTiers tiers → 1 ≤ slice_index tiers 0
 some-frames [] are = omega (arith, are.0)
-some-frames (n ∷ ns) are = are.2.0.0
+some-frames (n ∷ ns) are = (All-head (λ k. (1 ≤ k) × (k ≤ 4095)) n ns are.2).0
 
 -- the words of tier 0 of which the first frame alone is free
-one-free : Geometry → List ℕ
-one-free g = 1 ∷ replicate (free_words g 0 - 1) 0
+abbrev pub one_free : Geometry → List ℕ
+one_free g = 1 ∷ replicate (free_words g 0 - 1) 0
 
-one-length : (g : Geometry) → IsGeometry g → length (one-free g) ≡ free_words g 0
-unfolding one-free
+one-length : (g : Geometry) → IsGeometry g → length (one_free g) ≡ free_words g 0
 one-length g fine =
     let frames : 1 ≤ slice_index g.tiers 0 = some-frames g.tiers fine.ranges.1 in
-    omega (arith, length-replicate (free_words g 0 - 1) 0, frames)
+    let rest : length (replicate {A = ℕ} (free_words g 0 - 1) 0) ≡ free_words g 0 - 1 = length-replicate {A = ℕ} (free_words g 0 - 1) 0 in
+    omega (arith, rest, frames)
 
-one-least : (g : Geometry) → IsLeastFree g 0 (one-free g) (first_frame g 0)
-unfolding one-free
+one-least : (g : Geometry) → IsLeastFree g 0 (one_free g) (first_frame g 0)
 one-least g = record {
   free = record { index = 0; bit = 0; small = omega arith; set = refl; is = omega arith };
   least = λ other free. omega (arith, free.is);
 }
 
-one-more : (g : Geometry) → 0 < free_bits (one-free g)
-unfolding one-free
-one-more g = omega arith
+one-more : (g : Geometry) → 0 < free_bits (one_free g)
+one-more g =
+    let some : count_ones 1 ≢ 0 = λ e. (let z : 1 ≡ 0 = zero_from_ones 1 e in absurd (omega (arith, z))) in
+    let sum : sum_by count_ones (one_free g) ≡ count_ones 1 + sum_by count_ones (replicate (free_words g 0 - 1) 0) = sum_by-cons count_ones 1 (replicate (free_words g 0 - 1) 0) in
+    omega (arith, some, sum)
 
 -- the last frames of tier 0 can be taken
-pub can-take : (g : Geometry) → IsGeometry g → IsPool g (Take 0 0) ((TakeTurn 0, Done) ∷ (scanned 0 0 (one-free g) ++ (GiveFrame (first_frame g 0), Word 0) ∷ []) ++ (ReleaseTurn 0, Done) ∷ []) (pools.Got (first_frame g 0))
+pub can-take : (g : Geometry) → IsGeometry g → IsPool g (Take 0 0) ((TakeTurn 0, Done) ∷ (scanned 0 0 (one_free g) ++ (GiveFrame (first_frame g 0), Word 0) ∷ []) ++ (ReleaseTurn 0, Done) ∷ []) (pools.Got (first_frame g 0))
 can-take g fine = record {
   busy = [];
-  inner = scanned 0 0 (one-free g) ++ (GiveFrame (first_frame g 0), Word 0) ∷ [];
-  work = record { words = one-free g; old = 0; all = one-length g fine; more = one-more g; least = one-least g; is = refl };
+  inner = scanned 0 0 (one_free g) ++ (GiveFrame (first_frame g 0), Word 0) ∷ [];
+  work = record { words = one_free g; old = 0; all = one-length g fine; more = one-more g; least = one-least g; is = refl };
   is = refl;
 }
 
 pub can-last : (g : Geometry) (again : Own → ℕ → Type 0) → IsGeometry g → CanEnd (TakesLast g again)
 can-last g again fine =
     can-follow (IsPool g (Take 0 0)) (λ end. FoundOr again (taken_in end))
-    (record { rest = (TakeTurn 0, Done) ∷ (scanned 0 0 (one-free g) ++ (GiveFrame (first_frame g 0), Word 0) ∷ []) ++ (ReleaseTurn 0, Done) ∷ []; outcome = pools.Got (first_frame g 0); shown = can-take g fine })
+    (record { rest = (TakeTurn 0, Done) ∷ (scanned 0 0 (one_free g) ++ (GiveFrame (first_frame g 0), Word 0) ∷ []) ++ (ReleaseTurn 0, Done) ∷ []; outcome = pools.Got (first_frame g 0); shown = can-take g fine })
     (can-ends (first_frame g 0))
 
 pub can-found : (next : Own → ℕ → Type 0) (found : Option ℕ) → CanEnd next → CanEnd (FoundOr next found)
@@ -79,17 +83,17 @@ AreTiersOf g tiers = All (IsTier g) tiers
 can-seeks : (made : SearchMade) (g : Geometry) (tiers : List ℕ) (again : Own → ℕ → Type 0) → IsGeometry g → AreTiersOf g tiers → CanEnd (Each (SeeksIn made g) tiers tt (λ kept. TakesLast g again))
 can-seeks made g [] again fine are = can-last g again fine
 can-seeks made g (tier ∷ tiers) again fine are =
-    let some : CanEnd (IsObtain (record { page = made.page; tier = tier }) g) = some-obtain (record { page = made.page; tier = tier }) g are.0 in
+    let some : CanEnd (IsObtain (record { page = made.page; tier = tier }) g) = some-obtain (record { page = made.page; tier = tier }) g (All-head (IsTier g) tier tiers are) in
     can-follow (IsObtain (record { page = made.page; tier = tier }) g) (λ end. FoundOr (Each (SeeksIn made g) tiers tt (λ kept. TakesLast g again)) (obtained_in end)) some
-    (can-found (Each (SeeksIn made g) tiers tt (λ kept. TakesLast g again)) (obtained_in some.outcome) (can-seeks made g tiers again fine are.1))
+    (can-found (Each (SeeksIn made g) tiers tt (λ kept. TakesLast g again)) (obtained_in some.outcome) (can-seeks made g tiers again fine (All-tail (IsTier g) tier tiers are)))
 
 range-tiers : (g : Geometry) (tier count : ℕ) → tier + count ≤ length g.tiers → AreTiersOf g (range_with_len tier count)
-range-tiers g tier zero le = tt
-range-tiers g tier (suc count) le = (omega (arith, le), range-tiers g (tier + 1) count (omega (arith, le)))
+range-tiers g tier zero le = All-nil (IsTier g)
+range-tiers g tier (suc count) le = All-cons (IsTier g) tier (range_with_len (tier + 1) count) (omega (arith, le)) (range-tiers g (tier + 1) count (omega (arith, le)))
 
 any-tiers : (g : Geometry) (tier : ℕ) (some : Bool) → nat_le tier (length g.tiers) ≡ some → AreTiersOf g (range_with_len tier (length g.tiers - tier))
 any-tiers g tier true is = range-tiers g tier (length g.tiers - tier) (grind (arith, is))
-any-tiers g tier false is = let none : length g.tiers - tier ≡ 0 = grind (arith, is) in rw none tt
+any-tiers g tier false is = let none : length g.tiers - tier ≡ 0 = grind (arith, is) in rw none (All-nil (IsTier g))
 
 pub can-from : (made : SearchMade) (g : Geometry) (tier : ℕ) (again : Own → ℕ → Type 0) → IsGeometry g → CanEnd (SeeksFrom made g tier again)
 can-from made g tier again fine = can-seeks made g (range_with_len tier (length g.tiers - tier)) again fine (any-tiers g tier (nat_le tier (length g.tiers)) refl)

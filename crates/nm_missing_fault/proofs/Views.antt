@@ -94,7 +94,7 @@ found-view made frame g first now later at found =
     }
 
 all-zeroed : (words : ℕ) → 0 < words → zeroed_fill words ≡ Zeroed words
-all-zeroed zero some = omega (arith, some)
+all-zeroed zero some = absurd (omega (arith, some))
 all-zeroed (suc n) some = refl
 
 -- its words were set to 0

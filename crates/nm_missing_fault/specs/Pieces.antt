@@ -14,27 +14,23 @@ use Rattle.nm_compose.specs.Acts.{MayAct, IsAct, IsActed}
 use Rattle.nm_compose.specs.Choices.{or_made, IsNewOr, MayBeginOr, IsOr, LeavesOr}
 use Rattle.nm_compose.specs.Composites.{HasFirst}
 use Rattle.nm_compose.specs.Stages.{IsPieceAt}
-use Rattle.nm_prepare.specs.Placing.{IsPlanPlaced}
 use Rattle.nm_copying.specs.declared.zeroes.Zeroes.{Zeroes}
 use Rattle.nm_copying.specs.declared.zeroes.ZeroesMade.{ZeroesMade}
 use Rattle.nm_copying.specs.Zeroing.{MayZeroes, IsZeroing, IsZeroed, zeroes_left, zeroes_stages}
 use Rattle.nm_reclaim.specs.Reclaims.{word_in}
-use Rattle.nm_missing_fault.specs.declared.search.FrameSearch.{FrameSearch}
 use Rattle.nm_missing_fault.specs.declared.search.SearchMade.{SearchMade}
 use Rattle.nm_missing_fault.specs.Searching.{IsSearch}
 use Rattle.nm_missing_fault.specs.Found.{MaySearch, IsFound}
-use Rattle.nm_missing_fault.specs.SearchStages.{SearchPiece, search_piece_made, IsNewSearchPiece, MaySearchPiece, IsSearchPiece, search_piece_of, search_left, KnownInSearch}
+use Rattle.nm_missing_fault.specs.declared.search.SearchTask.{SearchTask}
+use Rattle.nm_missing_fault.specs.SearchTasks.{search_of, IsNewSearch}
 use Rattle.nm_shadow_fault.specs.declared.locks.Locks.{Locks}
 use Rattle.nm_shadow_fault.specs.Locking.{LocksPage, MayLocks, LeavesLocked}
-
-abbrev pub SearchPart : Type 0
-SearchPart = Composite FrameSearch SearchPiece
 
 abbrev pub ZeroesPart : Type 0
 ZeroesPart = Composite Zeroes Act
 
 abbrev pub MissingPiece : Type 0
-MissingPiece = Or Locks (Or Act (Or SearchPart ZeroesPart))
+MissingPiece = Or Locks (Or Act (Or SearchTask ZeroesPart))
 
 -- what they are made with, and how they end
 abbrev pub MissingPieceMade : Type 0
@@ -44,13 +40,9 @@ abbrev pub MissingPieceEnd : Type 0
 MissingPieceEnd = Or (Unit {0}) (Or Reply (Or ℕ (Unit {0})))
 
 abbrev pub missing_piece_made : MissingPiece → MissingPieceMade
-missing_piece_made = or_made (λ p. p.page) (or_made (λ a. a.action) (or_made (λ c. record { 0 = c.plan.geometry.now; 1 = c.plan.made }) (λ c. c.plan.made)))
+missing_piece_made = or_made (λ p. p.page) (or_made (λ a. a.action) (or_made search_of (λ c. c.plan.made)))
 
 -- they have given no action
-
-abbrev pub IsNewSearch : SearchPart → Type 0
-IsNewSearch c = HasFirst search_piece_made IsNewSearchPiece MaySearchPiece IsSearchPiece (IsPlanPlaced search_piece_of KnownInSearch c.plan.geometry.now c.plan.made c.plan.stage) (search_left c.plan.made c.plan.stage)
-    (λ (made : Geometry × SearchMade) g view. MaySearch made.0 made.1 g view) (λ (made : Geometry × SearchMade) g own frame. IsSearch made.1 g own frame) (record { 0 = c.plan.geometry.now; 1 = c.plan.made }) c.piece
 
 abbrev pub IsNewZeroes : ZeroesPart → Type 0
 IsNewZeroes c = HasFirst (λ (a : Act). a.action) (λ a. Unit {0}) (λ action g view. MayAct g view action) IsAct (IsPieceAt zeroes_stages c.plan.made c.plan.stage) (zeroes_left c.plan.made c.plan.stage) MayZeroes IsZeroing c.plan.made c.piece

@@ -5,4 +5,4 @@ pub mod missing;
 pub mod search;
 
 pub use missing::{MissingFault, MissingPiece};
-pub use search::{FrameSearch, SearchMade, SearchPiece, SearchPieceEnd};
+pub use search::{FrameSearch, SearchMade, SearchPiece, SearchPieceEnd, SearchTask};

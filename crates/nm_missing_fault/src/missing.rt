@@ -7,7 +7,7 @@ ghost use Rattle.nm_missing_fault.specs.MissingFault.{missing_word};
 ghost use Rattle.nm_missing_fault.specs.Pieces.{missing_piece_made, IsNewMissingPiece, missing_told, missing_found};
 ghost use Rattle.nm_missing_fault.specs.Stages.{missing_piece_of, HasMappedFrame};
 
-use crate::search::{FrameSearch, SearchPiece};
+use crate::search::SearchTask;
 use nm_base::{Geometry, PageWord};
 use nm_compose::{Act, Composite, Next, Or, Plan};
 use nm_copying::Zeroes;
@@ -46,10 +46,7 @@ pub(crate) enum MissingStage {
 }
 
 /// A piece of the fault: the page is locked, a single action, a frame is sought, or the words of a frame are set to 0.
-pub type MissingPiece<'a> = Or<
-    Locks,
-    Or<Act, Or<Composite<FrameSearch<'a>, SearchPiece<'a>>, Composite<Zeroes, Act>>>,
->;
+pub type MissingPiece<'a> = Or<Locks, Or<Act, Or<SearchTask<'a>, Composite<Zeroes, Act>>>>;
 
 /// How a piece of the fault ends.
 pub(crate) type MissingPieceEnd = Or<(), Or<Reply, Or<u32, ()>>>;
@@ -150,7 +147,7 @@ impl<'a> MissingFault<'a> {
                 cell: Cell::Shadow(home),
             },
             MissingStage::Searching => {
-                return Or::Other(Or::Other(Or::This(Composite::new(FrameSearch::new(g, page)))))
+                return Or::Other(Or::Other(Or::This(SearchTask::new(g, page))))
             }
             MissingStage::Zeroing(frame) => {
                 return Or::Other(Or::Other(Or::Other(Composite::new(Zeroes::new(g, frame)))))

@@ -3,11 +3,14 @@
 ghost use Rattle.std.specs.Prelude.{◌≡◌, ◌+◌, ◌^◌, ◌<◌, length};
 ghost use Rattle.nm_missing_fault.specs.declared.search.SearchStage.TheVariants.{New};
 ghost use Rattle.nm_missing_fault.specs.Searching.{found_in};
+ghost use Rattle.nm_missing_fault.specs.SearchTasks.{search_of, IsNewSearch};
 ghost use Rattle.nm_missing_fault.specs.SearchStages.{search_piece_made, search_piece_of, IsNewSearchPiece, HasTier, stage_from};
 
 use nm_base::Geometry;
 use nm_compose::{Composite, Next, Or, Plan};
+use nm_event::{Action, Reply, Step};
 use nm_obtain::{Obtain, ObtainPiece, Obtained};
+use nm_part::{Part, Piece};
 use nm_policy::Watermarks;
 use nm_pool::{PoolEnd, PoolTask};
 
@@ -79,7 +82,8 @@ impl<'a> FrameSearch<'a> {
     fn stage_from(&self, tier: u32) -> SearchStage
         ensures { result ≡ stage_from self.now.geometry.now tier }
     {
-        if (tier as usize) < self.geometry.tiers.len() {
+        let g = self.geometry;
+        if (tier as usize) < g.tiers.len() {
             SearchStage::Obtaining(tier)
         } else {
             SearchStage::TakingLast
@@ -163,5 +167,62 @@ impl<'a> Plan<SearchPiece<'a>> for FrameSearch<'a> {
             SearchStage::Obtaining(tier) => Next::Run(self.go_from(tier + 1)),
             SearchStage::TakingLast => Next::Run(self.go(SearchStage::TakingAboveLow)),
         }
+    }
+}
+
+/// The search for a frame for a page that has none, inside an operation on that page, as a part of an actor's work.
+#[derive(Drop)]
+pub struct SearchTask<'a> {
+    run: Composite<FrameSearch<'a>, SearchPiece<'a>>,
+}
+
+impl<'a> SearchTask<'a> {
+    /// The search for a frame for a page. Where it begins the view holds no turn, and has no operation but on the page.
+    pub fn new(geometry: &'a Geometry, page: u32) -> SearchTask<'a>
+        ensures made { search_of result ≡ record { 0 = geometry.now; 1 = record { page = page } } }
+        ensures new { IsNewSearch result }
+    {
+        SearchTask {
+            run: Composite::new(FrameSearch::new(geometry, page)),
+        }
+    }
+}
+
+impl<'a> Part for SearchTask<'a> {
+    type Outcome = u32;
+
+    type Made = (Geometry, SearchMade);
+
+    ghost use Rattle.nm_part.specs.Parts.{NothingTold};
+    ghost use Rattle.nm_missing_fault.specs.Searching.{IsSearch};
+    ghost use Rattle.nm_missing_fault.specs.Found.{MaySearch, IsFound};
+    ghost use Rattle.nm_missing_fault.specs.SearchTasks.{search_of, IsNewSearch, AwaitsSearch};
+
+    ghost made = { search_of };
+
+    ghost is_new = { IsNewSearch };
+
+    ghost may_begin = { λ made g view. MaySearch made.0 made.1 g view };
+
+    ghost shape = { λ made g own frame. IsSearch made.1 g own frame };
+
+    ghost leaves = { λ made g view frame left. IsFound made.1 g view frame left };
+
+    ghost awaits = { AwaitsSearch };
+
+    ghost ended = { λ t. NothingTold };
+
+    fn first(&mut self) -> Step<u32> {
+        self.run.first()
+    }
+
+    fn after(&mut self, reply: Reply) -> Step<u32> {
+        self.run.after(reply)
+    }
+}
+
+impl<'a> Piece for SearchTask<'a> {
+    fn start(&mut self) -> Action {
+        self.run.start()
     }
 }

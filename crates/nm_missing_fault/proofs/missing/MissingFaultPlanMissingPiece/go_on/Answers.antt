@@ -44,7 +44,7 @@ returns-in-ReadingShadow-clause-next c = λ g first now later own known shown le
   new = c.go-in-ReadingShadow.ensures.new;
   run = step-missing c.args.self.now c.go-in-ReadingShadow.new.self (ReadingShadow c.in-ReadingShadow.frame) (Mapping c.in-ReadingShadow.frame (not (c.missing_told-told.result == 0)) Alias) c.args.end (missing_piece_made c.args._piece.now) (missing_piece_made c.go-in-ReadingShadow.result) g first now later c.in-ReadingShadow.is known left c.go-in-ReadingShadow.ensures.stage c.go-in-ReadingShadow.ensures.made
       (λ k a. let W : ℕ → Type 0 = λ w. RunsMissing c.args.self.now.made (Mapping c.in-ReadingShadow.frame (not (w == 0)) Alias) (missing_left c.args.self.now.made (ReadingShadow c.in-ReadingShadow.frame) g c.args.end) g first later in
-          subst W (sym c.missing_told-told.ensures) (after-shadow c.args.self.now.made g first now later c.in-ReadingShadow.frame c.args.end k a));
+      subst W (sym c.missing_told-told.ensures) (after-shadow c.args.self.now.made g first now later c.in-ReadingShadow.frame c.args.end k a));
 }
 
 pub returns-in-Searching-clause-next : goal.returns-in-Searching-clause-next
@@ -52,7 +52,7 @@ returns-in-Searching-clause-next c = λ g first now later own known shown left o
   new = c.go-in-Searching.ensures.new;
   run = step-missing c.args.self.now c.go-in-Searching.new.self Searching (Zeroing c.missing_found-frame.result) c.args.end (missing_piece_made c.args._piece.now) (missing_piece_made c.go-in-Searching.result) g first now later c.in-Searching.is known left c.go-in-Searching.ensures.stage c.go-in-Searching.ensures.made
       (λ k a. let W : ℕ → Type 0 = λ w. RunsMissing c.args.self.now.made (Zeroing w) (missing_left c.args.self.now.made Searching g c.args.end) g first later in
-          subst W (sym c.missing_found-frame.ensures) (after-search c.args.self.now.made g first now later c.args.end k a));
+      subst W (sym c.missing_found-frame.ensures) (after-search c.args.self.now.made g first now later c.args.end k a));
 }
 
 pub returns-in-Zeroing-clause-next : goal.returns-in-Zeroing-clause-next
