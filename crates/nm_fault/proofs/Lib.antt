@@ -1,3 +1,1 @@
-pub mod Locked
-pub mod Granting
-pub mod Stepping
+pub mod Tasking

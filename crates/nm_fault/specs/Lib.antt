@@ -1,3 +1,2 @@
-pub mod Locking
-pub mod ShadowFault
-pub mod Granting
+pub mod Waits
+pub mod Tasks

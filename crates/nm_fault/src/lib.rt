@@ -1,10 +1,8 @@
-//! Page faults: a missing translation is mapped, and a page that is kept read-only for its shadow is made writable.
+//! Page faults as a part of an actor's work.
 #![tactic(auto)]
 
-pub mod fault;
-pub mod locks;
-pub mod shadow;
+pub mod task;
+pub mod wait;
 
-pub use fault::{FaultEnd, FaultMade};
-pub use locks::Locks;
-pub use shadow::ShadowFault;
+pub use nm_shadow_fault::FaultEnd;
+pub use task::FaultTask;

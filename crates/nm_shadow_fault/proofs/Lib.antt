@@ -1,0 +1,3 @@
+pub mod Locked
+pub mod Granting
+pub mod Stepping

@@ -1,0 +1,3 @@
+pub mod Locking
+pub mod ShadowFault
+pub mod Granting
