@@ -1,5 +1,5 @@
 -- The steps of a catch up.
-use Rattle.std.proofs.Common.{◌≡◌, ◌⊎◌, inl, inr, ℕ, ◌+◌, ◌<◌, ◌≤◌, ◌++◌, ◌∷◌, [], Bool, true, false, length, Option, Some, None, IsSome, IfSome, MatchOption, refl, sym, ap, ◌∙◌, subst, arith}
+use Rattle.std.proofs.Common.{◌≡◌, inl, inr, ℕ, ◌+◌, ◌<◌, ◌++◌, ◌∷◌, [], true, false, Option, Some, None, IsSome, refl, sym, ap, ◌∙◌, subst, arith}
 use Rattle.std.proofs.lemmas.Bool.{cases_lt}
 use Rattle.std.proofs.lemmas.List.{append-nil}
 use Rattle.nm_base.specs.Geometry.{Geometry}
@@ -16,10 +16,9 @@ use Rattle.nm_view.specs.Operations.{peeked_page}
 use Rattle.nm_permit.specs.Permitted.{Allowed}
 use Rattle.nm_event.specs.Fitting.{Fits}
 use Rattle.nm_event.specs.After.{after_of, view_after}
-use Rattle.nm_part.specs.Parts.{IsQuiet}
-use Rattle.nm_part.specs.Patterns.{Ends, Follows, Either, IsLeft}
+use Rattle.nm_part.specs.Patterns.{Ends, Follows, IsLeft}
 use Rattle.nm_part.proofs.OwnLemmas.{view-push}
-use Rattle.nm_part.proofs.Patterns.{left-start, left-as, either-yes, either-other, ends-now}
+use Rattle.nm_part.proofs.Patterns.{left-as, either-yes, either-other, ends-now}
 use Rattle.nm_compose.specs.Acts.{IsAct}
 use Rattle.nm_xlat.specs.declared.translations.Entry.{Entry}
 use Rattle.nm_xlat.specs.Translations.{IsLeastFrom, HasNoneFrom}
@@ -29,7 +28,7 @@ use Rattle.nm_catchup.specs.declared.cache.TranslationCache.{TranslationCache}
 use Rattle.nm_catchup.specs.declared.cache.CatchStage.{CatchStage}
 use Rattle.nm_catchup.specs.declared.cache.CatchStage.TheVariants.{Resting, Polling, Peeking, Acknowledging}
 use Rattle.nm_catchup.specs.CatchUp.{Kept, entry_of, is_news, peeked_with, told_word, Acknowledges, PeeksFrom, CatchesUp}
-use Rattle.nm_catchup.specs.Catching.{kept_of, fresh_peek, IsKept, HasPeeked, IsAtPeek, KnownInCatch, catch_action, catch_left, IsCatching, AwaitsCatch, IsCatchAsked, IsCaughtUp, IsCatchStep, IsPeekingFrom}
+use Rattle.nm_catchup.specs.Catching.{kept_of, fresh_peek, IsKept, HasPeeked, KnownInCatch, catch_action, catch_left, IsCatching, AwaitsCatch, IsCatchAsked, IsCaughtUp, IsCatchStep, IsPeekingFrom}
 use Rattle.nm_catchup.proofs.Acts.{left-acts, begun-acts}
 use Rattle.nm_catchup.proofs.Entries.{kept-as, polled-news, peeked-one, acknowledged}
 use Rattle.nm_catchup.proofs.Loops.{peek-next, ack-next, left-can}

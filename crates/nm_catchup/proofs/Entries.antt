@@ -1,24 +1,21 @@
 -- Entries that are kept, beside the view.
-use Rattle.std.proofs.Common.{◌≡◌, ◌≢◌, ℕ, suc, ◌+◌, ◌<◌, ◌≤◌, ◌==◌, ◌&&◌, eqb, cond, Bool, true, false, List, [], ◌∷◌, length, Option, Some, None, IsSome, IfSome, is_some, inl, inr, refl, sym, ap, ◌∙◌, subst, arith}
+use Rattle.std.proofs.Common.{◌≡◌, ◌≢◌, ℕ, ◌+◌, ◌≤◌, eqb, cond, Bool, true, false, List, [], ◌∷◌, length, Option, Some, None, IsSome, IfSome, inl, inr, refl, sym, ap, ◌∙◌, subst, arith}
 use Rattle.std.specs.List.{filter}
 use Rattle.std.proofs.lemmas.Bool.{cases_eq, eqb-true, eq-eqb, ne_eqb}
 use Rattle.nm_base.specs.Geometry.{Geometry}
-use Rattle.nm_base.specs.Ranges.{IsVPage}
 use Rattle.nm_action.specs.declared.action.AckTo.TheVariants.{Seen}
 use Rattle.nm_action.specs.declared.action.Action.TheVariants.{Peek, Poll, Ack}
 use Rattle.nm_action.specs.declared.action.Reply.TheVariants.{Done, Word}
-use Rattle.nm_view.specs.declared.view.CacheEntry.{CacheEntry}
 use Rattle.nm_view.specs.declared.view.Peeked.{Peeked}
 use Rattle.nm_view.specs.Lists.{find, put}
 use Rattle.nm_view.specs.Views.{View, most_bumps}
-use Rattle.nm_view.specs.Operations.{IsProcessor, cached_page, peeked_page}
+use Rattle.nm_view.specs.Operations.{cached_page, peeked_page}
 use Rattle.nm_view.proofs.Finds.{find_put, find_put_other}
-use Rattle.nm_event.specs.After.{after_of, is_confirmed, is_fresh_at}
+use Rattle.nm_event.specs.After.{after_of, is_confirmed}
 use Rattle.nm_xlat.specs.declared.translations.Entry.{Entry}
-use Rattle.nm_xlat.specs.Entries.{entry_at, entries_without}
 use Rattle.nm_xlat.proofs.Lookups.{entry_at-entries_without}
 use Rattle.nm_catchup.specs.CatchUp.{Kept, entry_of, has_stamp, kept_without, peeked_with}
-use Rattle.nm_catchup.specs.Catching.{entry_in, AreCached, AreVPages, IsAcked, IsKept, fresh_peek, ArePeeked, HasPeeked}
+use Rattle.nm_catchup.specs.Catching.{entry_in, IsAcked, IsKept, fresh_peek, HasPeeked}
 
 -- the first item of a number is found among those that pass a test, where it passes
 find-filter : {A : Type 0} (key : A → ℕ) (test : A → Bool) (k : ℕ) (xs : List A) (x : A) → find key k xs ≡ Some x → test x ≡ true → find key k (filter test xs) ≡ Some x

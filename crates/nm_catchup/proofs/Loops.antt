@@ -1,16 +1,15 @@
 -- The loop over cached pages.
-use Rattle.std.proofs.Common.{◌≡◌, ℕ, zero, suc, ◌+◌, ◌-◌, ◌<◌, ◌≤◌, Bool, true, false, List, [], ◌∷◌, length, Option, Some, None, IsSome, is_some, refl, sym, subst, arith}
+use Rattle.std.proofs.Common.{◌≡◌, ℕ, zero, suc, ◌+◌, ◌-◌, ◌<◌, ◌≤◌, false, List, ◌∷◌, length, Some, None, IsSome, is_some, refl, sym, subst, arith}
 use Rattle.std.specs.List.{range_with_len}
 use Rattle.nm_base.specs.Geometry.{Geometry}
 use Rattle.nm_action.specs.declared.action.AckTo.TheVariants.{Seen}
 use Rattle.nm_action.specs.declared.action.Action.TheVariants.{Peek, Poll, Ack}
 use Rattle.nm_action.specs.declared.action.Reply.{Reply}
 use Rattle.nm_action.specs.Own.{Own}
-use Rattle.nm_part.specs.Patterns.{Ends, Follows, Either, Each, CanEnd}
+use Rattle.nm_part.specs.Patterns.{Ends, Follows, Each, CanEnd}
 use Rattle.nm_part.proofs.Patterns.{can-ends, can-follow, can-either, either-yes, either-other, each-can}
 use Rattle.nm_compose.specs.Acts.{IsAct}
 use Rattle.nm_compose.proofs.Acting.{some-act}
-use Rattle.nm_xlat.specs.declared.translations.Entry.{Entry}
 use Rattle.nm_catchup.specs.declared.cache.CatchStage.{CatchStage}
 use Rattle.nm_catchup.specs.declared.cache.CatchStage.TheVariants.{Resting, Polling, Peeking, Acknowledging}
 use Rattle.nm_catchup.specs.CatchUp.{Kept, entry_of, is_news, peeked_with, told_word, PeeksAt, Acknowledges, PeeksFrom, CatchesUp}
@@ -44,7 +43,7 @@ peek-next g number from page kept own o least within there none h =
     let left : length g.vpages - page ≡ suc (length g.vpages - (page + 1)) = omega arith in
     let size : (page - from) + (length g.vpages - page) ≡ length g.vpages - from = omega arith in
     let here : Each (PeeksAt g) (page ∷ range_with_len (page + 1) (length g.vpages - (page + 1))) kept after own o =
-        either-yes (is_some (entry_of kept page)) (Follows (IsAct (Peek page) g) (λ reply. PeeksFrom g number (page + 1) (peeked_with page (told_word reply) kept))) (PeeksFrom g number (page + 1) kept) own o there h in
+    either-yes (is_some (entry_of kept page)) (Follows (IsAct (Peek page) g) (λ reply. PeeksFrom g number (page + 1) (peeked_with page (told_word reply) kept))) (PeeksFrom g number (page + 1) kept) own o there h in
     let all : Each (PeeksAt g) (range_with_len page (length g.vpages - page)) kept after own o = subst (λ (l : List ℕ). Each (PeeksAt g) l kept after own o) (sym (range-first page (length g.vpages - (page + 1)) (length g.vpages - page) left)) here in
     let far : Each (PeeksAt g) (range_with_len (from + (page - from)) (length g.vpages - page)) kept after own o = subst (λ f. Each (PeeksAt g) (range_with_len f (length g.vpages - page)) kept after own o) (sym at) all in
     subst (λ m. Each (PeeksAt g) (range_with_len from m) kept after own o) size

@@ -1,5 +1,5 @@
 -- How far a catch up has come.
-use Rattle.std.specs.Prelude.{◌≡◌, ℕ, ◌<◌, ◌≤◌, ◌+◌, true, List, [], length, Option, Some, None, IsSome, IfSome, IfOk}
+use Rattle.std.specs.Prelude.{◌≡◌, ℕ, ◌<◌, ◌≤◌, ◌+◌, true, length, Some, IsSome, IfSome}
 use Rattle.nm_base.specs.Geometry.{Geometry, IsGeometry}
 use Rattle.nm_base.specs.Ranges.{IsVPage}
 use Rattle.nm_action.specs.declared.action.AckTo.TheVariants.{Seen}

@@ -1,19 +1,18 @@
 -- The desk of an actor beside its view, by kinds of action.
-use Rattle.std.proofs.Common.{◌≡◌, ℕ, Option, Some, None, IsSomeAnd, IfSome, inl, inr, refl}
+use Rattle.std.proofs.Common.{ℕ, Option, Some, None, IsSomeAnd, IfSome, inl, inr, refl}
 use Rattle.nm_base.specs.Geometry.{Geometry}
 use Rattle.nm_action.specs.declared.action.Action.{Action}
-use Rattle.nm_action.specs.declared.action.Action.TheVariants.{Load, Store, Add, Look, Walk, Peek, Poll, Ack, Lock, Unlock, Bump, SeeAck, Raise, Soften, Arm, ClearDirty, Unmap, Map, Grant, CopyLoad, CopyStore, SetHome, SetShadow, TakeTurn, Scan, GiveFrame, PutFrame, ReleaseTurn, Mark, Read}
+use Rattle.nm_action.specs.declared.action.Action.TheVariants.{Load, Store, Add, Look, Walk, Peek, Poll, Ack, Lock, Bump, Raise, Soften, Arm, ClearDirty, Unmap, Grant, CopyStore, SetShadow, Scan, GiveFrame, PutFrame, Mark, Read}
 use Rattle.nm_action.specs.declared.action.Reply.{Reply}
 use Rattle.nm_action.specs.declared.action.Reply.TheVariants.{Done, Word, Busy, Lost}
 use Rattle.nm_action.specs.declared.action.Cell.{Cell}
 use Rattle.nm_action.specs.declared.action.Cell.TheVariants.{Home, Shadow}
 use Rattle.nm_view.specs.Views.{Op, View}
 use Rattle.nm_view.specs.Operations.{op_on}
-use Rattle.nm_permit.specs.Permitted.{Permitted, Allowed, MayShade}
-use Rattle.nm_event.specs.Fitting.{Fits, FitsWord, FitsTold, IsTableReply, IsMappedReply, IsReadOf, MayBeFree}
-use Rattle.nm_event.specs.After.{after_of}
+use Rattle.nm_permit.specs.Permitted.{Permitted, MayShade}
+use Rattle.nm_event.specs.Fitting.{FitsWord, FitsTold, IsTableReply, IsMappedReply, IsReadOf, MayBeFree}
 use Rattle.nm_part.specs.Parts.{IsQuiet}
-use Rattle.nm_desk.specs.Desk.{desk, IsLoud, DeskAllows, DeskFits, DeskStays, DeskFollows, QuietKeeps}
+use Rattle.nm_desk.specs.Desk.{desk, DeskAllows, DeskFits, DeskStays, DeskFollows, QuietKeeps}
 
 pub desk-stays : DeskStays
 desk-stays g view (Walk v e write) Done loud = refl

@@ -1,13 +1,13 @@
 -- Lists of parts with catch ups, carried on.
-use Rattle.std.proofs.Common.{◌≡◌, List, [], ◌∷◌, ◌++◌, Bool, true, false, refl, sym, ap, ◌∙◌, subst, append_assoc}
+use Rattle.std.proofs.Common.{List, [], ◌∷◌, ◌++◌, Bool, true, false, refl, sym, ap, ◌∙◌, subst, append_assoc}
 use Rattle.std.proofs.lemmas.List.{append-nil}
 use Rattle.nm_action.specs.declared.action.Action.{Action}
 use Rattle.nm_action.specs.declared.action.Reply.{Reply}
 use Rattle.nm_action.specs.Own.{Own}
 use Rattle.nm_part.specs.Parts.{IsBegun}
-use Rattle.nm_part.specs.Patterns.{Ends, Follows, CanEnd}
+use Rattle.nm_part.specs.Patterns.{Follows, CanEnd}
 use Rattle.nm_part.proofs.Patterns.{ends-now, can-ends, can-follow}
-use Rattle.nm_desk.specs.Woven.{CatchesWhere, IsEvent, Weaves, WeavesPart}
+use Rattle.nm_desk.specs.Woven.{CatchesWhere, Weaves, WeavesPart}
 
 -- a list goes on with what follows it
 follows-on : {E X O P : Type 0} (first : List E → X → Type 0) (after : X → List E → O → Type 0) (later : X → List E → P → Type 0) (own more : List E) (o : O) (p : P)
