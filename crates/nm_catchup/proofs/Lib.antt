@@ -1,0 +1,4 @@
+pub mod Acts
+pub mod Entries
+pub mod Loops
+pub mod Catching

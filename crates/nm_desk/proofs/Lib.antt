@@ -1,0 +1,2 @@
+pub mod AtDesk
+pub mod Weaving
