@@ -80,13 +80,13 @@ pub record IsGiven {P M X : Type 0} (made : P → M) (is_new : P → Type 0) (ma
 
 -- the actor has these answered turns, and this one waits for its answer: they go on as a sequence of the routine, and what is
 -- counted is counted of them
-pub record IsAgreeing {P M X : Type 0} (made : P → M) (is_new : P → Type 0) (may_begin : M → Geometry → View → Type 0) (shape : M → Geometry → Own → X → Type 0) (awaits : P → Geometry → View → Own → Action → Type 0) (counts : X → Tally) (knows : View → Task M → Type 0) (left : Ended X → Notes → Unit {0} → Type 0) (whole : Notes → Unit {0} → Type 0) (g : Geometry) (number : ℕ) (kept : Action) (task : Task P) (events : Counter) (ends : Tally) (turns : Turns) (last : Option Turn) : Type 0 where
+pub record IsAgreeing {P M X : Type 0} (made : P → M) (is_new : P → Type 0) (may_begin : M → Geometry → View → Type 0) (shape : M → Geometry → Own → X → Type 0) (awaits : P → Geometry → View → Own → Action → Type 0) (counts : X → Tally) (knows : View → Task M → Type 0) (left : Ended X → Notes → Unit {0} → Type 0) (whole : Notes → Unit {0} → Type 0) (g : Geometry) (number : ℕ) (kept : Action) (task : Task P) (counter : Counter) (tally : Tally) (turns : Turns) (last : Option Turn) : Type 0 where
   pub notes : Notes
   pub is : turns ≡ noted_turns notes
   pub next : GoesOn whole notes last
-  pub events : IsCounted events (own_list turns)
-  pub ends : ends ≡ notes_tally notes
-  pub pages : length events.locked.items ≡ page_count g
+  pub events : IsCounted counter (own_list turns)
+  pub ends : tally ≡ notes_tally notes
+  pub pages : length counter.locked.items ≡ page_count g
   pub at : IsAt made is_new may_begin shape awaits counts knows left whole g number kept notes last task
 
 -- a turn was answered, with what its answer counts, and another is given after it
@@ -103,8 +103,8 @@ pub record IsWorkHeard (at : Notes → Option Turn → Type 0) (g : Geometry) (n
   pub fits : Fits g (turns_view g number (noted_turns notes)) action reply
 
 -- a worker is new: its first task comes next, and nothing is counted
-pub record IsNewWorker (first : Type 0) (g : Geometry) (events : Counter) (ends : Tally) : Type 0 where
+pub record IsNewWorker (first : Type 0) (g : Geometry) (counter : Counter) (tally : Tally) : Type 0 where
   pub next : first
-  pub events : IsCounted events []
-  pub ends : ends ≡ zero_tally
-  pub pages : length events.locked.items ≡ page_count g
+  pub events : IsCounted counter []
+  pub ends : tally ≡ zero_tally
+  pub pages : length counter.locked.items ≡ page_count g

@@ -1,0 +1,4 @@
+pub mod NoteLists
+pub mod Giving
+pub mod Going
+pub mod Working
