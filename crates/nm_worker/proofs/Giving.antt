@@ -107,43 +107,28 @@ lane-comes done left whole notes note end can due shown =
 pub put-given : {P M X : Type 0} (made : P → M) (is_new : P → Type 0) (may_begin : M → Geometry → View → Type 0) (shape : M → Geometry → Own → X → Type 0) (awaits : P → Geometry → View → Own → Action → Type 0) (counts : X → Tally) (knows : View → Task M → Type 0) (left : Ended X → Notes → Unit {0} → Type 0) (whole : Notes → Unit {0} → Type 0) (g : Geometry) (number : ℕ) (kept : Action) (task : Task P) (lane : Lane) (page : ℕ)
     → task ≡ Put lane page
     → (notes : Notes) → IsNextTask made is_new may_begin shape counts knows left (λ rest outcome. whole (notes ++ rest) outcome) g (turns_view g number (noted_turns notes)) task
-    → IsGiven made is_new may_begin shape awaits counts knows left whole g number kept task (turn.Put lane page) notes
+    → IsGiven made is_new may_begin shape awaits counts knows left whole g number kept (Put lane page) (turn.Put lane page) notes
 put-given {P} {M} {X} made is_new may_begin shape awaits counts knows left whole g number kept task lane page is notes next =
     let view = turns_view g number (noted_turns notes) in
     let N : Task P → Type 0 = λ t. IsNextTask made is_new may_begin shape counts knows left (λ rest outcome. whole (notes ++ rest) outcome) g view t in
-    let G : Task P → Type 0 = λ t. IsGiven made is_new may_begin shape awaits counts knows left whole g number kept t (turn.Put lane page) notes in
     let run = due-after (knows view (Put lane page)) (IsTask shape counts g (Put lane page)) left whole notes (subst N is next) in
-    subst G (sym is) (record {
+    record {
       next = lane-comes (IsTask shape counts g (Put lane page)) left whole notes (record { turn = turn.Put lane page; heard = PutDone; counts = None }) (ended.Put false) run.can run.due (record { is = refl });
       at = record { same = refl; run = run };
       permitted = tt;
-    })
+    }
 
 -- a take
 pub take-given : {P M X : Type 0} (made : P → M) (is_new : P → Type 0) (may_begin : M → Geometry → View → Type 0) (shape : M → Geometry → Own → X → Type 0) (awaits : P → Geometry → View → Own → Action → Type 0) (counts : X → Tally) (knows : View → Task M → Type 0) (left : Ended X → Notes → Unit {0} → Type 0) (whole : Notes → Unit {0} → Type 0) (g : Geometry) (number : ℕ) (kept : Action) (task : Task P) (lane : Lane)
     → task ≡ Take lane
     → (notes : Notes) → IsNextTask made is_new may_begin shape counts knows left (λ rest outcome. whole (notes ++ rest) outcome) g (turns_view g number (noted_turns notes)) task
-    → IsGiven made is_new may_begin shape awaits counts knows left whole g number kept task (turn.Take lane) notes
+    → IsGiven made is_new may_begin shape awaits counts knows left whole g number kept (Take lane) (turn.Take lane) notes
 take-given {P} {M} {X} made is_new may_begin shape awaits counts knows left whole g number kept task lane is notes next =
     let view = turns_view g number (noted_turns notes) in
     let N : Task P → Type 0 = λ t. IsNextTask made is_new may_begin shape counts knows left (λ rest outcome. whole (notes ++ rest) outcome) g view t in
-    let G : Task P → Type 0 = λ t. IsGiven made is_new may_begin shape awaits counts knows left whole g number kept t (turn.Take lane) notes in
     let run = due-after (knows view (Take lane)) (IsTask shape counts g (Take lane)) left whole notes (subst N is next) in
-    subst G (sym is) (record {
+    record {
       next = lane-comes (IsTask shape counts g (Take lane)) left whole notes (record { turn = turn.Take lane; heard = TookNone; counts = None }) (ended.Take None) run.can run.due (record { is = refl });
       at = record { same = refl; run = run };
       permitted = tt;
-    })
-
--- the end
-pub stop-given : {P M X : Type 0} (made : P → M) (is_new : P → Type 0) (may_begin : M → Geometry → View → Type 0) (shape : M → Geometry → Own → X → Type 0) (awaits : P → Geometry → View → Own → Action → Type 0) (counts : X → Tally) (knows : View → Task M → Type 0) (left : Ended X → Notes → Unit {0} → Type 0) (whole : Notes → Unit {0} → Type 0) (g : Geometry) (number : ℕ) (kept : Action) (task : Task P)
-    → task ≡ Stop
-    → (notes : Notes) → IsNextTask made is_new may_begin shape counts knows left (λ rest outcome. whole (notes ++ rest) outcome) g (turns_view g number (noted_turns notes)) task
-    → IsGiven made is_new may_begin shape awaits counts knows left whole g number kept task turn.End notes
-stop-given {P} made is_new may_begin shape awaits counts knows left whole g number kept task is notes next =
-    let view = turns_view g number (noted_turns notes) in
-    let N : Task P → Type 0 = λ t. IsNextTask made is_new may_begin shape counts knows left (λ rest outcome. whole (notes ++ rest) outcome) g view t in
-    let G : Task P → Type 0 = λ t. IsGiven made is_new may_begin shape awaits counts knows left whole g number kept t turn.End notes in
-    let W : Notes → Type 0 = λ l. whole l tt in
-    let shown : whole (notes ++ []) tt = subst N is next in
-    subst G (sym is) (record { next = subst W (append-nil notes) shown; at = tt; permitted = tt })
+    }

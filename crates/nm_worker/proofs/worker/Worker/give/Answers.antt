@@ -1,4 +1,4 @@
-use Rattle.nm_worker.proofs.Giving.{start-given, put-given, take-given, stop-given}
+use Rattle.nm_worker.proofs.Giving.{start-given, put-given, take-given}
 use Rattle.nm_worker.proofs.worker.Worker.give.Goals as goal
 
 pub returns-in-Run-clause-given : goal.returns-in-Run-clause-given
