@@ -1,0 +1,72 @@
+-- What a routine promises of each task that it gives.
+use Rattle.std.specs.Prelude.{◌≡◌, ℕ, Bool, [], Option}
+use Rattle.nm_base.specs.Geometry.{Geometry}
+use Rattle.nm_action.specs.declared.tally.Tally.{Tally}
+use Rattle.nm_action.specs.Own.{Own}
+use Rattle.nm_view.specs.Views.{View}
+use Rattle.nm_part.specs.Parts.{HasBegin}
+use Rattle.nm_part.specs.Patterns.{Follows, CanEnd}
+use Rattle.nm_worker.specs.declared.routine.Task.{Task}
+use Rattle.nm_worker.specs.declared.routine.Task.TheVariants.{Run, Put, Take, Stop}
+use Rattle.nm_worker.specs.declared.routine.Ended.{Ended}
+use Rattle.nm_worker.specs.declared.routine.Ended.TheVariants as ended
+use Rattle.nm_worker.specs.Notes.{Notes, IsTask}
+
+-- In all of these `now` is the view in which a task begins, and `was` the pattern that was left before it.
+
+-- a task with its piece of work seen by what that was made with
+abbrev pub task_made : {P M : Type 0} → (P → M) → Task P → Task M
+task_made made (Run piece) = Run (made piece)
+task_made made (Put lane page) = Put lane page
+task_made made (Take lane) = Take lane
+task_made made Stop = Stop
+
+-- a task runs: what is known holds, the sequence can be finished after each of its ends, and a list of the task with what is
+-- left after it is a list of what was left before
+pub record IsTaskRun {X : Type 0} (knows : Type 0) (done : Notes → Ended X → Type 0) (left : Ended X → Notes → Unit {0} → Type 0) (was : Notes → Unit {0} → Type 0) : Type 0 where
+  pub known : knows
+  pub can : (notes : Notes) (end : Ended X) → done notes end → CanEnd (left end)
+  pub fits : (notes : Notes) (outcome : Unit {0}) → Follows done left notes outcome → was notes outcome
+
+-- a piece of work runs: it has given no action, and may begin
+pub record IsWorkRun {X : Type 0} (new begin knows : Type 0) (done : Notes → Ended X → Type 0) (left : Ended X → Notes → Unit {0} → Type 0) (was : Notes → Unit {0} → Type 0) : Type 0 where
+  pub is_new : new
+  pub may_begin : begin
+  pub run : IsTaskRun knows done left was
+
+-- this task comes next; none does where nothing more was left
+abbrev pub IsNextTask : {P M X : Type 0} → (P → M) → (P → Type 0) → (M → Geometry → View → Type 0) → (M → Geometry → Own → X → Type 0) → (X → Tally) → (View → Task M → Type 0) → (Ended X → Notes → Unit {0} → Type 0) → (Notes → Unit {0} → Type 0) → Geometry → View → Task P → Type 0
+IsNextTask made is_new may_begin shape counts knows left was g now (Run piece) = IsWorkRun (is_new piece) (may_begin (made piece) g now) (knows now (Run (made piece))) (IsTask shape counts g (Run (made piece))) left was
+IsNextTask made is_new may_begin shape counts knows left was g now (Put lane page) = IsTaskRun (knows now (Put lane page)) (IsTask shape counts g (Put lane page)) left was
+IsNextTask made is_new may_begin shape counts knows left was g now (Take lane) = IsTaskRun (knows now (Take lane)) (IsTask shape counts g (Take lane)) left was
+IsNextTask made is_new may_begin shape counts knows left was g now Stop = was [] tt
+
+-- a piece of work is over: it has ended so, begun in the view `now` and left in the view `later`
+pub record IsWorkOver {M X : Type 0} (shape : M → Geometry → Own → X → Type 0) (leaves : M → Geometry → View → X → View → Type 0) (ended : Geometry → Own → X → Type 0) (work : M) (g : Geometry) (now later : View) (end : X) : Type 0 where
+  pub own : Own
+  pub shown : shape work g own end
+  pub left : leaves work g now end later
+  pub over : ended g own end
+
+-- a task is over, and ended so
+abbrev pub IsTaskOver : {P M X : Type 0} → (P → M) → (M → Geometry → Own → X → Type 0) → (M → Geometry → View → X → View → Type 0) → (P → Geometry → Own → X → Type 0) → Geometry → View → View → Task P → Ended X → Type 0
+IsTaskOver made shape leaves ends g now later (Run piece) (ended.Run end) = IsWorkOver shape leaves (ends piece) (made piece) g now later end
+IsTaskOver made shape leaves ends g now later (Put lane page) (ended.Put full) = later ≡ now
+IsTaskOver made shape leaves ends g now later (Take lane) (ended.Take page) = later ≡ now
+IsTaskOver made shape leaves ends g now later task end = ⊥
+
+-- a task of the routine has ended so
+pub record HasTaskOver {P M X : Type 0} (made : P → M) (shape : M → Geometry → Own → X → Type 0) (leaves : M → Geometry → View → X → View → Type 0) (ends : P → Geometry → Own → X → Type 0) (knows : View → Task M → Type 0) (g : Geometry) (task : Task P) (end : Ended X) : Type 0 where
+  pub now : View
+  pub later : View
+  pub known : knows now (task_made made task)
+  pub over : IsTaskOver made shape leaves ends g now later task end
+
+-- a task can be begun: its piece of work has given no action, and there are a geometry and a view with which it may begin
+pub record CanBegin (new : Type 0) (may : Geometry → View → Type 0) : Type 0 where
+  pub is_new : new
+  pub begin : HasBegin may
+
+abbrev pub CanBeginTask : {P M : Type 0} → (P → M) → (P → Type 0) → (M → Geometry → View → Type 0) → Task P → Type 0
+CanBeginTask made is_new may_begin (Run piece) = CanBegin (is_new piece) (may_begin (made piece))
+CanBeginTask made is_new may_begin task = Unit {0}

@@ -1,0 +1,110 @@
+-- An actor that follows a routine: what it agrees with, and how far it has come.
+use Rattle.std.specs.Prelude.{◌≡◌, ℕ, List, [], ◌∷◌, ◌++◌, length, Option, Some, None}
+use Rattle.nm_base.specs.Geometry.{Geometry, page_count}
+use Rattle.nm_action.specs.declared.action.Action.{Action}
+use Rattle.nm_action.specs.declared.action.Reply.{Reply}
+use Rattle.nm_action.specs.declared.tally.Tally.{Tally}
+use Rattle.nm_action.specs.declared.turn.Turn.{Turn}
+use Rattle.nm_action.specs.declared.turn.Turn.TheVariants as turn
+use Rattle.nm_action.specs.declared.turn.Heard.{Heard}
+use Rattle.nm_action.specs.Own.{Own}
+use Rattle.nm_view.specs.Views.{View}
+use Rattle.nm_view.specs.Opening.{opening}
+use Rattle.nm_permit.specs.Permitted.{InRange}
+use Rattle.nm_event.specs.Fitting.{Fits}
+use Rattle.nm_part.specs.Patterns.{Follows, IsLeft, CanEnd}
+use Rattle.nm_tally.specs.declared.counter.Counter.{Counter}
+use Rattle.nm_tally.specs.Counts.{zero_tally}
+use Rattle.nm_tally.specs.Counting.{IsCounted}
+use Rattle.nm_actor.specs.Turns.{Turns, own_list, turns_view}
+use Rattle.nm_actor.specs.Actors.{IsPermittedTurn}
+use Rattle.nm_worker.specs.declared.routine.Task.{Task}
+use Rattle.nm_worker.specs.declared.routine.Task.TheVariants.{Run, Put, Take, Stop}
+use Rattle.nm_worker.specs.declared.routine.Ended.{Ended}
+use Rattle.nm_worker.specs.Notes.{Noted, Notes, noted_turns, tally_with, notes_tally, uncounted, IsTask}
+use Rattle.nm_worker.specs.Routines.{IsNextTask}
+
+-- What an actor agrees with.
+
+-- after these notes a turn comes next in a whole sequence
+pub record ComesNext (whole : Notes → Unit {0} → Type 0) (notes : Notes) (given : Turn) : Type 0 where
+  pub heard : Heard
+  pub counts : Option Tally
+  pub rest : Notes
+  pub shown : whole (notes ++ record { turn = given; heard = heard; counts = counts } ∷ rest) tt
+
+-- the notes and the turn that waits for its answer are the beginning of a whole sequence; where End was given, they are one;
+-- where Start is to be heard there are none
+abbrev pub GoesOn : (Notes → Unit {0} → Type 0) → Notes → Option Turn → Type 0
+GoesOn whole notes None = notes ≡ []
+GoesOn whole notes (Some turn.End) = whole notes tt
+GoesOn whole notes (Some given) = ComesNext whole notes given
+
+-- How far it has come.
+
+-- a task runs, after these notes
+pub record IsAtTask {X : Type 0} (knows : Type 0) (done : Notes → Ended X → Type 0) (left : Ended X → Notes → Unit {0} → Type 0) (whole : Notes → Unit {0} → Type 0) (front : Notes) : Type 0 where
+  pub known : knows
+  pub can : (notes : Notes) (end : Ended X) → done notes end → CanEnd (left end)
+  pub due : IsLeft whole front (Follows done left)
+
+-- a piece of work runs, with this own list so far, and awaits the answer to an action, which is the one that is kept
+pub record IsAtWork {M X : Type 0} (shape : M → Geometry → Own → X → Type 0) (awaits : Geometry → View → Own → Action → Type 0) (counts : X → Tally) (knows : View → Task M → Type 0) (left : Ended X → Notes → Unit {0} → Type 0) (whole : Notes → Unit {0} → Type 0) (g : Geometry) (number : ℕ) (kept : Action) (notes : Notes) (action : Action) (work : M) : Type 0 where
+  pub front : Notes
+  pub inner : Own
+  pub is : notes ≡ front ++ uncounted inner
+  pub run : IsAtTask (knows (turns_view g number (noted_turns front)) (Run work)) (IsTask shape counts g (Run work)) left whole front
+  pub awaited : awaits g (turns_view g number (noted_turns front)) inner action
+  pub same : kept ≡ action
+  pub range : InRange g action
+
+-- a page is being put or taken, by this turn
+pub record IsAtLane {X : Type 0} (knows : Type 0) (done : Notes → Ended X → Type 0) (left : Ended X → Notes → Unit {0} → Type 0) (whole : Notes → Unit {0} → Type 0) (notes : Notes) (given turn : Turn) : Type 0 where
+  pub same : given ≡ turn
+  pub run : IsAtTask knows done left whole notes
+
+-- by the turn that waits for its answer, and the task: where there is none the first task comes next
+abbrev pub IsAt : {P M X : Type 0} → (P → M) → (P → Type 0) → (M → Geometry → View → Type 0) → (M → Geometry → Own → X → Type 0) → (P → Geometry → View → Own → Action → Type 0) → (X → Tally) → (View → Task M → Type 0) → (Ended X → Notes → Unit {0} → Type 0) → (Notes → Unit {0} → Type 0) → Geometry → ℕ → Action → Notes → Option Turn → Task P → Type 0
+IsAt made is_new may_begin shape awaits counts knows left whole g number kept notes None task = IsNextTask made is_new may_begin shape counts knows left whole g (opening g number) task
+IsAt made is_new may_begin shape awaits counts knows left whole g number kept notes (Some (turn.Do action)) (Run piece) = IsAtWork shape (awaits piece) counts knows left whole g number kept notes action (made piece)
+IsAt made is_new may_begin shape awaits counts knows left whole g number kept notes (Some (turn.Put into b)) (Put lane page) = IsAtLane (knows (turns_view g number (noted_turns notes)) (Put lane page)) (IsTask shape counts g (Put lane page)) left whole notes (turn.Put into b) (turn.Put lane page)
+IsAt made is_new may_begin shape awaits counts knows left whole g number kept notes (Some (turn.Take from)) (Take lane) = IsAtLane (knows (turns_view g number (noted_turns notes)) (Take lane)) (IsTask shape counts g (Take lane)) left whole notes (turn.Take from) (turn.Take lane)
+IsAt made is_new may_begin shape awaits counts knows left whole g number kept notes (Some turn.End) Stop = Unit {0}
+IsAt made is_new may_begin shape awaits counts knows left whole g number kept notes (Some given) task = ⊥
+
+-- a turn is given after these notes: it goes on with them, its answer is awaited, and its action is permitted
+pub record IsGiven {P M X : Type 0} (made : P → M) (is_new : P → Type 0) (may_begin : M → Geometry → View → Type 0) (shape : M → Geometry → Own → X → Type 0) (awaits : P → Geometry → View → Own → Action → Type 0) (counts : X → Tally) (knows : View → Task M → Type 0) (left : Ended X → Notes → Unit {0} → Type 0) (whole : Notes → Unit {0} → Type 0) (g : Geometry) (number : ℕ) (kept : Action) (task : Task P) (given : Turn) (notes : Notes) : Type 0 where
+  pub next : GoesOn whole notes (Some given)
+  pub at : IsAt made is_new may_begin shape awaits counts knows left whole g number kept notes (Some given) task
+  pub permitted : IsPermittedTurn g (turns_view g number (noted_turns notes)) given
+
+-- the actor has these answered turns, and this one waits for its answer: they go on as a sequence of the routine, and what is
+-- counted is counted of them
+pub record IsAgreeing {P M X : Type 0} (made : P → M) (is_new : P → Type 0) (may_begin : M → Geometry → View → Type 0) (shape : M → Geometry → Own → X → Type 0) (awaits : P → Geometry → View → Own → Action → Type 0) (counts : X → Tally) (knows : View → Task M → Type 0) (left : Ended X → Notes → Unit {0} → Type 0) (whole : Notes → Unit {0} → Type 0) (g : Geometry) (number : ℕ) (kept : Action) (task : Task P) (counter : Counter) (tally : Tally) (turns : Turns) (last : Option Turn) : Type 0 where
+  pub notes : Notes
+  pub is : turns ≡ noted_turns notes
+  pub next : GoesOn whole notes last
+  pub events : IsCounted counter (own_list turns)
+  pub ends : tally ≡ notes_tally notes
+  pub pages : length counter.locked.items ≡ page_count g
+  pub at : IsAt made is_new may_begin shape awaits counts knows left whole g number kept notes last task
+
+-- a turn was answered, with what its answer counts, and another is given after it
+pub record IsAnswered (given : Notes → Type 0) (old new : Tally) (notes : Notes) (answered : Turn) (heard : Heard) : Type 0 where
+  pub counts : Option Tally
+  pub ends : new ≡ tally_with old counts
+  pub next : given (notes ++ record { turn = answered; heard = heard; counts = counts } ∷ [])
+
+-- the piece of work that runs awaits the answer to an action, and this reply fits
+pub record IsWorkHeard (at : Notes → Option Turn → Type 0) (g : Geometry) (number : ℕ) (reply : Reply) : Type 0 where
+  pub notes : Notes
+  pub action : Action
+  pub here : at notes (Some (turn.Do action))
+  pub fits : Fits g (turns_view g number (noted_turns notes)) action reply
+
+-- a worker is new: its first task comes next, and nothing is counted
+pub record IsNewWorker (first : Type 0) (g : Geometry) (counter : Counter) (tally : Tally) : Type 0 where
+  pub next : first
+  pub events : IsCounted counter []
+  pub ends : tally ≡ zero_tally
+  pub pages : length counter.locked.items ≡ page_count g

@@ -1,0 +1,8 @@
+//! Actors that do one task after the other, as their routine says.
+#![tactic(auto)]
+
+pub mod routine;
+pub mod worker;
+
+pub use routine::{Ended, Routine, Task};
+pub use worker::Worker;

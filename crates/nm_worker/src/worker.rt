@@ -1,0 +1,181 @@
+//! An actor that follows a routine.
+
+ghost use Rattle.std.specs.Prelude.{◌≡◌, ℕ, [], ◌∷◌, ◌++◌, length, IfOk, Option, Some};
+ghost use Rattle.nm_base.specs.Geometry.{Geometry};
+ghost use Rattle.nm_action.specs.declared.action.Action.{Action};
+ghost use Rattle.nm_action.specs.declared.turn.Turn.{Turn};
+ghost use Rattle.nm_action.specs.declared.turn.Turn.TheVariants as turn;
+ghost use Rattle.nm_action.specs.declared.turn.Heard.TheVariants.{Answer};
+ghost use Rattle.nm_action.specs.Own.{Own};
+ghost use Rattle.nm_view.specs.Views.{View};
+ghost use Rattle.nm_view.specs.Opening.{opening};
+ghost use Rattle.nm_event.specs.Fitting.{Fits};
+ghost use Rattle.nm_part.specs.Patterns.{IsLeft};
+ghost use Rattle.nm_tally.specs.Counting.{IsCounted};
+ghost use Rattle.nm_actor.specs.Turns.{Turns, turns_view};
+ghost use Rattle.nm_worker.specs.Notes.{Notes, noted_turns};
+ghost use Rattle.nm_worker.specs.Routines.{task_made, IsNextTask, IsTaskOver, HasTaskOver, CanBeginTask};
+ghost use Rattle.nm_worker.specs.Workers.{IsAt, IsGiven, IsAnswered, IsWorkHeard, IsNewWorker};
+
+use crate::routine::{Ended, Routine, Task};
+use nm_actor::Actor;
+use nm_base::Geometry;
+use nm_event::{Action, Heard, Reply, Step, Tally, Turn};
+use nm_part::Piece;
+use nm_tally::Counter;
+use std::alloc::{AllocError, Global};
+
+/// The actor that a routine makes of its tasks: it runs a piece of work to its end, puts a page or takes one, and then
+/// does what the routine says; it counts the events, and the ends of the pieces of work.
+#[derive(Drop)]
+pub struct Worker<R, P> {
+    routine: R,
+    task: Task<P>,
+    /// The action that awaits its answer, while a piece of work runs.
+    action: Action,
+    events: Counter,
+    ends: Tally,
+}
+
+impl<P: Piece + Drop, R: Routine<P> + Drop> Worker<R, P>
+where
+    P::Outcome: Drop,
+{
+    /// The actor that follows this routine. `AllocError` comes where there is no memory for what it counts with.
+    /// Conditions: the routine has given no task yet, and it is one for this geometry.
+    pub fn new(alloc: Global, g: &Geometry, routine: R) -> Result<Worker<R, P>, AllocError>
+        requires new { R.is_new routine }
+        requires geometry { R.geometry (R.made routine) ≡ g.now }
+        ensures made { IfOk result (λ w. R.made w.routine ≡ R.made routine) }
+        ensures new { IfOk result (λ w. IsNewWorker
+            (IsNextTask P.made P.is_new P.may_begin P.shape R.counts (R.knows w.routine) (R.left w.routine) (R.shape (R.made w.routine)) (R.geometry (R.made w.routine)) (opening (R.geometry (R.made w.routine)) (R.number (R.made w.routine))) w.task)
+            (R.geometry (R.made w.routine)) w.events w.ends) }
+    {
+        let events = Counter::new(alloc, g)?;
+        let mut routine = routine;
+        let task = routine.begin();
+        Ok(Worker {
+            routine,
+            task,
+            action: Action::Poll,
+            events,
+            ends: Tally::default(),
+        })
+    }
+
+    /// Its routine.
+    pub fn routine(&self) -> &R
+        ensures { result.now ≡ self.now.routine }
+    {
+        &self.routine
+    }
+
+    /// The first turn of its task.
+    fn give(&mut self) -> Turn
+        requires { CanBeginTask P.made P.is_new P.may_begin self.old.task }
+        ensures routine { self.new.routine ≡ self.old.routine }
+        ensures events { self.new.events ≡ self.old.events }
+        ensures ends { self.new.ends ≡ self.old.ends }
+        ensures given { (notes : Notes)
+            → IsNextTask P.made P.is_new P.may_begin P.shape R.counts (R.knows self.old.routine) (R.left self.old.routine) (λ rest outcome. R.shape (R.made self.old.routine) (notes ++ rest) outcome) (R.geometry (R.made self.old.routine)) (turns_view (R.geometry (R.made self.old.routine)) (R.number (R.made self.old.routine)) (noted_turns notes)) self.old.task
+            → IsGiven P.made P.is_new P.may_begin P.shape P.awaits R.counts (R.knows self.old.routine) (R.left self.old.routine) (R.shape (R.made self.old.routine)) (R.geometry (R.made self.old.routine)) (R.number (R.made self.old.routine)) self.new.action self.new.task result notes }
+    {
+        match &mut self.task {
+            Task::Run(piece) => {
+                let action = piece.start();
+                self.action = action;
+                Turn::Do(action)
+            }
+            Task::Put(lane, page) => Turn::Put(*lane, *page),
+            Task::Take(lane) => Turn::Take(*lane),
+            Task::Stop => Turn::End,
+        }
+    }
+
+    /// The first turn of the task after its own, which has ended so.
+    fn go_on(&mut self, end: Ended<P::Outcome>) -> Turn
+        requires { HasTaskOver P.made P.shape P.leaves P.ended (R.knows self.old.routine) (R.geometry (R.made self.old.routine)) self.old.task end }
+        ensures made { R.made self.new.routine ≡ R.made self.old.routine }
+        ensures events { self.new.events ≡ self.old.events }
+        ensures ends { self.new.ends ≡ self.old.ends }
+        ensures given { (notes : Notes) (now : View) → R.knows self.old.routine now (task_made P.made self.old.task)
+            → IsTaskOver P.made P.shape P.leaves P.ended (R.geometry (R.made self.old.routine)) now (turns_view (R.geometry (R.made self.old.routine)) (R.number (R.made self.old.routine)) (noted_turns notes)) self.old.task end
+            → IsLeft (R.shape (R.made self.old.routine)) notes (R.left self.old.routine end)
+            → IsGiven P.made P.is_new P.may_begin P.shape P.awaits R.counts (R.knows self.new.routine) (R.left self.new.routine) (R.shape (R.made self.old.routine)) (R.geometry (R.made self.old.routine)) (R.number (R.made self.old.routine)) self.new.action self.new.task result notes }
+    {
+        self.task = self.routine.go_on(&self.task, end);
+        self.give()
+    }
+
+    /// The turn after a reply to the piece of work that runs.
+    fn hear(&mut self, reply: Reply) -> Turn
+        requires { IsWorkHeard (λ notes last. IsAt P.made P.is_new P.may_begin P.shape P.awaits R.counts (R.knows self.old.routine) (R.left self.old.routine) (R.shape (R.made self.old.routine)) (R.geometry (R.made self.old.routine)) (R.number (R.made self.old.routine)) self.old.action notes last self.old.task) (R.geometry (R.made self.old.routine)) (R.number (R.made self.old.routine)) reply }
+        ensures made { R.made self.new.routine ≡ R.made self.old.routine }
+        ensures events { self.new.events ≡ self.old.events }
+        ensures given { (notes : Notes) (action : Action)
+            → IsAt P.made P.is_new P.may_begin P.shape P.awaits R.counts (R.knows self.old.routine) (R.left self.old.routine) (R.shape (R.made self.old.routine)) (R.geometry (R.made self.old.routine)) (R.number (R.made self.old.routine)) self.old.action notes (Some (turn.Do action)) self.old.task
+            → Fits (R.geometry (R.made self.old.routine)) (turns_view (R.geometry (R.made self.old.routine)) (R.number (R.made self.old.routine)) (noted_turns notes)) action reply
+            → IsAnswered (IsGiven P.made P.is_new P.may_begin P.shape P.awaits R.counts (R.knows self.new.routine) (R.left self.new.routine) (R.shape (R.made self.old.routine)) (R.geometry (R.made self.old.routine)) (R.number (R.made self.old.routine)) self.new.action self.new.task result) self.old.ends self.new.ends notes (turn.Do action) (Answer reply) }
+    {
+        let Task::Run(piece) = &mut self.task else {
+            unreachable!()
+        };
+        match piece.after(reply) {
+            Step::Do(action) => {
+                self.action = action;
+                Turn::Do(action)
+            }
+            Step::Over(end) => {
+                self.ends = self.ends.plus(R::counts(&end));
+                self.go_on(Ended::Run(end))
+            }
+        }
+    }
+}
+
+impl<P: Piece + Drop, R: Routine<P> + Drop> Actor for Worker<R, P>
+where
+    P::Outcome: Drop,
+{
+    type Made = R::Made;
+
+    ghost use Rattle.std.specs.Prelude.{◌≡◌, [], None, refl};
+    ghost use Rattle.nm_view.specs.Opening.{opening};
+    ghost use Rattle.nm_action.specs.Tally.{sum_of};
+    ghost use Rattle.nm_worker.specs.Routines.{IsNextTask};
+    ghost use Rattle.nm_worker.specs.Workers.{IsNewWorker, IsAgreeing};
+
+    ghost made = { λ w. R.made w.routine };
+
+    ghost geometry = { R.geometry };
+
+    ghost number = { R.number };
+
+    ghost is_new = { λ w. IsNewWorker
+        (IsNextTask P.made P.is_new P.may_begin P.shape R.counts (R.knows w.routine) (R.left w.routine) (R.shape (R.made w.routine)) (R.geometry (R.made w.routine)) (opening (R.geometry (R.made w.routine)) (R.number (R.made w.routine))) w.task)
+        (R.geometry (R.made w.routine)) w.events w.ends };
+
+    ghost agrees = { λ w. IsAgreeing P.made P.is_new P.may_begin P.shape P.awaits R.counts (R.knows w.routine) (R.left w.routine) (R.shape (R.made w.routine)) (R.geometry (R.made w.routine)) (R.number (R.made w.routine)) w.action w.task w.events w.ends };
+
+    ghost counted = { λ w. sum_of w.events.tally w.ends };
+
+    fn next(&mut self, heard: Heard) -> Turn {
+        match heard {
+            Heard::Start => self.give(),
+            Heard::Answer(reply) => {
+                self.events.note(self.action, reply);
+                self.hear(reply)
+            }
+            Heard::PutDone => self.go_on(Ended::Put { full: false }),
+            Heard::PutFull => self.go_on(Ended::Put { full: true }),
+            Heard::Took(page) => self.go_on(Ended::Take(Some(page))),
+            Heard::TookNone => self.go_on(Ended::Take(None)),
+        }
+    }
+
+    fn tally(&self) -> Tally {
+        self.events.tally().plus(self.ends)
+    }
+
+    ghost opens = { λ w new. record { notes = []; is = refl; next = refl; events = new.events; ends = new.ends; pages = new.pages; at = new.next } };
+}
