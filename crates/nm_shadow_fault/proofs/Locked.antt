@@ -12,7 +12,7 @@ use Rattle.nm_event.specs.After.{after_of, view_after}
 use Rattle.nm_part.specs.Parts.{IsAsked, IsEnded}
 use Rattle.nm_part.specs.Patterns.{CanEnd}
 use Rattle.nm_part.proofs.OwnLemmas.{view-push}
-use Rattle.nm_fault.specs.Locking.{lock_refused, IsLockTaken, LocksPage, MayLocks, LeavesLocked, AwaitsLock}
+use Rattle.nm_shadow_fault.specs.Locking.{lock_refused, IsLockTaken, LocksPage, MayLocks, LeavesLocked, AwaitsLock}
 
 -- refusals leave the view as it was
 pub refused-view : (g : Geometry) (view : View) (page : ℕ) (busy : List ℕ) → view_after g view (lock_refused page busy) ≡ view

@@ -1,8 +1,8 @@
-use Rattle.nm_fault.specs.declared.shadow.ShadowStage.TheVariants.{Locking}
-use Rattle.nm_fault.specs.ShadowFault.{IsShadowFault}
-use Rattle.nm_fault.specs.Granting.{fault_made}
-use Rattle.nm_fault.proofs.Stepping.{gives-now, runs-lock}
-use Rattle.nm_fault.proofs.shadow.ShadowFaultPlanFaultPiece.begin.Goals as goal
+use Rattle.nm_shadow_fault.specs.declared.shadow.ShadowStage.TheVariants.{Locking}
+use Rattle.nm_shadow_fault.specs.ShadowFault.{IsShadowFault}
+use Rattle.nm_shadow_fault.specs.Granting.{fault_made}
+use Rattle.nm_shadow_fault.proofs.Stepping.{gives-now, runs-lock}
+use Rattle.nm_shadow_fault.proofs.shadow.ShadowFaultPlanFaultPiece.begin.Goals as goal
 
 pub returns-clause-run : goal.returns-clause-run
 returns-clause-run c = λ g view may.

@@ -1,8 +1,8 @@
 use Rattle.std.proofs.Common.{◌∙◌, ◌-◌, ap, refl, rules}
 use Rattle.nm_compose.specs.declared.or.Or.TheVariants.{This, Other}
-use Rattle.nm_fault.specs.declared.shadow.ShadowStage.TheVariants.{Unlocking}
-use Rattle.nm_fault.proofs.Stepping.{after-lock, after-look, after-free, after-home, after-none, after-shadow, after-discard, after-grant, after-unlock, ends-ready, ends-granted, ends-back}
-use Rattle.nm_fault.proofs.shadow.ShadowFaultPlanFaultPiece.go_on.Goals as goal
+use Rattle.nm_shadow_fault.specs.declared.shadow.ShadowStage.TheVariants.{Unlocking}
+use Rattle.nm_shadow_fault.proofs.Stepping.{after-lock, after-look, after-free, after-home, after-none, after-shadow, after-discard, after-grant, after-unlock, ends-ready, ends-granted, ends-back}
+use Rattle.nm_shadow_fault.proofs.shadow.ShadowFaultPlanFaultPiece.go_on.Goals as goal
 
 pub returns-in_default-clause-next : goal.returns-in_default-clause-next
 returns-in_default-clause-next c = λ g first now later own known shown left over.

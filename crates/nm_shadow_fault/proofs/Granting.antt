@@ -21,8 +21,8 @@ use Rattle.nm_compose.specs.Acts.{IsActed}
 use Rattle.nm_reclaim.specs.Swept.{IsForgotten, IsSwept}
 use Rattle.nm_reclaim.proofs.Lasts.{put_last, erase_last}
 use Rattle.nm_reclaim.proofs.Views.{forgets-none, forgets-more, shadow-spoiled}
-use Rattle.nm_fault.specs.ShadowFault.{needs_grant}
-use Rattle.nm_fault.specs.Granting.{FaultsMade, MayFault, fault_op, with_op, IsAtLook, IsFaultLooked, IsGrantNeeded, IsAtShadow, IsAtDiscard, HoldsShadow, IsAtGrant, IsAtUnlock, IsAtBack}
+use Rattle.nm_shadow_fault.specs.ShadowFault.{needs_grant}
+use Rattle.nm_shadow_fault.specs.Granting.{FaultsMade, MayFault, fault_op, with_op, IsAtLook, IsFaultLooked, IsGrantNeeded, IsAtShadow, IsAtDiscard, HoldsShadow, IsAtGrant, IsAtUnlock, IsAtBack}
 
 pub same-number : (n : ℕ) → (n == n) ≡ true
 same-number n = grind arith

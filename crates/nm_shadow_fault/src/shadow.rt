@@ -2,9 +2,9 @@
 
 ghost use Rattle.std.specs.Prelude.{◌≡◌, ◌≢◌, ◌<◌, ◌+◌};
 ghost use Rattle.nm_base.specs.Geometry.{frame_count};
-ghost use Rattle.nm_fault.specs.declared.shadow.ShadowStage.TheVariants.{New};
-ghost use Rattle.nm_fault.specs.ShadowFault.{needs_grant};
-ghost use Rattle.nm_fault.specs.Granting.{fault_piece_made, fault_piece_of, IsNewFaultPiece, HasFaultFrame};
+ghost use Rattle.nm_shadow_fault.specs.declared.shadow.ShadowStage.TheVariants.{New};
+ghost use Rattle.nm_shadow_fault.specs.ShadowFault.{needs_grant};
+ghost use Rattle.nm_shadow_fault.specs.Granting.{fault_piece_made, fault_piece_of, IsNewFaultPiece, HasFaultFrame};
 
 use crate::fault::{FaultEnd, FaultMade};
 use crate::locks::Locks;
@@ -116,9 +116,9 @@ impl<'a> Plan<FaultPiece> for ShadowFault<'a> {
 
     ghost use Rattle.std.specs.Prelude.{◌≡◌};
     ghost use Rattle.nm_compose.specs.Stages.{IsPieceAt};
-    ghost use Rattle.nm_fault.specs.declared.shadow.ShadowStage.TheVariants.{New};
-    ghost use Rattle.nm_fault.specs.ShadowFault.{IsShadowFault};
-    ghost use Rattle.nm_fault.specs.Granting.{fault_made, MayFault, IsFaulted, shadow_stages, fault_left};
+    ghost use Rattle.nm_shadow_fault.specs.declared.shadow.ShadowStage.TheVariants.{New};
+    ghost use Rattle.nm_shadow_fault.specs.ShadowFault.{IsShadowFault};
+    ghost use Rattle.nm_shadow_fault.specs.Granting.{fault_made, MayFault, IsFaulted, shadow_stages, fault_left};
 
     ghost made = { λ s. fault_made s.geometry.now s.made };
 

@@ -32,17 +32,17 @@ use Rattle.nm_pool.specs.Given.{pool_made}
 use Rattle.nm_reclaim.specs.Reclaims.{word_in}
 use Rattle.nm_reclaim.proofs.Sweeping.{back-left}
 use Rattle.nm_reclaim.proofs.Views.{owned-there}
-use Rattle.nm_fault.specs.declared.fault.FaultEnd.{FaultEnd}
-use Rattle.nm_fault.specs.declared.fault.FaultEnd.TheVariants.{Ready, Granted}
-use Rattle.nm_fault.specs.declared.fault.FaultMade.{FaultMade}
-use Rattle.nm_fault.specs.declared.shadow.ShadowFault.{ShadowFault}
-use Rattle.nm_fault.specs.declared.shadow.ShadowStage.{ShadowStage}
-use Rattle.nm_fault.specs.declared.shadow.ShadowStage.TheVariants.{Locking, Looking, Leaving, ReadingHome, ReadingShadow, Discarding, Granting, Unlocking, PuttingBack}
-use Rattle.nm_fault.specs.Locking.{LocksPage}
-use Rattle.nm_fault.specs.ShadowFault.{needs_grant, GrantPutsBack, Grants, GrantAfterShadow, GrantAfterHome, GrantAfterLook, IsShadowFault}
-use Rattle.nm_fault.specs.Granting.{FaultPieceMade, FaultPieceEnd, FaultPiece, fault_piece_made, IsNewFaultPiece, MayFaultPiece, IsFaultPiece, LeavesFaultPiece, FaultsMade, fault_made, MayFault, IsFaulted, fault_piece_of, fault_told, fault_left, fault_op, with_op, IsAtLook, IsFaultLooked, IsGrantNeeded, IsAtShadow, IsAtDiscard, IsAtGrant, IsAtUnlock, IsAtBack, KnownInFault, shadow_stages}
-use Rattle.nm_fault.proofs.Locked.{some-lock}
-use Rattle.nm_fault.proofs.Granting.{same-number, known-there, looked-view, home-read, shadow-none, shadow-read, discarded, granted, left-ready, left-granted, left-shadow, back-done}
+use Rattle.nm_shadow_fault.specs.declared.fault.FaultEnd.{FaultEnd}
+use Rattle.nm_shadow_fault.specs.declared.fault.FaultEnd.TheVariants.{Ready, Granted}
+use Rattle.nm_shadow_fault.specs.declared.fault.FaultMade.{FaultMade}
+use Rattle.nm_shadow_fault.specs.declared.shadow.ShadowFault.{ShadowFault}
+use Rattle.nm_shadow_fault.specs.declared.shadow.ShadowStage.{ShadowStage}
+use Rattle.nm_shadow_fault.specs.declared.shadow.ShadowStage.TheVariants.{Locking, Looking, Leaving, ReadingHome, ReadingShadow, Discarding, Granting, Unlocking, PuttingBack}
+use Rattle.nm_shadow_fault.specs.Locking.{LocksPage}
+use Rattle.nm_shadow_fault.specs.ShadowFault.{needs_grant, GrantPutsBack, Grants, GrantAfterShadow, GrantAfterHome, GrantAfterLook, IsShadowFault}
+use Rattle.nm_shadow_fault.specs.Granting.{FaultPieceMade, FaultPieceEnd, FaultPiece, fault_piece_made, IsNewFaultPiece, MayFaultPiece, IsFaultPiece, LeavesFaultPiece, FaultsMade, fault_made, MayFault, IsFaulted, fault_piece_of, fault_told, fault_left, fault_op, with_op, IsAtLook, IsFaultLooked, IsGrantNeeded, IsAtShadow, IsAtDiscard, IsAtGrant, IsAtUnlock, IsAtBack, KnownInFault, shadow_stages}
+use Rattle.nm_shadow_fault.proofs.Locked.{some-lock}
+use Rattle.nm_shadow_fault.proofs.Granting.{same-number, known-there, looked-view, home-read, shadow-none, shadow-read, discarded, granted, left-ready, left-granted, left-shadow, back-done}
 
 -- Lists of a piece.
 

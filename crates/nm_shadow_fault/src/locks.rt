@@ -27,7 +27,7 @@ impl Part for Locks {
     type Made = u32;
 
     ghost use Rattle.nm_part.specs.Parts.{NothingTold};
-    ghost use Rattle.nm_fault.specs.Locking.{LocksPage, MayLocks, LeavesLocked, AwaitsLock};
+    ghost use Rattle.nm_shadow_fault.specs.Locking.{LocksPage, MayLocks, LeavesLocked, AwaitsLock};
 
     ghost made = { λ p. p.page };
 

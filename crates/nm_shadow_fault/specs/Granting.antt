@@ -33,14 +33,14 @@ use Rattle.nm_pool.specs.Stages.{made_of, IsNewPool}
 use Rattle.nm_reclaim.specs.Reclaims.{word_in}
 use Rattle.nm_reclaim.specs.Swept.{IsForgotten, IsSwept}
 use Rattle.nm_reclaim.specs.Sweeping.{HasShadow}
-use Rattle.nm_fault.specs.declared.fault.FaultEnd.{FaultEnd}
-use Rattle.nm_fault.specs.declared.fault.FaultEnd.TheVariants.{Ready, Granted}
-use Rattle.nm_fault.specs.declared.fault.FaultMade.{FaultMade}
-use Rattle.nm_fault.specs.declared.locks.Locks.{Locks}
-use Rattle.nm_fault.specs.declared.shadow.ShadowStage.{ShadowStage}
-use Rattle.nm_fault.specs.declared.shadow.ShadowStage.TheVariants.{New, Locking, Looking, Leaving, ReadingHome, ReadingShadow, Discarding, Granting, Unlocking, PuttingBack}
-use Rattle.nm_fault.specs.Locking.{LocksPage, MayLocks, LeavesLocked}
-use Rattle.nm_fault.specs.ShadowFault.{needs_grant, GrantPutsBack, Grants, GrantAfterShadow, GrantAfterHome, GrantAfterLook}
+use Rattle.nm_shadow_fault.specs.declared.fault.FaultEnd.{FaultEnd}
+use Rattle.nm_shadow_fault.specs.declared.fault.FaultEnd.TheVariants.{Ready, Granted}
+use Rattle.nm_shadow_fault.specs.declared.fault.FaultMade.{FaultMade}
+use Rattle.nm_shadow_fault.specs.declared.locks.Locks.{Locks}
+use Rattle.nm_shadow_fault.specs.declared.shadow.ShadowStage.{ShadowStage}
+use Rattle.nm_shadow_fault.specs.declared.shadow.ShadowStage.TheVariants.{New, Locking, Looking, Leaving, ReadingHome, ReadingShadow, Discarding, Granting, Unlocking, PuttingBack}
+use Rattle.nm_shadow_fault.specs.Locking.{LocksPage, MayLocks, LeavesLocked}
+use Rattle.nm_shadow_fault.specs.ShadowFault.{needs_grant, GrantPutsBack, Grants, GrantAfterShadow, GrantAfterHome, GrantAfterLook}
 
 -- Pieces: the page is locked, a single action, or a frame is put back.
 

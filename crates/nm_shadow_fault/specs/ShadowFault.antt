@@ -11,10 +11,10 @@ use Rattle.nm_compose.specs.Acts.{IsAct}
 use Rattle.nm_pool.specs.declared.job.PoolJob.TheVariants.{Back}
 use Rattle.nm_pool.specs.Pool.{IsPool}
 use Rattle.nm_reclaim.specs.Reclaims.{word_in}
-use Rattle.nm_fault.specs.declared.fault.FaultEnd.{FaultEnd}
-use Rattle.nm_fault.specs.declared.fault.FaultEnd.TheVariants.{Ready, Granted}
-use Rattle.nm_fault.specs.declared.fault.FaultMade.{FaultMade}
-use Rattle.nm_fault.specs.Locking.{LocksPage}
+use Rattle.nm_shadow_fault.specs.declared.fault.FaultEnd.{FaultEnd}
+use Rattle.nm_shadow_fault.specs.declared.fault.FaultEnd.TheVariants.{Ready, Granted}
+use Rattle.nm_shadow_fault.specs.declared.fault.FaultMade.{FaultMade}
+use Rattle.nm_shadow_fault.specs.Locking.{LocksPage}
 
 -- a word is present, and keeps the right to write for later: a store through it needs the fault
 abbrev pub needs_grant : ℕ → Bool

@@ -1,5 +1,5 @@
-use Rattle.nm_fault.proofs.Locked.{lock-step, lock-ended}
-use Rattle.nm_fault.proofs.locks.LocksPart.after.Goals as goal
+use Rattle.nm_shadow_fault.proofs.Locked.{lock-step, lock-ended}
+use Rattle.nm_shadow_fault.proofs.locks.LocksPart.after.Goals as goal
 
 pub returns-in-Busy-clause-step : goal.returns-in-Busy-clause-step
 returns-in-Busy-clause-step c = λ g v own action awaited fits. rw c.in-Busy.is (lock-step c.args.self.now.page g v own action c.in-Busy.field-0 awaited)
