@@ -4,3 +4,4 @@ pub mod Runs
 pub mod Steps
 pub mod Moving
 pub mod LockedSteps
+pub mod Tasks

@@ -1,0 +1,38 @@
+-- The locked move as a task: a move, or none between two.
+use Rattle.std.specs.Prelude.{◌≡◌, Option, Some, None}
+use Rattle.nm_base.specs.Geometry.{Geometry}
+use Rattle.nm_action.specs.declared.action.Action.{Action}
+use Rattle.nm_action.specs.Own.{Own}
+use Rattle.nm_view.specs.Views.{View}
+use Rattle.nm_compose.specs.declared.composite.Composite.{Composite}
+use Rattle.nm_locked.specs.declared.choose.ChooseMade.{ChooseMade}
+use Rattle.nm_locked.specs.declared.locked.Locked.{Locked}
+use Rattle.nm_locked.specs.declared.task.LockedTask.{LockedTask}
+use Rattle.nm_locked.specs.Pieces.{LockedPiece}
+
+abbrev pub LockedMade : Type 0
+LockedMade = Geometry × ChooseMade
+
+abbrev pub LockedRun : Type 0
+LockedRun = Composite Locked LockedPiece
+
+-- what it was begun with, in which geometry
+abbrev pub locked_task_made : LockedTask → LockedMade
+locked_task_made t = (t.geometry.now, t.made)
+
+-- In these, what the move inside tells of itself, as a part, is given: that it is new, what it was made with, what it awaits.
+
+-- there is a move, which was made for this work, and of which this holds
+pub record IsMoveFor (holds : Type 0) (made run : LockedMade) : Type 0 where
+  pub held : holds
+  pub for : run ≡ made
+
+-- the move has given no action
+abbrev pub IsNewMove : (LockedRun → Type 0) → (LockedRun → LockedMade) → LockedMade → Option LockedRun → Type 0
+IsNewMove is_new made_by made None = ⊥
+IsNewMove is_new made_by made (Some run) = IsMoveFor (is_new run) made (made_by run)
+
+-- the move awaits the answer to an action
+abbrev pub AwaitsMove : (LockedRun → Geometry → View → Own → Action → Type 0) → (LockedRun → LockedMade) → LockedMade → Option LockedRun → Geometry → View → Own → Action → Type 0
+AwaitsMove awaits made_by made None g view own action = ⊥
+AwaitsMove awaits made_by made (Some run) g view own action = IsMoveFor (awaits run g view own action) made (made_by run)
