@@ -1,0 +1,10 @@
+pub mod Lists
+pub mod Pieces
+pub mod Opened
+pub mod Ending
+pub mod Steps
+pub mod Copying
+pub mod Deciding
+pub mod Unmapping
+pub mod Preparing
+pub mod Tasks

@@ -1,0 +1,10 @@
+//! Batches of transactions: up to eight pages are moved to the next faster tier together, and share the two flushes.
+#![tactic(auto)]
+
+pub mod batch;
+pub mod list;
+pub mod task;
+
+pub use batch::{Batch, BatchAsked, ends_of};
+pub use list::PieceList;
+pub use task::BatchTask;
