@@ -25,7 +25,7 @@ use Rattle.nm_mappings.specs.declared.visits.VisitsMade.{VisitsMade}
 use Rattle.nm_mappings.proofs.Visited.{arms-left}
 use Rattle.nm_prepare.proofs.Found.{vpages-all}
 use Rattle.nm_looks.specs.declared.seen.Seen.{Seen}
-use Rattle.nm_looks.specs.Seeing.{LooksData, IsLooks, seen_view, IsSeen}
+use Rattle.nm_looks.specs.Seeing.{LooksData, IsLooks, seen_view, HasLooked}
 use Rattle.nm_looks.specs.Parts.{page_looks}
 use Rattle.nm_looks.proofs.Leaving.{outside-told, outside-all}
 use Rattle.nm_cool.specs.declared.cool.Cool.{Cool}
@@ -34,7 +34,7 @@ use Rattle.nm_cool.specs.declared.cool.CoolStage.TheVariants.{Locking, Looking, 
 use Rattle.nm_cool.specs.declared.cool.Cooled.{Cooled}
 use Rattle.nm_cool.specs.declared.cool.Cooled.TheVariants as ends
 use Rattle.nm_cool.specs.Cooling.{CoolData, UnlocksCold, MarksCold, ArmsCold, LooksCold, AfterColdLock, IsCooling, MayCool, IsCooledLeft}
-use Rattle.nm_cool.specs.Stages.{cool_data, CoolPieceMade, CoolPieceEnd, MayCoolPiece, IsCoolPiece, CoolPieceLeaves, CoolPiece, cool_piece_made, IsNewCoolPiece, cool_reply, outside_in, cool_piece, arm_stage, cool_left, IsColdLocking, cold_op, IsColdOpen, IsColdArming, IsColdArmed, KnownInCool, cool_stages}
+use Rattle.nm_cool.specs.Stages.{cool_data, CoolPieceMade, CoolPieceEnd, MayCoolPiece, IsCoolPiece, CoolPieceLeaves, CoolPiece, cool_piece_made, IsNewCoolPiece, cool_reply, outside_in, cool_piece, cool_arm_stage, cool_left, IsColdLocking, cold_op, IsColdOpen, IsColdArming, IsColdArmed, KnownInCool, cool_stages}
 use Rattle.nm_cool.proofs.Ending.{can-unlocks, can-marks, can-arms, can-after-lock}
 use Rattle.nm_cool.proofs.Opened.{cold-some, cold-seen, cold-unlocked, looked-each}
 
@@ -109,7 +109,7 @@ marks-run made looked g view now h =
 -- 3. The Arms.
 
 -- these virtual pages are armed, if there are any
-arms-run : (made : CoolData) (pages : List ℕ) (g : Geometry) (view now : View) → IsColdArming made pages g view now → RunsCool made (arm_stage pages) (ArmsCold made g pages) g view now
+arms-run : (made : CoolData) (pages : List ℕ) (g : Geometry) (view now : View) → IsColdArming made pages g view now → RunsCool made (cool_arm_stage pages) (ArmsCold made g pages) g view now
 arms-run made [] g view now h =
     let run = marks-run made h.looked g view now h.opened in
     record {
@@ -131,14 +131,14 @@ arms-run made (v ∷ vs) g view now h =
           (other-follows IsAct IsOthers (cool_left made (Arming (v ∷ vs)) g) (Other (arms_made made.1 (v ∷ vs))) g own outcome f);
     }
 
-looked-at : (made : CoolData) (g : Geometry) (view now later : View) (seen : Seen) → IsColdOpen made [] g view now → (a : IsSeen (page_looks made.0 made.1 0) now seen later) → IsColdOpen made a.told g view later
+looked-at : (made : CoolData) (g : Geometry) (view now later : View) (seen : Seen) → IsColdOpen made [] g view now → (a : HasLooked (page_looks made.0 made.1 0) now seen later) → IsColdOpen made a.told g view later
 looked-at made g view now later seen h a = record {
   may = h.may;
   is = a.is ∙ ap (λ (v : View). seen_view made.1 a.told v) h.is ∙ cold-seen made.1 a.told view h.may.lock.fresh a.once;
 }
 
 pub after-looking : (made : CoolData) (g : Geometry) (view now later : View) (own : Own) (end : CoolPieceEnd) → IsColdOpen made [] g view now → EndsSo own (Other (This (page_looks made.0 made.1 0))) g now end later
-    → RunsCool made (arm_stage (outside_in end)) (ArmsCold made g (outside_in end)) g view later
+    → RunsCool made (cool_arm_stage (outside_in end)) (ArmsCold made g (outside_in end)) g view later
 after-looking made g view now later own (This x) h a = absurd a.0
 after-looking made g view now later own (Other (Other x)) h a = absurd a.0
 after-looking made g view now later own (Other (This seen)) h a =

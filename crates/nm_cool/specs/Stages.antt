@@ -24,7 +24,7 @@ use Rattle.nm_mappings.specs.Visiting.{visit_place, visit_left, visit_stages}
 use Rattle.nm_mappings.specs.declared.visits.VisitsMade.{VisitsMade}
 use Rattle.nm_mappings.specs.declared.visits.VisitPlan.{VisitPlan}
 use Rattle.nm_looks.specs.declared.seen.Seen.{Seen}
-use Rattle.nm_looks.specs.Seeing.{LooksData, IsLooks, MayLooks, IsSeen}
+use Rattle.nm_looks.specs.Seeing.{LooksData, IsLooks, MayLooks, HasLooked}
 use Rattle.nm_looks.specs.Parts.{page_looks, LooksPart, looks_part_data, IsNewLooksPart}
 use Rattle.nm_cool.specs.declared.cool.Cool.{Cool}
 use Rattle.nm_cool.specs.declared.cool.CoolStage.{CoolStage}
@@ -51,7 +51,7 @@ abbrev pub IsCoolPiece : CoolPieceMade → Geometry → Own → CoolPieceEnd →
 IsCoolPiece = IsOr IsAct (IsOr IsLooks IsVisits)
 
 abbrev pub CoolPieceLeaves : CoolPieceMade → Geometry → View → CoolPieceEnd → View → Type 0
-CoolPieceLeaves = LeavesOr (λ action g view reply left. IsActed g view action reply left) (LeavesOr (λ made g view seen left. IsSeen made view seen left) (λ made g view found left. IsVisited made view found left))
+CoolPieceLeaves = LeavesOr (λ action g view reply left. IsActed g view action reply left) (LeavesOr (λ made g view seen left. HasLooked made view seen left) (λ made g view found left. IsVisited made view found left))
 
 abbrev pub ArmsPart : Type 0
 ArmsPart = Composite VisitPlan Act
@@ -96,9 +96,9 @@ MayGoCool made (Arming pages) = pages ≢ []
 MayGoCool made _ = Unit {0}
 
 -- where these virtual pages are to be armed
-abbrev pub arm_stage : List ℕ → CoolStage
-arm_stage [] = Marking
-arm_stage (v ∷ vs) = Arming (v ∷ vs)
+abbrev pub cool_arm_stage : List ℕ → CoolStage
+cool_arm_stage [] = Marking
+cool_arm_stage (v ∷ vs) = Arming (v ∷ vs)
 
 -- What is left after the piece of a stage, by how it ends.
 abbrev pub cool_left : CoolData → CoolStage → Geometry → CoolPieceEnd → Own → Cooled → Type 0

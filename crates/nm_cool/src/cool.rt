@@ -5,7 +5,7 @@ ghost use Rattle.nm_compose.specs.declared.or.Or.{Or};
 ghost use Rattle.nm_mappings.specs.Visiting.{IsNewVisits};
 ghost use Rattle.nm_looks.specs.Looking.{looks_data, IsNewLooks};
 ghost use Rattle.nm_cool.specs.declared.cool.CoolStage.{CoolStage};
-ghost use Rattle.nm_cool.specs.Stages.{cool_data, cool_piece, cool_piece_made, IsNewCoolPiece, MayGoCool, arm_stage, outside_in};
+ghost use Rattle.nm_cool.specs.Stages.{cool_data, cool_piece, cool_piece_made, IsNewCoolPiece, MayGoCool, cool_arm_stage, outside_in};
 
 use nm_base::Geometry;
 use nm_compose::{Act, Composite, Next, Or, Plan};
@@ -112,8 +112,8 @@ impl<'a> Cool<'a> {
 }
 
 /// The stage in which these virtual pages are armed; the next one where there is none.
-fn arm_stage(pages: VPageSet) -> CoolStage
-    ensures { result ≡ arm_stage pages }
+fn cool_arm_stage(pages: VPageSet) -> CoolStage
+    ensures { result ≡ cool_arm_stage pages }
 {
     if pages.is_empty() {
         CoolStage::Marking
@@ -203,7 +203,7 @@ impl<'a> Plan<CoolPiece<'a>> for Cool<'a> {
                     Reply::Word(_) | Reply::Lost(_) => unreachable!(),
                 }
             }
-            CoolStage::Looking => Next::Run(self.go(arm_stage(outside_in(end)))),
+            CoolStage::Looking => Next::Run(self.go(cool_arm_stage(outside_in(end)))),
             CoolStage::Arming(_) => Next::Run(self.go(CoolStage::Marking)),
             CoolStage::Marking => Next::Run(self.go(CoolStage::Unlocking)),
             CoolStage::Unlocking => Next::Over(Cooled::Cold),

@@ -11,14 +11,14 @@ use Rattle.nm_view.proofs.Places.{edit-none}
 use Rattle.nm_mappings.specs.declared.visits.Visit.TheVariants as visits
 use Rattle.nm_mappings.specs.Visits.{looks_made, visited, IsVisited}
 use Rattle.nm_looks.specs.declared.seen.Seen.{Seen}
-use Rattle.nm_looks.specs.Seeing.{LooksData, is_mapped_word, is_outside, IsSeen}
+use Rattle.nm_looks.specs.Seeing.{LooksData, is_mapped_word, is_outside, HasLooked}
 
 -- with no operation on the page they leave the view as it was
-pub seen-alone : (made : LooksData) (view left : View) (seen : Seen) → IsSeen made view seen left → op_on view made.1.page ≡ None → left ≡ view
+pub seen-alone : (made : LooksData) (view left : View) (seen : Seen) → HasLooked made view seen left → op_on view made.1.page ≡ None → left ≡ view
 seen-alone made view left seen h none = h.is ∙ ap (λ (l : List Op). record view { ops = l }) (edit-none page_of made.1.page (visited visits.Look h.told) view.ops none)
 
 -- they leave what the Looks leave that find the mapped virtual pages alone
-pub seen-visited : (made : LooksData) (view left : View) (seen : Seen) → IsSeen made view seen left → IsVisited (looks_made made.1.page made.1.pages) view seen.mapped left
+pub seen-visited : (made : LooksData) (view left : View) (seen : Seen) → HasLooked made view seen left → IsVisited (looks_made made.1.page made.1.pages) view seen.mapped left
 seen-visited made view left seen h = record { told = h.told; pages = h.pages; once = h.once; mapped = ap (λ (s : Seen). s.mapped) h.shown; is = h.is }
 
 -- Those of which a test holds.
@@ -71,16 +71,16 @@ outside-some : (g : Geometry) (tier : ℕ) (p : ℕ × ℕ) → is_outside g tie
 outside-some g tier p e = λ zero-is. let t : is_mapped_word p.1 ≡ false = rw zero-is refl in cc
 
 -- each virtual page whose frame is outside the tier was told of a word that is not 0
-pub outside-told : (made : LooksData) (view left : View) (seen : Seen) → (h : IsSeen made view seen left) → All (λ v. IsSomeAnd (find first v h.told) (λ q. q.1 ≢ 0)) seen.outside
+pub outside-told : (made : LooksData) (view left : View) (seen : Seen) → (h : HasLooked made view seen left) → All (λ v. IsSomeAnd (find first v h.told) (λ q. q.1 ≢ 0)) seen.outside
 outside-told made view left seen h =
     subst (λ (s : Seen). All (IsTold h.told) s.outside) (sym h.shown) (where-told (λ p. is_outside made.0 made.1.tier p.1) h.told (outside-some made.0 made.1.tier) h.once)
 
 -- what holds of all virtual pages that were looked at holds of it
-pub outside-all : (P : ℕ → Type 0) (made : LooksData) (view left : View) (seen : Seen) → IsSeen made view seen left → All P made.1.pages → All P seen.outside
+pub outside-all : (P : ℕ → Type 0) (made : LooksData) (view left : View) (seen : Seen) → HasLooked made view seen left → All P made.1.pages → All P seen.outside
 outside-all P made view left seen h all =
     subst (λ (s : Seen). All P s.outside) (sym h.shown) (where-all P (λ p. is_outside made.0 made.1.tier p.1) h.told (subst (All P) (sym h.pages) all))
 
 -- so it does of each that is mapped
-pub mapped-all : (P : ℕ → Type 0) (made : LooksData) (view left : View) (seen : Seen) → IsSeen made view seen left → All P made.1.pages → All P seen.mapped
+pub mapped-all : (P : ℕ → Type 0) (made : LooksData) (view left : View) (seen : Seen) → HasLooked made view seen left → All P made.1.pages → All P seen.mapped
 mapped-all P made view left seen h all =
     subst (λ (s : Seen). All P s.mapped) (sym h.shown) (where-all P (λ p. is_mapped_word p.1) h.told (subst (All P) (sym h.pages) all))

@@ -30,7 +30,7 @@ use Rattle.nm_mappings.proofs.Lists.{first-least, split-has, below-push, vpage-t
 use Rattle.nm_mappings.proofs.Operations.{edit-then, edit-nothing, visited-push, visited-page}
 use Rattle.nm_looks.specs.declared.looks.Looks.{Looks}
 use Rattle.nm_looks.specs.declared.seen.Seen.{Seen}
-use Rattle.nm_looks.specs.Seeing.{LooksData, look_at, is_mapped_word, is_outside, nothing_seen, seen_with, seen_after, seen_of, LookAt, LooksFrom, IsLooks, MayLooks, seen_view, IsSeen}
+use Rattle.nm_looks.specs.Seeing.{LooksData, look_at, is_mapped_word, is_outside, nothing_seen, seen_with_word, seen_after, seen_of, LookAt, LooksFrom, IsLooks, MayLooks, seen_view, HasLooked}
 use Rattle.nm_looks.specs.Looking.{LooksPlace, looks_place, looks_data, looks_left, IsLookingAt, looks_stages}
 use Rattle.nm_looks.proofs.Shown.{seen-push, where-below}
 
@@ -98,7 +98,7 @@ at-first made g view v may small next = record {
 record HasTold (made : LooksData) (seen : Seen) (more : List (ℕ × ℕ)) (v w : ℕ) (told : List (ℕ × ℕ)) (view later : View) : Type 0 where
   pages : map first more ≡ map first told ++ v ∷ []
   once : Once first more
-  shown : seen_with made.0 made.1.tier v w seen ≡ seen_of made.0 made.1.tier more
+  shown : seen_with_word made.0 made.1.tier v w seen ≡ seen_of made.0 made.1.tier more
   is : later ≡ seen_view made.1.page more view
 
 told-more : (made : LooksData) (g : Geometry) (view now later : View) (v w : ℕ) (seen : Seen) → (at : IsLookingAt made v seen g view now) → IsActed g now (look_at v) (Word w) later
@@ -112,7 +112,7 @@ told-more made g view now later v w seen at acted = record {
 
 -- the next one
 at-next : (made : LooksData) (g : Geometry) (view now later : View) (v w u : ℕ) (seen : Seen) → IsLookingAt made v seen g view now → IsActed g now (look_at v) (Word w) later
-    → u < most_vpages → at_or_after (v + 1) made.1.pages ≡ u ∷ at_or_after (u + 1) made.1.pages → IsLookingAt made u (seen_with made.0 made.1.tier v w seen) g view later
+    → u < most_vpages → at_or_after (v + 1) made.1.pages ≡ u ∷ at_or_after (u + 1) made.1.pages → IsLookingAt made u (seen_with_word made.0 made.1.tier v w seen) g view later
 at-next made g view now later v w u seen at acted small next =
     let more = told-more made g view now later v w seen at acted in
     let up = first-least (v + 1) u made.1.pages (at_or_after (u + 1) made.1.pages) next in
@@ -129,7 +129,7 @@ at-next made g view now later v w u seen at acted small next =
 
 -- after the last one
 at-end : (made : LooksData) (g : Geometry) (view now later : View) (v w : ℕ) (seen : Seen) → IsLookingAt made v seen g view now → IsActed g now (look_at v) (Word w) later
-    → at_or_after (v + 1) made.1.pages ≡ [] → IsSeen made view (seen_with made.0 made.1.tier v w seen) later
+    → at_or_after (v + 1) made.1.pages ≡ [] → HasLooked made view (seen_with_word made.0 made.1.tier v w seen) later
 at-end made g view now later v w seen at acted none =
     let more = told-more made g view now later v w seen at acted in
     record {
@@ -173,28 +173,28 @@ place-is old v e = ap (λ (o : Option ℕ). place o old.seen) e
 -- the next action
 pub looks-on : (old new : Looks) (act : Act) (v w u : ℕ) (end : Reply) (g : Geometry) (first now later : View) (action : Action)
     → old.at ≡ Some v → end ≡ Word w → IsPieceAt looks_stages (looks_data old) (looks_place old) g first now action → IsActed g now action end later
-    → looks_data new ≡ looks_data old → new.at ≡ Some u → new.seen ≡ seen_with old.geometry.now old.made.tier v w old.seen → act.action ≡ look_at u
+    → looks_data new ≡ looks_data old → new.at ≡ Some u → new.seen ≡ seen_with_word old.geometry.now old.made.tier v w old.seen → act.action ≡ look_at u
     → u < most_vpages → at_or_after (v + 1) old.made.pages ≡ u ∷ at_or_after (u + 1) old.made.pages
     → GivesLook new act (looks_left (looks_data old) (looks_place old) g end) g first later
 looks-on old new act v w u end g first now later action at-is ended known acted made-is new-at new-seen acts small next =
     let made : LooksData = looks_data old in
-    let seen : Seen = seen_with old.geometry.now old.made.tier v w old.seen in
+    let seen : Seen = seen_with_word old.geometry.now old.made.tier v w old.seen in
     by-stage looks_stages Acted (λ place reply. GivesLook new act (looks_left made place g reply) g first later) made (looks_place old) (at_place v old.seen) end (Word w) g first now later action (place-is old v at-is) ended known acted
     (λ k a.
     let run = runs-at made g first later u seen (at-next made g first now later v w u old.seen k a small next) (at_or_after (v + 1) old.made.pages) next in
     gives-at made new act (LooksFrom made g (at_or_after (v + 1) old.made.pages) seen) g first later u seen made-is new-at new-seen acts run)
 
 abbrev IsLooksOver : LooksData → (Own → Seen → Type 0) → Geometry → View → View → Seen → Type 0
-IsLooksOver made was g first later seen = IsOver was (λ g view seen left. IsSeen made view seen left) (λ g seen. Unit {0}) g first later seen
+IsLooksOver made was g first later seen = IsOver was (λ g view seen left. HasLooked made view seen left) (λ g seen. Unit {0}) g first later seen
 
 -- the end
 pub looks-over : (old : Looks) (v w : ℕ) (end : Reply) (g : Geometry) (first now later : View) (action : Action) (seen : Seen)
     → old.at ≡ Some v → end ≡ Word w → IsPieceAt looks_stages (looks_data old) (looks_place old) g first now action → IsActed g now action end later
-    → seen ≡ seen_with old.geometry.now old.made.tier v w old.seen → at_or_after (v + 1) old.made.pages ≡ []
-    → IsOver (looks_left (looks_data old) (looks_place old) g end) (λ g view seen left. IsSeen (looks_data old) view seen left) (λ g seen. Unit {0}) g first later seen
+    → seen ≡ seen_with_word old.geometry.now old.made.tier v w old.seen → at_or_after (v + 1) old.made.pages ≡ []
+    → IsOver (looks_left (looks_data old) (looks_place old) g end) (λ g view seen left. HasLooked (looks_data old) view seen left) (λ g seen. Unit {0}) g first later seen
 looks-over old v w end g first now later action seen at-is ended known acted seen-is none =
     let made : LooksData = looks_data old in
-    let last : Seen = seen_with old.geometry.now old.made.tier v w old.seen in
+    let last : Seen = seen_with_word old.geometry.now old.made.tier v w old.seen in
     by-stage looks_stages Acted (λ place reply. IsLooksOver made (looks_left made place g reply) g first later seen) made (looks_place old) (at_place v old.seen) end (Word w) g first now later action (place-is old v at-is) ended known acted
     (λ k a.
     let over : IsLooksOver made (LooksFrom made g [] last) g first later last = record {

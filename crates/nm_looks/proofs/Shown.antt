@@ -8,7 +8,7 @@ use Rattle.nm_base.specs.Geometry.{Geometry}
 use Rattle.nm_view.specs.Lists.{first}
 use Rattle.nm_vpages.specs.VPages.{AreBelow}
 use Rattle.nm_looks.specs.declared.seen.Seen.{Seen}
-use Rattle.nm_looks.specs.Seeing.{is_mapped_word, is_inside, is_outside, is_hot_word, is_accessed_word, where_so, seen_with, seen_of}
+use Rattle.nm_looks.specs.Seeing.{is_mapped_word, is_inside, is_outside, is_hot_word, is_accessed_word, where_so, seen_with_word, seen_of}
 
 -- a test that holds exactly where both of two hold
 pub both-test : (r a b : Bool) → (IsTrue r ↔ (IsTrue a × IsTrue b)) → r ≡ (a && b)
@@ -46,9 +46,9 @@ same-seen m n o p a b c d e f mapped outside inside hot accessed =
     ∙ ap (λ (t : Bool). seen_made n p b t e) hot ∙ ap (λ (t : Bool). seen_made n p b d t) accessed
 
 -- what is seen after one word more
-pub seen-push : (g : Geometry) (tier : ℕ) (told : List (ℕ × ℕ)) (v w : ℕ) (seen : Seen) → seen ≡ seen_of g tier told → seen_with g tier v w seen ≡ seen_of g tier (told ++ (v, w) ∷ [])
+pub seen-push : (g : Geometry) (tier : ℕ) (told : List (ℕ × ℕ)) (v w : ℕ) (seen : Seen) → seen ≡ seen_of g tier told → seen_with_word g tier v w seen ≡ seen_of g tier (told ++ (v, w) ∷ [])
 seen-push g tier told v w seen is =
-    ap (seen_with g tier v w) is
+    ap (seen_with_word g tier v w) is
     ∙ same-seen _ _ _ _ _ _ _ _ _ _
     (where-push (λ p. is_mapped_word p.1) told v w) (where-push (λ p. is_outside g tier p.1) told v w)
     (any-push (λ p. is_inside g tier p.1) told v w) (any-push (λ p. is_hot_word p.1) told v w) (any-push (λ p. is_accessed_word p.1) told v w)

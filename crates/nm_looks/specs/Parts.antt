@@ -9,13 +9,13 @@ use Rattle.nm_compose.specs.declared.composite.Composite.{Composite}
 use Rattle.nm_vpages.specs.VPages.{vpages_of}
 use Rattle.nm_looks.specs.declared.looks.Looks.{Looks}
 use Rattle.nm_looks.specs.declared.softens.Softens.{Softens}
-use Rattle.nm_looks.specs.Seeing.{LooksData, looks_made, IsLooks, MayLooks}
+use Rattle.nm_looks.specs.Seeing.{LooksData, tier_looks_made, IsLooks, MayLooks}
 use Rattle.nm_looks.specs.Looking.{looks_data, looks_place, looks_left, looks_stages}
 use Rattle.nm_looks.specs.Softening.{IsSoftens, MaySoften, softens_left, softens_stages}
 
 -- the Looks at all virtual pages of a page, which ask for this tier
 abbrev pub page_looks : Geometry → ℕ → ℕ → LooksData
-page_looks g page tier = record { 0 = g; 1 = looks_made page tier (vpages_of g page) }
+page_looks g page tier = record { 0 = g; 1 = tier_looks_made page tier (vpages_of g page) }
 
 abbrev pub LooksPart : Type 0
 LooksPart = Composite Looks Act

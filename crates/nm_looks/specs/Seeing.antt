@@ -48,8 +48,8 @@ where_so true v pages = pages ++ v ∷ []
 where_so false v pages = pages
 
 -- after the word of one virtual page more
-abbrev pub seen_with : Geometry → ℕ → ℕ → ℕ → Seen → Seen
-seen_with g tier v word seen = record {
+abbrev pub seen_with_word : Geometry → ℕ → ℕ → ℕ → Seen → Seen
+seen_with_word g tier v word seen = record {
   mapped = where_so (is_mapped_word word) v seen.mapped;
   outside = where_so (is_outside g tier word) v seen.outside;
   inside = seen.inside || is_inside g tier word;
@@ -59,7 +59,7 @@ seen_with g tier v word seen = record {
 
 -- after this reply to a Look
 abbrev pub seen_after : Geometry → ℕ → ℕ → Reply → Seen → Seen
-seen_after g tier v (Word word) seen = seen_with g tier v word seen
+seen_after g tier v (Word word) seen = seen_with_word g tier v word seen
 seen_after g tier v _ seen = seen
 
 -- after all that was told, by pairs of a virtual page and its word
@@ -77,8 +77,8 @@ seen_of g tier told = record {
 abbrev pub LooksData : Type 0
 LooksData = Geometry × LooksMade
 
-abbrev pub looks_made : ℕ → ℕ → List ℕ → LooksMade
-looks_made page tier pages = record { page = page; tier = tier; pages = pages }
+abbrev pub tier_looks_made : ℕ → ℕ → List ℕ → LooksMade
+tier_looks_made page tier pages = record { page = page; tier = tier; pages = pages }
 
 abbrev pub look_at : ℕ → Action
 look_at v = Look v
@@ -107,7 +107,7 @@ seen_view page told view = visited_view visits.Look page told view
 
 -- what they leave: for each virtual page, once and in order, a word was told; the outcome is what these words show; and the
 -- view is the one after them
-pub record IsSeen (made : LooksData) (view : View) (seen : Seen) (left : View) : Type 0 where
+pub record HasLooked (made : LooksData) (view : View) (seen : Seen) (left : View) : Type 0 where
   pub told : List (ℕ × ℕ)
   pub pages : map first told ≡ made.1.pages
   pub once : Once first told

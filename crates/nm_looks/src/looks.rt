@@ -4,7 +4,7 @@ ghost use Rattle.std.specs.Prelude.{◌≡◌, ◌≢◌, ◌<◌, [], Some, Non
 ghost use Rattle.nm_base.specs.PageWord.{frame_of};
 ghost use Rattle.nm_base.specs.Ranges.{IsFrame};
 ghost use Rattle.nm_vpages.specs.VPages.{most_vpages, AreBelow};
-ghost use Rattle.nm_looks.specs.Seeing.{looks_made, look_at, nothing_seen, is_inside, is_outside, seen_with};
+ghost use Rattle.nm_looks.specs.Seeing.{tier_looks_made, look_at, nothing_seen, is_inside, is_outside, seen_with_word};
 ghost use Rattle.nm_looks.specs.Looking.{IsNewLooks};
 
 use crate::seen::{Seen, is_accessed_word, is_hot_word, push_where};
@@ -44,7 +44,7 @@ impl<'a> Looks<'a> {
     pub fn new(g: &'a Geometry, page: u32, tier: u32, pages: VPageSet) -> Looks<'a>
         requires { pages ≢ [] }
         ensures geometry { result.geometry.now ≡ g.now }
-        ensures made { result.made ≡ looks_made page tier pages }
+        ensures made { result.made ≡ tier_looks_made page tier pages }
         ensures new { IsNewLooks result }
     {
         Looks {
@@ -86,7 +86,7 @@ impl<'a> Looks<'a> {
         requires mapped { AreBelow vpage self.old.seen.mapped }
         requires outside { AreBelow vpage self.old.seen.outside }
         requires frame { word ≢ 0 → IsFrame self.old.geometry.now (frame_of word) }
-        ensures { self.new ≡ record self.old { seen = seen_with self.old.geometry.now self.old.made.tier vpage word self.old.seen } }
+        ensures { self.new ≡ record self.old { seen = seen_with_word self.old.geometry.now self.old.made.tier vpage word self.old.seen } }
     {
         let inside = self.is_inside(word);
         let outside = self.is_outside(word);
@@ -104,7 +104,7 @@ impl<'a> Plan<Act> for Looks<'a> {
     type Made = (Geometry, LooksMade);
 
     ghost use Rattle.nm_compose.specs.Stages.{IsPieceAt};
-    ghost use Rattle.nm_looks.specs.Seeing.{IsLooks, MayLooks, IsSeen};
+    ghost use Rattle.nm_looks.specs.Seeing.{IsLooks, MayLooks, HasLooked};
     ghost use Rattle.nm_looks.specs.Looking.{looks_place, IsNewLooks, looks_left, looks_stages};
 
     ghost made = { λ p. record { 0 = p.geometry.now; 1 = p.made } };
@@ -115,7 +115,7 @@ impl<'a> Plan<Act> for Looks<'a> {
 
     ghost shape = { IsLooks };
 
-    ghost leaves = { λ made g view seen left. IsSeen made view seen left };
+    ghost leaves = { λ made g view seen left. HasLooked made view seen left };
 
     ghost knows = { λ p. IsPieceAt looks_stages (record { 0 = p.geometry.now; 1 = p.made }) (looks_place p) };
 

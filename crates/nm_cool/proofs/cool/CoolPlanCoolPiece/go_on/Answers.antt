@@ -6,7 +6,7 @@ use Rattle.nm_part.proofs.Patterns.{ends-now}
 use Rattle.nm_cool.specs.declared.cool.CoolStage.{CoolStage}
 use Rattle.nm_cool.specs.declared.cool.CoolStage.TheVariants.{Locking, Looking, Arming, Marking, Unlocking}
 use Rattle.nm_cool.specs.declared.cool.Cooled.TheVariants as ends
-use Rattle.nm_cool.specs.Stages.{cool_data, outside_in, arm_stage, cool_left}
+use Rattle.nm_cool.specs.Stages.{cool_data, outside_in, cool_arm_stage, cool_left}
 use Rattle.nm_cool.proofs.Steps.{RunsCool, step-cool, over-cool, after-locking, after-busy, after-looking, after-arming, after-marking, after-unlocking}
 use Rattle.nm_cool.proofs.cool.CoolPlanCoolPiece.go_on.Goals as goal
 
@@ -28,8 +28,8 @@ pub returns-in-Looking-clause-next : goal.returns-in-Looking-clause-next
 returns-in-Looking-clause-next c = λ g first now later own known shown left over.
     let old = c.args.self.now in
     let at = sym c.replace.ensures.value ∙ c.in-Looking.is in
-    let e : c.arm_stage.result ≡ arm_stage (outside_in c.args.end) = c.arm_stage.ensures ∙ ap arm_stage c.outside_in.ensures in
-    step-cool old c.go-in-Looking.new.self Looking c.arm_stage.result c.args.end c.args.end _ c.go-in-Looking.result g first now later own at refl known left shown c.go-in-Looking.ensures.stage c.go-in-Looking.ensures.made c.go-in-Looking.ensures.new
+    let e : c.cool_arm_stage.result ≡ cool_arm_stage (outside_in c.args.end) = c.cool_arm_stage.ensures ∙ ap cool_arm_stage c.outside_in.ensures in
+    step-cool old c.go-in-Looking.new.self Looking c.cool_arm_stage.result c.args.end c.args.end _ c.go-in-Looking.result g first now later own at refl known left shown c.go-in-Looking.ensures.stage c.go-in-Looking.ensures.made c.go-in-Looking.ensures.new
     (λ k a. subst (λ (s : CoolStage). RunsCool (cool_data old) s (cool_left (cool_data old) Looking g c.args.end) g first later) (sym e) (after-looking (cool_data old) g first now later own c.args.end k a))
 
 pub returns-in-Arming-clause-next : goal.returns-in-Arming-clause-next
