@@ -68,13 +68,19 @@ pub fn ending(rt: &impl Abort, alloc: Global, state: &State) -> Result<EndWords,
     Ok(end)
 }
 
+/// Asserts what the end words tell of page 0, of the role of frame 0, and whether the run is settled.
+pub fn end_is(rt: &impl Abort, end: &EndWords, home: u32, role: Role, settled: bool) {
+    assert!(rt; end.homes.as_slice() == [Some(home)].as_slice());
+    assert!(rt; end.roles.first().copied() == Some(role));
+    assert!(rt; end.settled == settled);
+}
+
 /// Asserts what the state tells of each frame: its role, and the page and shadow of a master.
 pub fn frames_are(rt: &impl Abort, state: &State, wanted: &[(u32, Role, Option<(u32, u32)>)]) {
     for (frame, role, shadow) in wanted {
         assert!(rt; *frame < state.geometry().frames());
-        assert_eq!(rt;
-            (state.role(*frame), state.shadow(*frame)),
-            (*role, *shadow),
+        assert!(rt;
+            state.role(*frame) == *role && state.shadow(*frame) == *shadow,
             "{frame}"
         );
     }
@@ -83,5 +89,5 @@ pub fn frames_are(rt: &impl Abort, state: &State, wanted: &[(u32, Role, Option<(
 /// Asserts the home and the mark of page 0.
 pub fn page_is(rt: &impl Abort, state: &State, home: Option<u32>, mark: u64) {
     assert!(rt; 0 < state.geometry().pages());
-    assert_eq!(rt; (state.home(0), state.mark(0)), (home, mark));
+    assert!(rt; state.home(0) == home && state.mark(0) == mark);
 }

@@ -1,6 +1,6 @@
 //! Worked rows, and what a state tells afterwards.
 
-use crate::driver::{Row, ending, frames_are, machine, page_is, run};
+use crate::driver::{Row, end_is, ending, frames_are, machine, page_is, run};
 use nm_action::{AckTo, Action, Bit, Cell, Reply};
 use nm_core::Role;
 use std::test::Fail;
@@ -550,22 +550,15 @@ fn promotion(rt: HostRuntime) -> Result<(), Fail> {
     for rows in [slow(), cleared(), copied()] {
         run(&rt, &mut state, rows);
     }
-    let before = ending(&rt, rt.alloc(), &state)?;
-    assert_eq!(rt; before.homes.as_slice(), [Some(2)].as_slice());
-    assert_eq!(rt; before.roles.first().copied(), Some(Role::Held));
-    assert_eq!(rt; before.settled, false);
+    end_is(&rt, &ending(&rt, rt.alloc(), &state)?, 2, Role::Held, false);
     run(&rt, &mut state, committed());
     run(&rt, &mut state, &[done!(0, END)]);
     page_is(&rt, &state, Some(0), 0);
     frames_are(&rt, &state, SHADOWED);
     let after = ending(&rt, rt.alloc(), &state)?;
-    assert_eq!(rt; after.homes.as_slice(), [Some(0)].as_slice());
-    assert_eq!(rt; after.shadows.first().copied(), Some(Some((0, 2))));
-    assert_eq!(rt; after.marks.as_slice(), [0].as_slice());
-    assert_eq!(rt;
-        (after.roles.first().copied(), after.settled),
-        (Some(Role::Mapped), true)
-    );
+    end_is(&rt, &after, 0, Role::Mapped, true);
+    assert!(rt; after.shadows.first().copied() == Some(Some((0, 2))));
+    assert!(rt; after.marks.as_slice() == [0].as_slice());
     Ok(())
 }
 

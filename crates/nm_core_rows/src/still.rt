@@ -25,12 +25,12 @@ const MOST: u64 = 18446744073709551615;
 fn loads_what_was_stored(rt: HostRuntime) -> Result<(), Fail> {
     let g = Geometry::new(rt.alloc(), 2, &[4, 8], 1, &[FIRST, ALIAS, SECOND])?;
     let mut still = Still::start(rt.alloc(), &g)?;
-    assert_eq!(rt; still.load(1, 1), 0);
+    assert!(rt; still.load(1, 1) == 0);
     still.store(0, 1, 9);
-    assert_eq!(rt; still.load(1, 1), 9);
+    assert!(rt; still.load(1, 1) == 9);
     still.store(2, 1, MOST);
     still.store(2, 0, 7);
-    assert_eq!(rt; (still.load(0, 0), still.load(0, 1)), (0, 9));
-    assert_eq!(rt; (still.load(2, 0), still.load(2, 1)), (7, MOST));
+    assert!(rt; still.load(0, 0) == 0 && still.load(0, 1) == 9);
+    assert!(rt; still.load(2, 0) == 7 && still.load(2, 1) == MOST);
     Ok(())
 }

@@ -1,22 +1,24 @@
 //! Rows of actions, of what an actor has drawn, and of what is counted.
+use super::all_hold;
 use nm_action::{AckTo, Action, ActionKind, Cell, Spent, Tally};
 
 #[test]
 fn tells_kinds(rt: HostRuntime) {
-    for (action, kind) in [
-        (Action::Load { vpage: 1, word: 2 }, ActionKind::Load),
-        (Action::Poll, ActionKind::Poll),
-        (Action::Ack { to: AckTo::Off }, ActionKind::Ack),
-        (
-            Action::Read {
-                page: 0,
-                cell: Cell::Home(0),
-            },
-            ActionKind::Read,
-        ),
-    ] {
-        assert_eq!(rt; action.kind(), kind);
-    }
+    let load = Action::Load { vpage: 1, word: 2 };
+    let off = Action::Ack { to: AckTo::Off };
+    let home = Action::Read {
+        page: 0,
+        cell: Cell::Home(0),
+    };
+    all_hold(
+        &rt,
+        &[
+            load.kind() == ActionKind::Load,
+            Action::Poll.kind() == ActionKind::Poll,
+            off.kind() == ActionKind::Ack,
+            home.kind() == ActionKind::Read,
+        ],
+    );
 }
 
 #[test]
@@ -26,7 +28,7 @@ fn counts_bumps_and_raises(rt: HostRuntime) {
     spent.count(Action::Raise { vpage: 3 });
     spent.count(Action::Bump);
     spent.count(Action::Poll);
-    assert_eq!(rt; (spent.bumps, spent.raises), (2, 1));
+    all_hold(&rt, &[spent.bumps == 2, spent.raises == 1]);
 }
 
 #[test]
@@ -44,6 +46,14 @@ fn adds_tallies(rt: HostRuntime) {
         ..Tally::default()
     };
     let sum = one.plus(other);
-    assert_eq!(rt; (sum.demand, sum.words, sum.flushes), (7, 2, 5));
-    assert_eq!(rt; (sum.reclaimed, sum.alias), (u64::MAX, 0));
+    all_hold(
+        &rt,
+        &[
+            sum.demand == 7,
+            sum.words == 2,
+            sum.flushes == 5,
+            sum.reclaimed == u64::MAX,
+            sum.alias == 0,
+        ],
+    );
 }

@@ -1,4 +1,5 @@
 //! Rows of page words.
+use super::all_hold;
 use nm_base::PageWord;
 use std::test::Fail;
 
@@ -13,12 +14,17 @@ fn reads_and_writes_words(rt: HostRuntime) -> Result<(), Fail> {
         accessed: true,
         saved: false,
     };
-    assert_eq!(rt; word, expected);
-    assert_eq!(rt; word.to_word(), 0x5015);
-    assert_eq!(rt; PageWord::of_word(0), Some(PageWord::Absent));
-    assert_eq!(rt; PageWord::Absent.to_word(), 0);
+    all_hold(
+        &rt,
+        &[
+            word == expected,
+            word.to_word() == 0x5015,
+            PageWord::of_word(0) == Some(PageWord::Absent),
+            PageWord::Absent.to_word() == 0,
+        ],
+    );
     for stray in [0x40, 0x5014, 0x1000_0000_0001, 0x8000_0000_0000_0001] {
-        assert_eq!(rt; PageWord::of_word(stray), None, "{stray:x}");
+        assert!(rt; PageWord::of_word(stray).is_none(), "{stray:x}");
     }
     Ok(())
 }

@@ -1,16 +1,17 @@
 //! Rows of the hand, of hotness and of watermarks.
+use super::all_hold;
 use nm_policy::{Hand, Watermarks, enough, hot, wants_demotion};
 
 #[test]
 fn goes_round(rt: HostRuntime) {
     let mut hand = Hand::new(3);
     for page in [0, 1, 2, 0, 1] {
-        assert_eq!(rt; hand.page(), page);
+        assert!(rt; hand.page() == page);
         hand.advance();
     }
     let mut only = Hand::new(1);
     only.advance();
-    assert_eq!(rt; only.page(), 0);
+    assert!(rt; only.page() == 0);
 }
 
 #[test]
@@ -23,7 +24,7 @@ fn reads_hotness(rt: HostRuntime) {
         (0x9, false),
         (0, false),
     ] {
-        assert_eq!(rt; hot(word), is_hot, "{word:x}");
+        assert!(rt; hot(word) == is_hot, "{word:x}");
     }
 }
 
@@ -31,9 +32,19 @@ fn reads_hotness(rt: HostRuntime) {
 fn marks_tiers(rt: HostRuntime) {
     for (n, min) in [(1, 1), (64, 1), (128, 2), (4096, 64)] {
         let w = Watermarks::of(n);
-        assert_eq!(rt; (w.min, w.low, w.high), (min, 2 * min, 3 * min), "{n}");
+        assert!(rt;
+            w.min == min && w.low == 2 * min && w.high == 3 * min,
+            "{n}"
+        );
     }
     let w = Watermarks::of(128);
-    assert_eq!(rt; (wants_demotion(4, w), wants_demotion(5, w)), (true, false));
-    assert_eq!(rt; (enough(5, w), enough(6, w)), (false, true));
+    all_hold(
+        &rt,
+        &[
+            wants_demotion(4, w),
+            !wants_demotion(5, w),
+            !enough(5, w),
+            enough(6, w),
+        ],
+    );
 }

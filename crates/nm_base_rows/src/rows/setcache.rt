@@ -1,10 +1,9 @@
 //! Worked values of the set-associative cache, and both caches through the trait.
 use nm_setcache::SetCache;
 use nm_xlat::{Translations, XlatCache};
-use std::alloc::{AllocError, Global};
 use std::test::Fail;
 
-#[derive(Clone, Copy, Debug, PartialEq, Eq)]
+#[derive(Clone, Copy)]
 enum Call {
     Get(u32),
     Put(u32, u32, bool, u64),
@@ -14,7 +13,7 @@ enum Call {
     Drop(u32),
 }
 
-#[derive(Clone, Copy, Debug, PartialEq, Eq)]
+#[derive(Clone, Copy, PartialEq, Eq)]
 enum Answer {
     Translation(Option<(u32, bool)>),
     Stamp(Option<u64>),
@@ -47,18 +46,6 @@ fn passes_on<T: Send>(cache: T) -> T {
     cache
 }
 
-fn answers<T: Translations>(
-    alloc: Global,
-    cache: &mut T,
-    calls: &[Call],
-) -> Result<Vec<Answer>, AllocError> {
-    let mut all = Vec::new(alloc);
-    for call in calls {
-        all.push(make_call(cache, *call))?;
-    }
-    Ok(all)
-}
-
 // Two sets of two ways have room for these pages, as a fully associative cache of four has.
 const CALLS: [(Call, Answer); 15] = [
     (Call::Put(3, 13, true, 7), Answer::Done),
@@ -80,14 +67,12 @@ const CALLS: [(Call, Answer); 15] = [
 
 #[test]
 fn both_caches_answer_alike(rt: HostRuntime) -> Result<(), Fail> {
-    let calls = CALLS.map(|(call, _)| call);
-    let wanted = CALLS.map(|(_, answer)| answer);
     let mut full = passes_on(XlatCache::with_room(rt.alloc(), 4)?);
     let mut sets = passes_on(SetCache::with_room(rt.alloc(), 2, 2)?);
-    let by_full = answers(rt.alloc(), &mut full, &calls)?;
-    let by_sets = answers(rt.alloc(), &mut sets, &calls)?;
-    assert_eq!(rt; by_full.as_slice(), wanted.as_slice());
-    assert_eq!(rt; by_sets.as_slice(), wanted.as_slice());
+    for (call, answer) in CALLS {
+        assert!(rt; make_call(&mut full, call) == answer);
+        assert!(rt; make_call(&mut sets, call) == answer);
+    }
     Ok(())
 }
 
@@ -107,11 +92,11 @@ fn drops_the_least_page_of_a_full_set(rt: HostRuntime) -> Result<(), Fail> {
         }
         let mut from = 0;
         for page in cached {
-            assert_eq!(rt; cache.next(from), Some(*page));
+            assert!(rt; cache.next(from) == Some(*page));
             assert!(rt; *page < 8);
             from = *page + 1;
         }
-        assert_eq!(rt; cache.next(from), None);
+        assert!(rt; cache.next(from).is_none());
     }
     Ok(())
 }

@@ -1,4 +1,5 @@
 //! Rows of table words, home words, shadow words and words of free frames.
+use super::all_hold;
 use nm_base::free_words::least_frame;
 use nm_base::home_word::{home_word, named_home};
 use nm_base::shadow_word::{named_shadow, shadow_frame, shadow_page, shadow_word};
@@ -21,36 +22,44 @@ fn reads_bits(rt: HostRuntime) {
             is_accessed(word),
             is_saved(word),
         ];
-        assert_eq!(rt; passed.iter().position(|passes| *passes), Some(bit));
+        assert!(rt; passed.iter().position(|passes| *passes) == Some(bit));
     }
     assert!(rt; has_bit(1 << 63, 63));
 }
 
 #[test]
 fn changes_words(rt: HostRuntime) {
-    assert_eq!(rt; (walk_mask(false), walk_mask(true)), (16, 24));
-    assert_eq!(rt;
-        (walked_word(0x5005, false), walked_word(0x5005, true)),
-        (0x5015, 0x501d)
+    all_hold(
+        &rt,
+        &[
+            walk_mask(false) == 16,
+            walk_mask(true) == 24,
+            walked_word(0x5005, false) == 0x5015,
+            walked_word(0x5005, true) == 0x501d,
+            granted_word(0x5021) == 0x5005,
+            frame_of(0xffff_f000_0000_5021) == 5,
+            all_but(1) == u64::MAX - 1,
+        ],
     );
-    assert_eq!(rt;
-        (granted_word(0x5021), frame_of(0xffff_f000_0000_5021)),
-        (0x5005, 5)
-    );
-    assert_eq!(rt; all_but(1), u64::MAX - 1);
 }
 
 #[test]
 fn names_homes_and_shadows(rt: HostRuntime) {
-    assert_eq!(rt;
-        (home_word(0), named_home(1), named_home(0)),
-        (1, Some(0), None)
-    );
     let word = shadow_word(2, Some(9));
-    assert_eq!(rt; word, 0x3_0000_000a);
-    assert_eq!(rt; (shadow_page(word), shadow_frame(word)), (2, 9));
-    assert_eq!(rt; (named_shadow(word), named_shadow(0)), (Some((2, 9)), None));
-    assert_eq!(rt; shadow_word(2, None), 0);
+    all_hold(
+        &rt,
+        &[
+            home_word(0) == 1,
+            named_home(1) == Some(0),
+            named_home(0).is_none(),
+            word == 0x3_0000_000a,
+            shadow_page(word) == 2,
+            shadow_frame(word) == 9,
+            named_shadow(word) == Some((2, 9)),
+            named_shadow(0).is_none(),
+            shadow_word(2, None) == 0,
+        ],
+    );
 }
 
 const PAGE: Option<VPage> = Some(VPage {
@@ -61,28 +70,34 @@ const PAGE: Option<VPage> = Some(VPage {
 #[test]
 fn places_free_frames(rt: HostRuntime) -> Result<(), Fail> {
     let g = Geometry::new(rt.alloc(), 4, &[65, 8], 1, &[None, PAGE])?;
-    assert_eq!(rt;
-        (g.free_words(0), g.free_words(1), g.free_words(2)),
-        (2, 1, 0)
+    all_hold(
+        &rt,
+        &[
+            g.free_words(0) == 2,
+            g.free_words(1) == 1,
+            g.free_words(2) == 0,
+            g.backing(0).is_none(),
+            g.backing(1) == Some(1),
+            g.backing(2).is_none(),
+            !g.may_be_written(1),
+            g.is_vpage(1),
+            !g.is_vpage(2),
+            g.is_tier(1),
+            !g.is_tier(2),
+        ],
     );
-    assert_eq!(rt;
-        (g.backing(0), g.backing(1), g.backing(2)),
-        (None, Some(1), None)
+    all_hold(
+        &rt,
+        &[
+            least_frame(64, 6) == Some(65),
+            least_frame(64, 0).is_none(),
+            g.free_index(64) == 1,
+            g.free_bit(64) == 0,
+            g.free_index(66) == 0,
+            g.free_bit(66) == 1,
+            g.free_base(0, 1) == 64,
+            g.free_base(1, 0) == 65,
+        ],
     );
-    assert_eq!(rt;
-        (g.may_be_written(1), g.is_vpage(1), g.is_vpage(2)),
-        (false, true, false)
-    );
-    assert_eq!(rt; (g.is_tier(1), g.is_tier(2)), (true, false));
-    assert_eq!(rt; (least_frame(64, 6), least_frame(64, 0)), (Some(65), None));
-    Ok(())
-}
-
-#[test]
-fn finds_bits_of_frames(rt: HostRuntime) -> Result<(), Fail> {
-    let g = Geometry::new(rt.alloc(), 4, &[65, 8], 1, &[None, PAGE])?;
-    assert_eq!(rt; (g.free_index(64), g.free_bit(64)), (1, 0));
-    assert_eq!(rt; (g.free_index(66), g.free_bit(66)), (0, 1));
-    assert_eq!(rt; (g.free_base(0, 1), g.free_base(1, 0)), (64, 65));
     Ok(())
 }

@@ -1,4 +1,5 @@
 //! Worked values of the fully associative cache.
+use super::all_hold;
 use nm_xlat::{Translations, XlatCache};
 use std::test::Fail;
 
@@ -16,14 +17,19 @@ fn drops_the_least_page_where_full(rt: HostRuntime) -> Result<(), Fail> {
         &mut cache,
         &[(3, 13, true, 7), (1, 11, false, 8), (2, 12, false, 9)],
     );
-    assert_eq!(rt; cache.get(1), None);
-    assert_eq!(rt; cache.get(2), Some((12, false)));
-    assert_eq!(rt; cache.get(3), Some((13, true)));
+    all_hold(
+        &rt,
+        &[
+            cache.get(1).is_none(),
+            cache.get(2) == Some((12, false)),
+            cache.get(3) == Some((13, true)),
+        ],
+    );
 
     // A new page below every other still takes the place of the least.
     cache.put(0, 10, true, 6);
     for (from, next) in [(0, Some(0)), (1, Some(3)), (3, Some(3)), (4, None)] {
-        assert_eq!(rt; cache.next(from), next, "from {from}");
+        assert!(rt; cache.next(from) == next, "from {from}");
     }
     Ok(())
 }
@@ -36,13 +42,13 @@ fn replaces_and_drops_by_page(rt: HostRuntime) -> Result<(), Fail> {
         &[(3, 13, true, 7), (1, 11, false, 8), (3, 14, false, 9)],
     );
     for (page, stamp) in [(1, Some(8)), (2, None), (3, Some(9))] {
-        assert_eq!(rt; cache.stamp_of(page), stamp, "page {page}");
+        assert!(rt; cache.stamp_of(page) == stamp, "page {page}");
     }
     cache.drop_entry(2);
     cache.drop_entry(1);
-    assert_eq!(rt; cache.get(1), None);
-    assert_eq!(rt; cache.get(3), Some((14, false)));
+    assert!(rt; cache.get(1).is_none());
+    assert!(rt; cache.get(3) == Some((14, false)));
     cache.clear();
-    assert_eq!(rt; cache.next(0), None);
+    assert!(rt; cache.next(0).is_none());
     Ok(())
 }

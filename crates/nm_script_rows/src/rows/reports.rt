@@ -149,7 +149,7 @@ fn smallest(rt: HostRuntime) -> Result<(), Fail> {
     )?;
     let want =
         "cpu 0\nload 0.0 0\ntier 0 free 3 mapped 1 shadow 0 held 0 of 4\ntier 1 free 8 mapped 0 shadow 0 held 0 of 8\npage 0 frame 0\nfaults demand 1 alias 0 hint 0 shadow 0\nmarks set 0 spilled 0 cold 0 committed 0 moved 0 noframe 0 gone 0 worn 0\nmoves aborted 0 remapped 0 copied 0 words 0\nwork flushes 0 reclaimed 0\nsettled yes\n";
-    assert_eq!(rt; text.as_slice(), want.as_bytes());
+    assert!(rt; text.as_slice() == want.as_bytes());
     Ok(())
 }
 
@@ -191,7 +191,7 @@ fn each_access_and_no_frame(rt: HostRuntime) -> Result<(), Fail> {
     )?;
     let want =
         "cpu 0\nstore 0.3 42\nload 0.3 42\nadd 0.0 5 gave 0\nawait 0.1 1 met 1\nawait 0.2 7 missed 3\ntier 0 free 2 mapped 0 shadow 0 held 0 of 2\ntier 1 free 10 mapped 0 shadow 0 held 0 of 10\npage 0 none\nfaults demand 0 alias 0 hint 0 shadow 0\nmarks set 0 spilled 0 cold 0 committed 0 moved 0 noframe 0 gone 0 worn 0\nmoves aborted 0 remapped 0 copied 0 words 0\nwork flushes 0 reclaimed 0\nsettled no\n";
-    assert_eq!(rt; text.as_slice(), want.as_bytes());
+    assert!(rt; text.as_slice() == want.as_bytes());
     Ok(())
 }
 
@@ -217,7 +217,7 @@ fn promotion_with_a_shadow(rt: HostRuntime) -> Result<(), Fail> {
     )?;
     let want =
         "cpu 0\nload 0.0 0\ntier 0 free 1 mapped 1 shadow 0 held 0 of 2\ntier 1 free 9 mapped 0 shadow 1 held 0 of 10\npage 0 frame 0 shadow 2\nfaults demand 1 alias 0 hint 1 shadow 0\nmarks set 1 spilled 0 cold 0 committed 1 moved 0 noframe 0 gone 0 worn 0\nmoves aborted 0 remapped 0 copied 0 words 4\nwork flushes 2 reclaimed 0\nsettled yes\n";
-    assert_eq!(rt; text.as_slice(), want.as_bytes());
+    assert!(rt; text.as_slice() == want.as_bytes());
     Ok(())
 }
 
@@ -226,10 +226,8 @@ fn one_processor(rt: HostRuntime) -> Result<(), Fail> {
     let program = [Line::Add { v: 0, w: 0, x: 5 }, LOAD, LOAD];
     let given = [LineResult::Added(0), LineResult::Loaded(5)];
     let text = print_cpu(rt.alloc(), 3, &program, &given)?;
-    assert_eq!(rt;
-        text.as_slice(),
-        b"cpu 3\nadd 0.0 5 gave 0\nload 0.0 5\n".as_slice()
-    );
+    let want = "cpu 3\nadd 0.0 5 gave 0\nload 0.0 5\n";
+    assert!(rt; text.as_slice() == want.as_bytes());
     Ok(())
 }
 
@@ -255,7 +253,7 @@ fn summary_of_adds(rt: HostRuntime) -> Result<(), Fail> {
     let text = summed(rt.alloc(), &program, &given)?;
     let want =
         "drill 7 4\naccesses 4 loads 2 stores 2 sum 3\ntier 0 free 3 mapped 1 shadow 0 held 0 of 4\ntier 1 free 8 mapped 0 shadow 0 held 0 of 8\nfaults demand 0 alias 0 hint 0 shadow 0\nmarks set 0 spilled 0 cold 0 committed 0 moved 0 noframe 0 gone 0 worn 0\nmoves aborted 0 remapped 0 copied 0 words 0\nwork flushes 0 reclaimed 0\nsettled yes\n";
-    assert_eq!(rt; text.as_slice(), want.as_bytes());
+    assert!(rt; text.as_slice() == want.as_bytes());
     Ok(())
 }
 

@@ -1,6 +1,6 @@
 //! Calls of the program in which one read or one write fails.
-use nm_io::{MemSink, MemSource, Open};
-use nm_top::{Status, nomad_main, plain_call};
+use nm_io::{MemSink, MemSource};
+use nm_top::{Status, plain_call};
 use std::alloc::Global;
 use std::test::Fail;
 
@@ -39,30 +39,25 @@ fn answers_each_failing_call(rt: HostRuntime) -> Result<(), Fail> {
     let calls: [(&[&str], &[u8]); 2] = [(&["sim"], SMALLEST), (&["import", "4", "9"], TRACE)];
     for (texts, text) in calls {
         let (status, whole) = answer_to(rt.alloc(), texts, text, 0, 0)?;
-        assert_eq!(rt; status, Status::Done);
+        assert!(rt; status == Status::Done);
         for read in 1..=text.len() as u64 + 1 {
             let (status, written) = answer_to(rt.alloc(), texts, text, read, 0)?;
-            assert_eq!(rt; status, Status::ReadFault, "at read {read}");
-            assert!(rt; written.is_empty());
+            assert!(rt;
+                status == Status::ReadFault && written.is_empty(),
+                "at read {read}"
+            );
         }
         for write in 1..=whole.len() as u64 {
             let (status, written) = answer_to(rt.alloc(), texts, text, 0, write)?;
-            assert_eq!(rt; status, Status::WriteFault, "at write {write}");
-            assert_eq!(rt; written.len() as u64, write - 1);
-            assert!(rt; whole.starts_with(&written));
+            assert!(rt; status == Status::WriteFault, "at write {write}");
+            assert!(rt; written.len() as u64 == write - 1 && whole.starts_with(&written));
         }
     }
     Ok(())
 }
 
 #[test]
-fn answers_behind_a_gate(rt: HostRuntime) -> Result<(), Fail> {
-    let sim = words(rt.alloc(), &["sim"])?;
-    let mut source = MemSource::new(rt.alloc(), SMALLEST, 16, &[])?;
-    let mut sink = MemSink::new(rt.alloc(), 10_000, 16, &[])?;
-    let status = nomad_main(&rt, rt.alloc(), &sim, &Open, &mut source, &mut sink);
-    assert_eq!(rt; (status, status.number()), (Status::Done, 0));
-    assert!(rt; sink.bytes().starts_with(b"cpu 0\nload 0.0 0\n"));
+fn tells_want_of_memory(rt: HostRuntime) -> Result<(), Fail> {
     assert!(rt; Status::Memory.to_string(rt.alloc())?.as_str() == "nomad: memory");
     Ok(())
 }

@@ -12,10 +12,15 @@ fn reads_past_no_failing_call(rt: HostRuntime) -> Result<(), Fail> {
     for call in 1..=38 {
         let mut source = MemSource::new(rt.alloc(), TEXT, 1, &[call])?;
         let refused = read_all(rt.alloc(), &mut source);
-        assert_eq!(rt; refused.err(), Some(ReadRefusal::ReadFault), "call {call}");
+        assert!(rt;
+            refused.err() == Some(ReadRefusal::ReadFault),
+            "call {call}"
+        );
         let rest = read_all(rt.alloc(), &mut source)?;
-        assert_eq!(rt; rest.len() as u64, 38 - call, "call {call}");
-        assert!(rt; TEXT.ends_with(&rest), "call {call}");
+        assert!(rt;
+            rest.len() as u64 == 38 - call && TEXT.ends_with(&rest),
+            "call {call}"
+        );
     }
     Ok(())
 }
@@ -25,11 +30,10 @@ fn reads_not_after_the_end(rt: HostRuntime) -> Result<(), Fail> {
     for (piece, calls) in [(1, 39), (16, 5), (36, 4), (37, 3), (1_000, 3)] {
         let mut source = MemSource::new(rt.alloc(), TEXT, piece, &[calls])?;
         let bytes = read_all(rt.alloc(), &mut source)?;
-        assert!(rt; bytes.as_slice() == TEXT.as_slice(), "piece {piece}");
-        let late = source.read(&mut [0; 4]);
-        assert_eq!(rt; late, Err(Failed), "piece {piece}");
-        let end = source.read(&mut [0; 4]);
-        assert_eq!(rt; end, Ok(0), "piece {piece}");
+        let is_whole = bytes.as_slice() == TEXT.as_slice();
+        let is_late = source.read(&mut [0; 4]) == Err(Failed);
+        let is_end = source.read(&mut [0; 4]) == Ok(0);
+        assert!(rt; is_whole && is_late && is_end, "piece {piece}");
     }
     Ok(())
 }
@@ -53,14 +57,13 @@ fn writes_up_to_the_failing_call(rt: HostRuntime) -> Result<(), Fail> {
     for (room, piece, call, held) in WRITES {
         assert!(rt; piece >= 1);
         let mut sink = MemSink::new(rt.alloc(), room, piece, &[call])?;
-        let answer = write_all(&mut sink, TEXT);
-        assert_eq!(rt; answer == Ok(()), held == 37);
-        assert_eq!(rt; sink.bytes().len(), held);
-        assert!(rt; TEXT.starts_with(sink.bytes()));
+        let is_written = write_all(&mut sink, TEXT).is_ok();
+        assert!(rt; is_written == (held == 37));
+        assert!(rt; sink.bytes().len() == held && TEXT.starts_with(sink.bytes()));
     }
     let mut full = MemSink::new(rt.alloc(), 0, 1, &[2])?;
-    assert_eq!(rt; write_all(&mut full, b""), Ok(()));
-    assert_eq!(rt; write_all(&mut full, b"x"), Err(WriteFault));
+    assert!(rt; write_all(&mut full, b"").is_ok());
+    assert!(rt; write_all(&mut full, b"x") == Err(WriteFault));
     Ok(())
 }
 
@@ -74,6 +77,6 @@ fn reads_no_more_than_the_limit(rt: HostRuntime) -> Result<(), Fail> {
     text.push(b'y')?;
     let mut source = MemSource::new(rt.alloc(), &text, 1 << 20, &[])?;
     let refused = read_all(rt.alloc(), &mut source);
-    assert_eq!(rt; refused.err(), Some(ReadRefusal::TooLong));
+    assert!(rt; refused.err() == Some(ReadRefusal::TooLong));
     Ok(())
 }

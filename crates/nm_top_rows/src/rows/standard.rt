@@ -73,16 +73,13 @@ fn reads_a_reader(rt: HostRuntime) -> Result<(), Fail> {
     ] {
         let mut source = StdSource::new(FailsOnce::at(fails, false));
         let refused = read_all(rt.alloc(), &mut source);
-        assert_eq!(rt; refused.err(), Some(ReadRefusal::ReadFault), "{fails}");
-        assert!(rt;
-            read_all(rt.alloc(), &mut source)?.as_slice() == rest,
-            "{fails}"
-        );
+        let left = read_all(rt.alloc(), &mut source)?;
+        assert!(rt; refused.err() == Some(ReadRefusal::ReadFault) && left.as_slice() == rest);
     }
     // No read is made after the one that gave none.
     let mut source = StdSource::new(FailsOnce::at(7, false));
-    assert_eq!(rt; read_all(rt.alloc(), &mut source)?.len(), 5);
-    assert_eq!(rt; source.read(&mut [0; 4]), Err(Failed));
+    assert!(rt; read_all(rt.alloc(), &mut source)?.len() == 5);
+    assert!(rt; source.read(&mut [0; 4]) == Err(Failed));
     Ok(())
 }
 
@@ -90,17 +87,17 @@ fn reads_a_reader(rt: HostRuntime) -> Result<(), Fail> {
 fn writes_a_writer(rt: HostRuntime) -> Result<(), Fail> {
     let mut out = Vec::new(rt.alloc());
     let mut sink = StdSink::new(&mut out);
-    assert_eq!(rt; write_all(&mut sink, b"cpu 0\n"), Ok(()));
+    assert!(rt; write_all(&mut sink, b"cpu 0\n").is_ok());
     assert!(rt; out.as_slice() == b"cpu 0\n".as_slice());
 
     for takes_nothing in [false, true] {
         let mut sink = StdSink::new(FailsOnce::at(2, takes_nothing));
-        assert_eq!(rt; sink.write(b"cpu 0\n"), Ok(5));
-        assert_eq!(rt; sink.write(b"cpu 0\n"), Err(Failed));
-        assert_eq!(rt; sink.write(b"cpu"), Ok(3));
-        assert_eq!(rt; sink.write(b""), Ok(0));
+        assert!(rt; sink.write(b"cpu 0\n") == Ok(5));
+        assert!(rt; sink.write(b"cpu 0\n") == Err(Failed));
+        assert!(rt; sink.write(b"cpu") == Ok(3));
+        assert!(rt; sink.write(b"") == Ok(0));
         let mut sink = StdSink::new(FailsOnce::at(2, takes_nothing));
-        assert_eq!(rt; write_all(&mut sink, b"cpu 0\n"), Err(WriteFault));
+        assert!(rt; write_all(&mut sink, b"cpu 0\n") == Err(WriteFault));
     }
     Ok(())
 }
