@@ -12,6 +12,7 @@ use Rattle.nm_part.specs.Parts.{HasBegin, IsHeard, IsAsked, IsEnded, IsPartStep}
 use Rattle.nm_compose.specs.declared.or.Or.{Or}
 use Rattle.nm_compose.specs.declared.or.Or.TheVariants.{This, Other}
 use Rattle.nm_compose.specs.Choices.{MayBeginOr, IsOr, LeavesOr}
+use Rattle.nm_obtain.specs.declared.freed.FreedCount.{FreedCount}
 use Rattle.nm_obtain.specs.FreedCounts.{HasCounted}
 use Rattle.nm_shadow_fault.specs.declared.fault.FaultEnd.{FaultEnd}
 use Rattle.nm_shadow_fault.specs.ShadowFault.{IsShadowFault}
@@ -101,6 +102,16 @@ begin-inside made h = record { geometry = h.geometry; view = h.view; allowed = e
 
 pub heard-inside : (awaits : Geometry → View → Own → Action → Type 0) (page : ℕ) (t : FaultTask) (reply : Reply) → IsHeard (IsFaultAwaited awaits page t) reply → IsHeard awaits reply
 heard-inside awaits page t reply h = record { geometry = h.geometry; view = h.view; own = h.own; action = h.action; awaited = h.awaited.awaited; fits = h.fits }
+
+-- at first; `is_new` is what the fault inside tells
+pub keeps-first : (is_new : Type 0) (page : ℕ) (old new : FaultTask) → IsNewFault is_new page old → {now : ℕ} → now ≡ page → new.before ≡ old.before → new.freed ≡ old.freed → IsKeeping now new []
+keeps-first is_new page old new h {now} same before freed =
+    let C : FreedCount → Type 0 = λ c. HasCounted c [] in
+    record {
+      before = before ∙ h.before;
+      page_is = ap (λ (c : FreedCount). c.page) freed ∙ (h.page_is ∙ sym same);
+      counted = subst C (sym freed) h.counted;
+    }
 
 -- the first action
 pub task-first : (awaits : Geometry → View → Own → Action → Type 0) (made : FaultBegun) (page : ℕ) (t : FaultTask) (g : Geometry) (view : View) (action : Action)

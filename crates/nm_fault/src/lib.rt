@@ -1,6 +1,7 @@
 //! Page faults as a part of an actor's work.
 #![tactic(auto)]
 
+pub mod run;
 pub mod task;
 pub mod wait;
 

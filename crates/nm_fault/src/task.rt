@@ -11,20 +11,17 @@ ghost use Rattle.nm_shadow_fault.specs.declared.fault.FaultEnd.{FaultEnd};
 ghost use Rattle.nm_fault.specs.Tasks.{fault_at, fault_in, either_end, IsNewFault, IsFaultAwaited, IsFaultEnded};
 ghost use Rattle.nm_fault.specs.Waits.{is_waiting};
 
+use crate::run::{MissingTask, ShadowTask};
 use crate::wait::waits_after;
 use nm_base::Geometry;
-use nm_compose::{Composite, Or};
+use nm_compose::Or;
 use nm_event::{Action, Reply, Step};
-use nm_missing_fault::{MissingFault, MissingPiece};
 use nm_obtain::FreedCount;
 use nm_part::{Part, Piece};
-use nm_shadow_fault::{FaultEnd, FaultMade, FaultPiece, ShadowFault};
+use nm_shadow_fault::{FaultEnd, FaultMade};
 
 /// A fault that runs: on a virtual page that is not mapped, or on one that is read-only for its shadow.
-pub type FaultRun<'a> = Or<
-    Composite<MissingFault<'a>, MissingPiece<'a>>,
-    Composite<ShadowFault<'a>, FaultPiece>,
->;
+pub type FaultRun<'a> = Or<MissingTask<'a>, ShadowTask<'a>>;
 
 /// A fault of a processor. It is begun once for each fault, and takes no memory.
 #[derive(Drop)]
@@ -67,7 +64,7 @@ impl<'a> FaultTask<'a> {
         let made = fault_at(g, 0);
         FaultTask {
             geometry: g,
-            run: Or::This(Composite::new(MissingFault::new(g, made))),
+            run: Or::This(MissingTask::new(g, made)),
             before: None,
             given: Action::Lock { page: made.page },
             freed: FreedCount::new(made.page),
@@ -82,7 +79,7 @@ impl<'a> FaultTask<'a> {
         ensures new { IsNewFault (⟦<FaultRun<'a> as Part>⟧.is_new self.new.run) (fault_in (⟦<FaultRun<'a> as Part>⟧.made self.new.run)).1.page self.new }
     {
         let made = fault_at(self.geometry, v);
-        self.run = Or::This(Composite::new(MissingFault::new(self.geometry, made)));
+        self.run = Or::This(MissingTask::new(self.geometry, made));
         self.before = None;
         self.freed = FreedCount::new(made.page);
     }
@@ -95,7 +92,7 @@ impl<'a> FaultTask<'a> {
         ensures new { IsNewFault (⟦<FaultRun<'a> as Part>⟧.is_new self.new.run) (fault_in (⟦<FaultRun<'a> as Part>⟧.made self.new.run)).1.page self.new }
     {
         let made = fault_at(self.geometry, v);
-        self.run = Or::Other(Composite::new(ShadowFault::new(self.geometry, made)));
+        self.run = Or::Other(ShadowTask::new(self.geometry, made));
         self.before = None;
         self.freed = FreedCount::new(made.page);
     }

@@ -80,3 +80,18 @@ pub returns-in-Unlocking-clause-next : goal.returns-in-Unlocking-clause-next
 returns-in-Unlocking-clause-next c = λ g first now later own known shown left over.
     over-missing c.args.self.now (Unlocking c.in-Unlocking.end) c.args.end (missing_piece_made c.args._piece.now) c.in-Unlocking.end g first now later c.in-Unlocking.is known left
     (λ k a. after-unlock c.args.self.now.made g first now later c.in-Unlocking.end c.args.end k a)
+
+pub returns-then-told-eq0-2-clause-next : goal.returns-then-told-eq0-2-clause-next
+returns-then-told-eq0-2-clause-next c = λ g first now later own known shown left over. record {
+  new = c.go-then-told-eq0-2.ensures.new;
+  run = step-missing c.args.self.now c.go-then-told-eq0-2.new.self ReadingHome Searching c.args.end (missing_piece_made c.args._piece.now) (missing_piece_made c.go-then-told-eq0-2.result) g first now later c.in-ReadingHome.is known left c.go-then-told-eq0-2.ensures.stage c.go-then-told-eq0-2.ensures.made
+      (λ k a. after-home c.args.self.now.made g first now later c.args.end (sym c.missing_told-told.ensures ∙ c.if-told-eq0-2.true) k a);
+}
+
+pub returns-else-told-eq0-2-clause-next : goal.returns-else-told-eq0-2-clause-next
+returns-else-told-eq0-2-clause-next c = λ g first now later own known shown left over. record {
+  new = c.go-else-told-eq0-2.ensures.new;
+  run = step-missing c.args.self.now c.go-else-told-eq0-2.new.self ReadingHome (ReadingShadow (c.missing_told-told.result - 1)) c.args.end (missing_piece_made c.args._piece.now) (missing_piece_made c.go-else-told-eq0-2.result) g first now later c.in-ReadingHome.is known left c.go-else-told-eq0-2.ensures.stage c.go-else-told-eq0-2.ensures.made
+      (λ k a. let W : ℕ → Type 0 = λ w. RunsMissing c.args.self.now.made (ReadingShadow (w - 1)) (missing_left c.args.self.now.made ReadingHome g c.args.end) g first later in
+      subst W (sym c.missing_told-told.ensures) (after-home-known c.args.self.now.made g first now later c.args.end (λ none. c.if-told-eq0-2.false (c.missing_told-told.ensures ∙ none)) k a));
+}
