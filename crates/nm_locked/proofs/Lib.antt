@@ -4,4 +4,3 @@ pub mod Runs
 pub mod Steps
 pub mod Moving
 pub mod LockedSteps
-pub mod Tasks

@@ -5,4 +5,3 @@ pub mod Moves
 pub mod Leaving
 pub mod Pieces
 pub mod Places
-pub mod Tasks

@@ -3,8 +3,6 @@
 
 pub mod choose;
 pub mod locked;
-pub mod task;
 
 pub use choose::{Choose, ChooseMade, ChoosePiece, Chosen, Early};
 pub use locked::{Locked, LockedEnd, LockedOver, LockedPiece};
-pub use task::LockedTask;

@@ -5,9 +5,10 @@ use Rattle.nm_action.specs.declared.action.Action.{Action}
 use Rattle.nm_action.specs.Own.{Own}
 use Rattle.nm_view.specs.Views.{View}
 use Rattle.nm_compose.specs.declared.composite.Composite.{Composite}
+use Rattle.nm_transfer.specs.Stages.{HoldsWords}
 use Rattle.nm_locked.specs.declared.choose.ChooseMade.{ChooseMade}
 use Rattle.nm_locked.specs.declared.locked.Locked.{Locked}
-use Rattle.nm_locked.specs.declared.task.LockedTask.{LockedTask}
+use Rattle.nm_locked_task.specs.declared.task.LockedTask.{LockedTask}
 use Rattle.nm_locked.specs.Pieces.{LockedPiece}
 
 abbrev pub LockedMade : Type 0
@@ -19,6 +20,10 @@ LockedRun = Composite Locked LockedPiece
 -- what it was begun with, in which geometry
 abbrev pub locked_task_made : LockedTask → LockedMade
 locked_task_made t = (t.geometry.now, t.made)
+
+-- it has no work: it was not begun yet, or its work is over
+abbrev pub IsIdle : LockedTask → Type 0
+IsIdle t = HoldsWords t.taken
 
 -- In these, what the move inside tells of itself, as a part, is given: that it is new, what it was made with, what it awaits.
 

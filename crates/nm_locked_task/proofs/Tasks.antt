@@ -1,9 +1,7 @@
 -- The locked move as a task: the move inside it is the whole work.
-use Rattle.std.proofs.Common.{◌≡◌, List, [], ◌∷◌, ◌++◌, Option, Some, None, sym, ◌∙◌, subst}
+use Rattle.std.proofs.Common.{◌≡◌, [], ◌∷◌, ◌++◌, Option, Some, sym, ◌∙◌, subst}
 use Rattle.nm_base.specs.Geometry.{Geometry}
 use Rattle.nm_action.specs.declared.action.Action.{Action}
-use Rattle.nm_action.specs.declared.turn.Step.{Step}
-use Rattle.nm_action.specs.declared.turn.Step.TheVariants.{Do, Over}
 use Rattle.nm_action.specs.Own.{Own}
 use Rattle.nm_view.specs.Views.{View}
 use Rattle.nm_event.specs.After.{view_after}
@@ -13,7 +11,7 @@ use Rattle.nm_locked.specs.declared.locked.LockedOver.{LockedOver}
 use Rattle.nm_locked.specs.Chosen.{MayChoose}
 use Rattle.nm_locked.specs.Moves.{IsLockedInMove}
 use Rattle.nm_locked.specs.Leaving.{IsLockedLeft}
-use Rattle.nm_locked.specs.Tasks.{LockedMade, LockedRun, IsMoveFor, IsNewMove, AwaitsMove}
+use Rattle.nm_locked_task.specs.Tasks.{LockedMade, LockedRun, IsMoveFor, IsNewMove, AwaitsMove}
 
 -- the finished lists of the move inside, and of the task
 abbrev MoveShape : LockedMade → Geometry → Own → LockedOver → Type 0
@@ -52,3 +50,12 @@ move-asked made run now awaits g view own action for kept h = record {
   awaited = record { held = h.awaited; for = kept ∙ for };
   begun = begun made run g own action for h.begun;
 }
+
+-- the end of the move is the task's
+pub move-ended : (made run : LockedMade) (g : Geometry) (view : View) (own : Own) (over : LockedOver) (ended : Geometry → Own → LockedOver → Type 0) (idle : Geometry → Own → LockedEnd → Type 0)
+    → run ≡ made → IsEnded (MoveShape run) (λ g view over left. IsLockedLeft run.1 view over.end left) ended g view own over → idle g own over.end
+    → IsEnded (TaskShape made) (λ g view end left. IsLockedLeft made.1 view end left) idle g view own over.end
+move-ended made run g view own over ended idle for h kept =
+    let S : LockedMade → Type 0 = λ m. IsLockedInMove m.1 g own over.end in
+    let L : LockedMade → Type 0 = λ m. IsLockedLeft m.1 view over.end (view_after g view own) in
+    record { shown = subst S for h.shown; left = subst L for h.left; over = kept }
