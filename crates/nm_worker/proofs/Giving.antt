@@ -1,5 +1,5 @@
 -- The first turn of a task, and the next action of a piece of work.
-use Rattle.std.proofs.Common.{◌≡◌, ℕ, Bool, false, [], ◌∷◌, ◌++◌, None, refl, sym, ap, subst, ◌∙◌, append_assoc}
+use Rattle.std.proofs.Common.{◌≡◌, ℕ, false, [], ◌∷◌, ◌++◌, None, refl, sym, ap, subst, ◌∙◌, append_assoc}
 use Rattle.std.proofs.lemmas.List.{append-nil}
 use Rattle.nm_base.specs.Geometry.{Geometry}
 use Rattle.nm_action.specs.declared.action.Action.{Action}
@@ -15,7 +15,7 @@ use Rattle.nm_part.specs.Parts.{IsBegunWith, IsAsked}
 use Rattle.nm_part.specs.Patterns.{Follows, IsLeft, CanEnd}
 use Rattle.nm_actor.specs.Turns.{turns_view}
 use Rattle.nm_worker.specs.declared.routine.Task.{Task}
-use Rattle.nm_worker.specs.declared.routine.Task.TheVariants.{Run, Put, Take, Stop}
+use Rattle.nm_worker.specs.declared.routine.Task.TheVariants.{Run, Put, Take}
 use Rattle.nm_worker.specs.declared.routine.Ended.{Ended}
 use Rattle.nm_worker.specs.declared.routine.Ended.TheVariants as ended
 use Rattle.nm_worker.specs.Notes.{Noted, Notes, noted_turns, uncounted, counts_last, worked, IsTask}
@@ -63,10 +63,11 @@ pub work-given : {P M X : Type 0} (made : P → M) (is_new : P → Type 0) (may_
 work-given {P} {M} made is_new may_begin shape awaits counts knows left whole g number piece work front inner action same run asked =
     let R : M → Type 0 = λ m. IsAtWork shape (awaits piece) counts knows left whole g number action (front ++ uncounted inner) action m in
     let A : View → Type 0 = λ view. Allowed g view action in
+    let permitted = subst A (sym (view-more g number front (uncounted inner) inner (own-uncounted inner))) asked.permitted in
     record {
       next = work-comes shape counts left whole g work front inner action run.can run.due asked.begun;
-      at = subst R (sym same) (record { front = front; inner = inner; is = refl; run = run; awaited = asked.awaited; same = refl; range = asked.permitted.range });
-      permitted = subst A (sym (view-more g number front (uncounted inner) inner (own-uncounted inner))) asked.permitted;
+      at = subst R (sym same) (record { front = front; inner = inner; is = refl; run = run; awaited = asked.awaited; same = refl; permitted = permitted });
+      permitted = permitted;
     }
 
 -- what is due after these notes

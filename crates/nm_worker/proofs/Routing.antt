@@ -1,5 +1,5 @@
 -- For routines: the patterns of tasks have lists, and what follows a task follows its piece of work, its put or its take.
-use Rattle.std.proofs.Common.{◌≡◌, ℕ, Bool, true, false, [], ◌∷◌, ◌++◌, Option, Some, None, refl}
+use Rattle.std.proofs.Common.{ℕ, Bool, [], ◌∷◌, ◌++◌, Option, None, refl}
 use Rattle.nm_base.specs.Geometry.{Geometry}
 use Rattle.nm_action.specs.declared.tally.Tally.{Tally}
 use Rattle.nm_action.specs.declared.turn.Lane.{Lane}
@@ -9,8 +9,7 @@ use Rattle.nm_part.specs.Patterns.{Follows, CanEnd}
 use Rattle.nm_compose.specs.declared.or.Or.{Or}
 use Rattle.nm_compose.specs.declared.or.Or.TheVariants.{This, Other}
 use Rattle.nm_compose.specs.Choices.{IsOr}
-use Rattle.nm_worker.specs.declared.routine.Task.{Task}
-use Rattle.nm_worker.specs.declared.routine.Task.TheVariants.{Run, Put, Take, Stop}
+use Rattle.nm_worker.specs.declared.routine.Task.TheVariants.{Run, Put, Take}
 use Rattle.nm_worker.specs.declared.routine.Ended.{Ended}
 use Rattle.nm_worker.specs.declared.routine.Ended.TheVariants as ended
 use Rattle.nm_worker.specs.Notes.{Notes, worked, put_heard, take_heard, IsWork, IsPut, IsTake, IsTask}

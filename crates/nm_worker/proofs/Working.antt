@@ -1,48 +1,44 @@
 -- A piece of work hears a reply: it goes on, or is over.
-use Rattle.std.proofs.Common.{◌≡◌, ℕ, Bool, true, false, [], ◌∷◌, ◌++◌, Option, Some, None, refl, sym, ap, subst, ◌∙◌, length}
-use Rattle.std.proofs.lemmas.List.{append-nil}
+use Rattle.std.proofs.Common.{◌≡◌, ℕ, [], ◌∷◌, ◌++◌, Some, None, refl, sym, ap, subst, ◌∙◌}
 use Rattle.nm_base.specs.Geometry.{Geometry}
 use Rattle.nm_action.specs.declared.action.Action.{Action}
 use Rattle.nm_action.specs.declared.action.Reply.{Reply}
+use Rattle.nm_action.specs.declared.spent.Spent.{Spent}
 use Rattle.nm_action.specs.declared.tally.Tally.{Tally}
-use Rattle.nm_action.specs.declared.turn.Turn.{Turn}
 use Rattle.nm_action.specs.declared.turn.Turn.TheVariants as turn
-use Rattle.nm_action.specs.declared.turn.Heard.{Heard}
-use Rattle.nm_action.specs.declared.turn.Heard.TheVariants.{Start, Answer, PutDone, PutFull, Took, TookNone}
+use Rattle.nm_action.specs.declared.turn.Heard.TheVariants.{Answer}
 use Rattle.nm_action.specs.declared.turn.Step.{Step}
 use Rattle.nm_action.specs.declared.turn.Step.TheVariants.{Do, Over}
 use Rattle.nm_action.specs.Own.{Own}
 use Rattle.nm_view.specs.Views.{View}
 use Rattle.nm_event.specs.Fitting.{Fits}
-use Rattle.nm_event.specs.After.{view_after}
-use Rattle.nm_part.specs.Parts.{IsAsked, IsEnded, IsPartStep, IsHeard}
-use Rattle.nm_part.specs.Patterns.{Follows, IsLeft, CanEnd}
+use Rattle.nm_event.specs.After.{after_of, view_after}
+use Rattle.nm_part.specs.Parts.{IsEnded, IsPartStep, IsHeard}
+use Rattle.nm_part.specs.Patterns.{IsLeft}
 use Rattle.nm_part.proofs.Patterns.{left-after}
-use Rattle.nm_actor.specs.Turns.{Turns, own_list, turns_view}
-use Rattle.nm_actor.specs.Actors.{answered, IsAnswerTo, HasHeard, IsPermittedTurn, IsTurn}
-use Rattle.nm_actor.proofs.TurnLists.{own-push}
-use Rattle.nm_tally.specs.declared.counter.Counter.{Counter}
+use Rattle.nm_actor.specs.Turns.{turns_view}
 use Rattle.nm_worker.specs.declared.routine.Task.{Task}
-use Rattle.nm_worker.specs.declared.routine.Task.TheVariants.{Run, Put, Take, Stop}
+use Rattle.nm_worker.specs.declared.routine.Task.TheVariants.{Run}
 use Rattle.nm_worker.specs.declared.routine.Ended.{Ended}
 use Rattle.nm_worker.specs.declared.routine.Ended.TheVariants as ended
-use Rattle.nm_worker.specs.Notes.{Noted, Notes, noted_turns, uncounted, worked, put_heard, take_heard, tally_with, notes_tally, IsTask}
-use Rattle.nm_worker.specs.Routines.{task_made, IsTaskRun, IsWorkRun, IsNextTask, IsWorkOver, IsTaskOver, HasTaskOver, CanBeginTask}
-use Rattle.nm_worker.specs.Workers.{IsAtTask, IsAtWork, IsAtLane, IsAt, IsGiven, IsAgreeing, IsAnswered, IsWorkHeard}
+use Rattle.nm_worker.specs.Notes.{Noted, Notes, noted_turns, uncounted, worked, IsTask}
+use Rattle.nm_worker.specs.Routines.{task_made, IsWorkOver, IsTaskOver, IsDrawn, HasTaskOver}
+use Rattle.nm_worker.specs.Workers.{IsAtWork, IsAt, IsGiven, IsAnswered, IsWorkHeard}
 use Rattle.nm_worker.proofs.NoteLists.{own-uncounted, own-worked, view-more, uncounted-push, worked-push}
 use Rattle.nm_worker.proofs.Giving.{work-given}
 
 -- the task that runs is over after these notes
-pub record IsTaskEnded {P M X : Type 0} (made : P → M) (shape : M → Geometry → Own → X → Type 0) (leaves : M → Geometry → View → X → View → Type 0) (ends : P → Geometry → Own → X → Type 0) (knows : View → Task M → Type 0) (left : Ended X → Notes → Unit {0} → Type 0) (whole : Notes → Unit {0} → Type 0) (g : Geometry) (number : ℕ) (task : Task P) (notes : Notes) (end : Ended X) : Type 0 where
+pub record IsTaskEnded {P M X : Type 0} (made : P → M) (shape : M → Geometry → Own → X → Type 0) (leaves : M → Geometry → View → X → View → Type 0) (ends : P → Geometry → Own → X → Type 0) (knows : View → Task M → Type 0) (left : Ended X → Notes → Unit {0} → Type 0) (whole : Notes → Unit {0} → Type 0) (g : Geometry) (number : ℕ) (spent : Spent) (task : Task P) (notes : Notes) (end : Ended X) : Type 0 where
   pub now : View
   pub known : knows now (task_made made task)
   pub over : IsTaskOver made shape leaves ends g now (turns_view g number (noted_turns notes)) task end
+  pub drawn : IsDrawn spent (turns_view g number (noted_turns notes))
   pub due : IsLeft whole notes (left end)
 
 -- the routine can go on
-pub ended-over : {P M X : Type 0} (made : P → M) (shape : M → Geometry → Own → X → Type 0) (leaves : M → Geometry → View → X → View → Type 0) (ends : P → Geometry → Own → X → Type 0) (knows : View → Task M → Type 0) (left : Ended X → Notes → Unit {0} → Type 0) (whole : Notes → Unit {0} → Type 0) (g : Geometry) (number : ℕ) (task : Task P) (notes : Notes) (end : Ended X)
-    → IsTaskEnded made shape leaves ends knows left whole g number task notes end → HasTaskOver made shape leaves ends knows g task end
-ended-over made shape leaves ends knows left whole g number task notes end h = record { now = h.now; later = turns_view g number (noted_turns notes); known = h.known; over = h.over }
+pub ended-over : {P M X : Type 0} (made : P → M) (shape : M → Geometry → Own → X → Type 0) (leaves : M → Geometry → View → X → View → Type 0) (ends : P → Geometry → Own → X → Type 0) (knows : View → Task M → Type 0) (left : Ended X → Notes → Unit {0} → Type 0) (whole : Notes → Unit {0} → Type 0) (g : Geometry) (number : ℕ) (spent : Spent) (task : Task P) (notes : Notes) (end : Ended X)
+    → IsTaskEnded made shape leaves ends knows left whole g number spent task notes end → HasTaskOver made shape leaves ends knows g task end spent
+ended-over made shape leaves ends knows left whole g number spent task notes end h = record { now = h.now; later = turns_view g number (noted_turns notes); known = h.known; over = h.over; drawn = h.drawn }
 
 -- the view after the notes of a piece of work
 work-view : (g : Geometry) (number : ℕ) (notes front : Notes) (inner : Own) → notes ≡ front ++ uncounted inner → turns_view g number (noted_turns notes) ≡ view_after g (turns_view g number (noted_turns front)) inner
@@ -61,9 +57,9 @@ at-work : {P M X : Type 0} (made : P → M) (is_new : P → Type 0) (may_begin :
 at-work {P} made is_new may_begin shape awaits counts knows left whole g number kept notes action task piece is at = let N : Task P → Type 0 = λ t. IsAt made is_new may_begin shape awaits counts knows left whole g number kept notes (Some (turn.Do action)) t in subst N is at
 
 -- it hears the reply
-pub work-heard : {P M X : Type 0} (made : P → M) (is_new : P → Type 0) (may_begin : M → Geometry → View → Type 0) (shape : M → Geometry → Own → X → Type 0) (awaits : P → Geometry → View → Own → Action → Type 0) (counts : X → Tally) (knows : View → Task M → Type 0) (left : Ended X → Notes → Unit {0} → Type 0) (whole : Notes → Unit {0} → Type 0) (g : Geometry) (number : ℕ) (kept : Action) (task : Task P) (piece : P) (reply : Reply)
-    → task ≡ Run piece → IsWorkHeard (λ notes last. IsAt made is_new may_begin shape awaits counts knows left whole g number kept notes last task) g number reply → IsHeard (awaits piece) reply
-work-heard made is_new may_begin shape awaits counts knows left whole g number kept task piece reply is h =
+pub work-heard : {P M X : Type 0} (made : P → M) (is_new : P → Type 0) (may_begin : M → Geometry → View → Type 0) (shape : M → Geometry → Own → X → Type 0) (awaits : P → Geometry → View → Own → Action → Type 0) (counts : X → Tally) (knows : View → Task M → Type 0) (left : Ended X → Notes → Unit {0} → Type 0) (whole : Notes → Unit {0} → Type 0) (g : Geometry) (number : ℕ) (kept : Action) (task : Task P) (piece : P) (spent : Spent) (reply : Reply)
+    → task ≡ Run piece → IsWorkHeard (λ notes last. IsAt made is_new may_begin shape awaits counts knows left whole g number kept notes last task) g number spent reply → IsHeard (awaits piece) reply
+work-heard made is_new may_begin shape awaits counts knows left whole g number kept task piece spent reply is h =
     let at = at-work made is_new may_begin shape awaits counts knows left whole g number kept h.notes h.action task piece is h.here in
     record {
       geometry = g;
@@ -75,12 +71,12 @@ work-heard made is_new may_begin shape awaits counts knows left whole g number k
     }
 
 -- it goes on
-pub work-more : {P M X : Type 0} (made : P → M) (is_new : P → Type 0) (may_begin : M → Geometry → View → Type 0) (shape : M → Geometry → Own → X → Type 0) (awaits : P → Geometry → View → Own → Action → Type 0) (leaves : M → Geometry → View → X → View → Type 0) (ends : P → Geometry → Own → X → Type 0) (counts : X → Tally) (knows : View → Task M → Type 0) (left : Ended X → Notes → Unit {0} → Type 0) (whole : Notes → Unit {0} → Type 0) (g : Geometry) (number : ℕ) (kept : Action) (task : Task P) (was piece : P) (given : Action) (reply : Reply) (result : Step X) (tally : Tally)
+pub work-more : {P M X : Type 0} (made : P → M) (is_new : P → Type 0) (may_begin : M → Geometry → View → Type 0) (shape : M → Geometry → Own → X → Type 0) (awaits : P → Geometry → View → Own → Action → Type 0) (leaves : M → Geometry → View → X → View → Type 0) (ends : P → Geometry → Own → X → Type 0) (counts : X → Tally) (knows : View → Task M → Type 0) (left : Ended X → Notes → Unit {0} → Type 0) (whole : Notes → Unit {0} → Type 0) (g : Geometry) (number : ℕ) (kept : Action) (task : Task P) (was piece : P) (given : Action) (reply : Reply) (result : Step X) (tally : Tally) (spent : Spent)
     → task ≡ Run was → made piece ≡ made was → result ≡ Do given
     → ((g : Geometry) (v : View) (own : Own) (action : Action) → awaits was g v own action → Fits g (view_after g v own) action reply → IsPartStep (awaits piece) (shape (made was)) (leaves (made was)) (ends piece) g v (own ++ (action, reply) ∷ []) result)
-    → (notes : Notes) (action : Action) → IsAt made is_new may_begin shape awaits counts knows left whole g number kept notes (Some (turn.Do action)) task → Fits g (turns_view g number (noted_turns notes)) action reply
+    → (notes : Notes) (action : Action) → IsAt made is_new may_begin shape awaits counts knows left whole g number kept notes (Some (turn.Do action)) task → Fits g (turns_view g number (noted_turns notes)) action reply → IsDrawn spent (after_of g (turns_view g number (noted_turns notes)) action reply)
     → IsAnswered (IsGiven made is_new may_begin shape awaits counts knows left whole g number given (Run piece) (turn.Do given)) tally tally notes (turn.Do action) (Answer reply)
-work-more {P} {M} {X} made is_new may_begin shape awaits leaves ends counts knows left whole g number kept task was piece given reply result tally is same does after notes action here fits =
+work-more {P} {M} {X} made is_new may_begin shape awaits leaves ends counts knows left whole g number kept task was piece given reply result tally spent is same does after notes action here fits drawn =
     let at = at-work made is_new may_begin shape awaits counts knows left whole g number kept notes action task was is here in
     let view = turns_view g number (noted_turns at.front) in
     let step = after g view at.inner action at.awaited (work-fits g number notes at.front at.inner action reply at.is fits) in
@@ -95,12 +91,12 @@ work-more {P} {M} {X} made is_new may_begin shape awaits leaves ends counts know
     }
 
 -- it is over with this reply
-pub work-over : {P M X : Type 0} (made : P → M) (is_new : P → Type 0) (may_begin : M → Geometry → View → Type 0) (shape : M → Geometry → Own → X → Type 0) (awaits : P → Geometry → View → Own → Action → Type 0) (leaves : M → Geometry → View → X → View → Type 0) (ends : P → Geometry → Own → X → Type 0) (counts : X → Tally) (knows : View → Task M → Type 0) (left : Ended X → Notes → Unit {0} → Type 0) (whole : Notes → Unit {0} → Type 0) (g : Geometry) (number : ℕ) (kept : Action) (task : Task P) (was piece : P) (reply : Reply) (result : Step X) (end : X)
+pub work-over : {P M X : Type 0} (made : P → M) (is_new : P → Type 0) (may_begin : M → Geometry → View → Type 0) (shape : M → Geometry → Own → X → Type 0) (awaits : P → Geometry → View → Own → Action → Type 0) (leaves : M → Geometry → View → X → View → Type 0) (ends : P → Geometry → Own → X → Type 0) (counts : X → Tally) (knows : View → Task M → Type 0) (left : Ended X → Notes → Unit {0} → Type 0) (whole : Notes → Unit {0} → Type 0) (g : Geometry) (number : ℕ) (kept : Action) (task : Task P) (was piece : P) (reply : Reply) (result : Step X) (end : X) (spent : Spent)
     → task ≡ Run was → made piece ≡ made was → result ≡ Over end
     → ((g : Geometry) (v : View) (own : Own) (action : Action) → awaits was g v own action → Fits g (view_after g v own) action reply → IsPartStep (awaits piece) (shape (made was)) (leaves (made was)) (ends piece) g v (own ++ (action, reply) ∷ []) result)
-    → (notes : Notes) (action : Action) → IsAt made is_new may_begin shape awaits counts knows left whole g number kept notes (Some (turn.Do action)) task → Fits g (turns_view g number (noted_turns notes)) action reply
-    → IsTaskEnded made shape leaves ends knows left whole g number (Run piece) (notes ++ record { turn = turn.Do action; heard = Answer reply; counts = Some (counts end) } ∷ []) (ended.Run end)
-work-over {P} {M} {X} made is_new may_begin shape awaits leaves ends counts knows left whole g number kept task was piece reply result end is same does after notes action here fits =
+    → (notes : Notes) (action : Action) → IsAt made is_new may_begin shape awaits counts knows left whole g number kept notes (Some (turn.Do action)) task → Fits g (turns_view g number (noted_turns notes)) action reply → IsDrawn spent (after_of g (turns_view g number (noted_turns notes)) action reply)
+    → IsTaskEnded made shape leaves ends knows left whole g number spent (Run piece) (notes ++ record { turn = turn.Do action; heard = Answer reply; counts = Some (counts end) } ∷ []) (ended.Run end)
+work-over {P} {M} {X} made is_new may_begin shape awaits leaves ends counts knows left whole g number kept task was piece reply result end spent is same does after notes action here fits drawn =
     let at = at-work made is_new may_begin shape awaits counts knows left whole g number kept notes action task was is here in
     let view = turns_view g number (noted_turns at.front) in
     let more : Own = at.inner ++ (action, reply) ∷ [] in
@@ -110,12 +106,15 @@ work-over {P} {M} {X} made is_new may_begin shape awaits leaves ends counts know
     let list : notes ++ note ∷ [] ≡ at.front ++ worked (counts end) more = ap (λ (l : Notes). l ++ note ∷ []) at.is ∙ worked-push (counts end) at.front at.inner action reply in
     let later = view-more g number at.front (worked (counts end) more) more (own-worked (counts end) more) in
     let V : View → Type 0 = λ v. leaves (made was) g view end v in
-    let L : Notes → Type 0 = λ l. IsTaskEnded made shape leaves ends knows left whole g number (Run piece) l (ended.Run end) in
+    let L : Notes → Type 0 = λ l. IsTaskEnded made shape leaves ends knows left whole g number spent (Run piece) l (ended.Run end) in
+    let D : View → Type 0 = λ v. IsDrawn spent v in
+    let N : Notes → Type 0 = λ l. IsDrawn spent (turns_view g number (noted_turns l)) in
     let K : M → Type 0 = λ m. knows view (Run m) in
     let W : M → Type 0 = λ m. IsWorkOver shape leaves (ends piece) m g view (turns_view g number (noted_turns (at.front ++ worked (counts end) more))) end in
     subst L (sym list) (record {
       now = view;
       known = subst K (sym same) at.run.known;
       over = subst W (sym same) (record { own = more; shown = done.shown; left = subst V (sym later) done.left; over = done.over });
+      drawn = subst N list (subst D (sym (view-more g number notes (note ∷ []) ((action, reply) ∷ []) refl)) drawn);
       due = left-after whole at.front (worked (counts end) more) (IsTask shape counts g (Run (made was))) left (ended.Run end) at.run.due (record { own = more; shown = done.shown; is = refl });
     })

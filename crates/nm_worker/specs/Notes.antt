@@ -1,8 +1,6 @@
 -- Answered turns with what they count, and the patterns of the tasks that an actor does one after the other.
-use Rattle.std.specs.Prelude.{◌≡◌, ℕ, Bool, true, false, List, [], ◌∷◌, ◌++◌, Option, Some, None}
+use Rattle.std.specs.Prelude.{◌≡◌, ℕ, Bool, true, false, List, [], ◌∷◌, Option, Some, None}
 use Rattle.nm_base.specs.Geometry.{Geometry}
-use Rattle.nm_action.specs.declared.action.Action.{Action}
-use Rattle.nm_action.specs.declared.action.Reply.{Reply}
 use Rattle.nm_action.specs.declared.tally.Tally.{Tally}
 use Rattle.nm_action.specs.declared.turn.Lane.{Lane}
 use Rattle.nm_action.specs.declared.turn.Turn.{Turn}
@@ -14,7 +12,7 @@ use Rattle.nm_action.specs.Tally.{sum_of}
 use Rattle.nm_tally.specs.Counts.{zero_tally}
 use Rattle.nm_actor.specs.Turns.{Turns}
 use Rattle.nm_worker.specs.declared.routine.Task.{Task}
-use Rattle.nm_worker.specs.declared.routine.Task.TheVariants.{Run, Put, Take, Stop}
+use Rattle.nm_worker.specs.declared.routine.Task.TheVariants.{Run, Put, Take}
 use Rattle.nm_worker.specs.declared.routine.Ended.{Ended}
 use Rattle.nm_worker.specs.declared.routine.Ended.TheVariants as ended
 

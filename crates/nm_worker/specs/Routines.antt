@@ -1,6 +1,7 @@
 -- What a routine promises of each task that it gives.
-use Rattle.std.specs.Prelude.{◌≡◌, ℕ, Bool, [], Option}
+use Rattle.std.specs.Prelude.{◌≡◌, []}
 use Rattle.nm_base.specs.Geometry.{Geometry}
+use Rattle.nm_action.specs.declared.spent.Spent.{Spent}
 use Rattle.nm_action.specs.declared.tally.Tally.{Tally}
 use Rattle.nm_action.specs.Own.{Own}
 use Rattle.nm_view.specs.Views.{View}
@@ -55,12 +56,18 @@ IsTaskOver made shape leaves ends g now later (Put lane page) (ended.Put full) =
 IsTaskOver made shape leaves ends g now later (Take lane) (ended.Take page) = later ≡ now
 IsTaskOver made shape leaves ends g now later task end = ⊥
 
--- a task of the routine has ended so
-pub record HasTaskOver {P M X : Type 0} (made : P → M) (shape : M → Geometry → Own → X → Type 0) (leaves : M → Geometry → View → X → View → Type 0) (ends : P → Geometry → Own → X → Type 0) (knows : View → Task M → Type 0) (g : Geometry) (task : Task P) (end : Ended X) : Type 0 where
+-- what the actor has drawn: the bumps and the raises of its view
+pub record IsDrawn (spent : Spent) (view : View) : Type 0 where
+  pub bumps : spent.bumps ≡ view.bumps
+  pub raises : spent.raises ≡ view.raises
+
+-- a task of the routine has ended so, and the actor has drawn this
+pub record HasTaskOver {P M X : Type 0} (made : P → M) (shape : M → Geometry → Own → X → Type 0) (leaves : M → Geometry → View → X → View → Type 0) (ends : P → Geometry → Own → X → Type 0) (knows : View → Task M → Type 0) (g : Geometry) (task : Task P) (end : Ended X) (spent : Spent) : Type 0 where
   pub now : View
   pub later : View
   pub known : knows now (task_made made task)
   pub over : IsTaskOver made shape leaves ends g now later task end
+  pub drawn : IsDrawn spent later
 
 -- a task can be begun: its piece of work has given no action, and there are a geometry and a view with which it may begin
 pub record CanBegin (new : Type 0) (may : Geometry → View → Type 0) : Type 0 where

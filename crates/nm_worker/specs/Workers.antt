@@ -1,17 +1,19 @@
 -- An actor that follows a routine: what it agrees with, and how far it has come.
-use Rattle.std.specs.Prelude.{◌≡◌, ℕ, List, [], ◌∷◌, ◌++◌, length, Option, Some, None}
+use Rattle.std.specs.Prelude.{◌≡◌, ℕ, ◌≤◌, [], ◌∷◌, ◌++◌, length, Option, Some, None}
 use Rattle.nm_base.specs.Geometry.{Geometry, page_count}
 use Rattle.nm_action.specs.declared.action.Action.{Action}
 use Rattle.nm_action.specs.declared.action.Reply.{Reply}
+use Rattle.nm_action.specs.declared.spent.Spent.{Spent}
 use Rattle.nm_action.specs.declared.tally.Tally.{Tally}
 use Rattle.nm_action.specs.declared.turn.Turn.{Turn}
 use Rattle.nm_action.specs.declared.turn.Turn.TheVariants as turn
 use Rattle.nm_action.specs.declared.turn.Heard.{Heard}
 use Rattle.nm_action.specs.Own.{Own}
-use Rattle.nm_view.specs.Views.{View}
+use Rattle.nm_view.specs.Views.{View, own_bumps, own_raises}
 use Rattle.nm_view.specs.Opening.{opening}
-use Rattle.nm_permit.specs.Permitted.{InRange}
+use Rattle.nm_permit.specs.Permitted.{Allowed}
 use Rattle.nm_event.specs.Fitting.{Fits}
+use Rattle.nm_event.specs.After.{after_of}
 use Rattle.nm_part.specs.Patterns.{Follows, IsLeft, CanEnd}
 use Rattle.nm_tally.specs.declared.counter.Counter.{Counter}
 use Rattle.nm_tally.specs.Counts.{zero_tally}
@@ -21,8 +23,8 @@ use Rattle.nm_actor.specs.Actors.{IsPermittedTurn}
 use Rattle.nm_worker.specs.declared.routine.Task.{Task}
 use Rattle.nm_worker.specs.declared.routine.Task.TheVariants.{Run, Put, Take, Stop}
 use Rattle.nm_worker.specs.declared.routine.Ended.{Ended}
-use Rattle.nm_worker.specs.Notes.{Noted, Notes, noted_turns, tally_with, notes_tally, uncounted, IsTask}
-use Rattle.nm_worker.specs.Routines.{IsNextTask}
+use Rattle.nm_worker.specs.Notes.{Notes, noted_turns, tally_with, notes_tally, uncounted, IsTask}
+use Rattle.nm_worker.specs.Routines.{IsNextTask, IsDrawn}
 
 -- What an actor agrees with.
 
@@ -56,7 +58,7 @@ pub record IsAtWork {M X : Type 0} (shape : M → Geometry → Own → X → Typ
   pub run : IsAtTask (knows (turns_view g number (noted_turns front)) (Run work)) (IsTask shape counts g (Run work)) left whole front
   pub awaited : awaits g (turns_view g number (noted_turns front)) inner action
   pub same : kept ≡ action
-  pub range : InRange g action
+  pub permitted : Allowed g (turns_view g number (noted_turns notes)) action
 
 -- a page is being put or taken, by this turn
 pub record IsAtLane {X : Type 0} (knows : Type 0) (done : Notes → Ended X → Type 0) (left : Ended X → Notes → Unit {0} → Type 0) (whole : Notes → Unit {0} → Type 0) (notes : Notes) (given turn : Turn) : Type 0 where
@@ -78,15 +80,22 @@ pub record IsGiven {P M X : Type 0} (made : P → M) (is_new : P → Type 0) (ma
   pub at : IsAt made is_new may_begin shape awaits counts knows left whole g number kept notes (Some given) task
   pub permitted : IsPermittedTurn g (turns_view g number (noted_turns notes)) given
 
+-- no more was drawn than a view may
+pub record IsFewDrawn (spent : Spent) : Type 0 where
+  pub bumps : spent.bumps ≤ own_bumps
+  pub raises : spent.raises ≤ own_raises
+
 -- the actor has these answered turns, and this one waits for its answer: they go on as a sequence of the routine, and what is
 -- counted is counted of them
-pub record IsAgreeing {P M X : Type 0} (made : P → M) (is_new : P → Type 0) (may_begin : M → Geometry → View → Type 0) (shape : M → Geometry → Own → X → Type 0) (awaits : P → Geometry → View → Own → Action → Type 0) (counts : X → Tally) (knows : View → Task M → Type 0) (left : Ended X → Notes → Unit {0} → Type 0) (whole : Notes → Unit {0} → Type 0) (g : Geometry) (number : ℕ) (kept : Action) (task : Task P) (counter : Counter) (tally : Tally) (turns : Turns) (last : Option Turn) : Type 0 where
+pub record IsAgreeing {P M X : Type 0} (made : P → M) (is_new : P → Type 0) (may_begin : M → Geometry → View → Type 0) (shape : M → Geometry → Own → X → Type 0) (awaits : P → Geometry → View → Own → Action → Type 0) (counts : X → Tally) (knows : View → Task M → Type 0) (left : Ended X → Notes → Unit {0} → Type 0) (whole : Notes → Unit {0} → Type 0) (g : Geometry) (number : ℕ) (kept : Action) (task : Task P) (counter : Counter) (tally : Tally) (spent : Spent) (turns : Turns) (last : Option Turn) : Type 0 where
   pub notes : Notes
   pub is : turns ≡ noted_turns notes
   pub next : GoesOn whole notes last
   pub events : IsCounted counter (own_list turns)
   pub ends : tally ≡ notes_tally notes
   pub pages : length counter.locked.items ≡ page_count g
+  pub drawn : IsDrawn spent (turns_view g number turns)
+  pub few : IsFewDrawn spent
   pub at : IsAt made is_new may_begin shape awaits counts knows left whole g number kept notes last task
 
 -- a turn was answered, with what its answer counts, and another is given after it
@@ -95,16 +104,19 @@ pub record IsAnswered (given : Notes → Type 0) (old new : Tally) (notes : Note
   pub ends : new ≡ tally_with old counts
   pub next : given (notes ++ record { turn = answered; heard = heard; counts = counts } ∷ [])
 
--- the piece of work that runs awaits the answer to an action, and this reply fits
-pub record IsWorkHeard (at : Notes → Option Turn → Type 0) (g : Geometry) (number : ℕ) (reply : Reply) : Type 0 where
+-- the piece of work that runs awaits the answer to an action, this reply fits, and so much was drawn with it
+pub record IsWorkHeard (at : Notes → Option Turn → Type 0) (g : Geometry) (number : ℕ) (spent : Spent) (reply : Reply) : Type 0 where
   pub notes : Notes
   pub action : Action
   pub here : at notes (Some (turn.Do action))
   pub fits : Fits g (turns_view g number (noted_turns notes)) action reply
+  pub drawn : IsDrawn spent (after_of g (turns_view g number (noted_turns notes)) action reply)
 
 -- a worker is new: its first task comes next, and nothing is counted
-pub record IsNewWorker (first : Type 0) (g : Geometry) (counter : Counter) (tally : Tally) : Type 0 where
+pub record IsNewWorker (first : Type 0) (g : Geometry) (number : ℕ) (counter : Counter) (tally : Tally) (spent : Spent) : Type 0 where
   pub next : first
   pub events : IsCounted counter []
   pub ends : tally ≡ zero_tally
   pub pages : length counter.locked.items ≡ page_count g
+  pub drawn : IsDrawn spent (opening g number)
+  pub few : IsFewDrawn spent

@@ -1,6 +1,6 @@
 //! What an actor does after each of its tasks.
 
-use nm_event::{Lane, Tally};
+use nm_event::{Lane, Spent, Tally};
 use nm_part::Piece;
 
 /// What an actor does next.
@@ -41,7 +41,7 @@ pub trait Routine<P: Piece> {
     ghost use Rattle.nm_worker.specs.declared.routine.Task.{Task};
     ghost use Rattle.nm_worker.specs.declared.routine.Ended.{Ended};
     ghost use Rattle.nm_worker.specs.Notes.{Notes};
-    ghost use Rattle.nm_worker.specs.Routines.{task_made, IsNextTask, IsTaskOver, HasTaskOver};
+    ghost use Rattle.nm_worker.specs.Routines.{task_made, IsNextTask, IsTaskOver, IsDrawn, HasTaskOver};
 
     /// The plain data that it was made with.
     type Made;
@@ -76,11 +76,12 @@ pub trait Routine<P: Piece> {
         ensures next { IsNextTask P.made P.is_new P.may_begin P.shape counts (knows self.new) (left self.new) (shape (made self.old))
             (geometry (made self.old)) (opening (geometry (made self.old)) (number (made self.old))) result };
 
-    /// The task after this one, which has ended so. Condition: the task can have ended so as the routine's.
-    fn go_on(&mut self, task: &Task<P>, end: Ended<P::Outcome>) -> Task<P>
-        requires { HasTaskOver P.made P.shape P.leaves P.ended (knows self.old) (geometry (made self.old)) task.now end }
+    /// The task after this one, which has ended so; the actor has drawn so much until then. Conditions: the task can have ended
+    /// so as the routine's, and `spent` is what the view has made.
+    fn go_on(&mut self, task: &Task<P>, end: Ended<P::Outcome>, spent: Spent) -> Task<P>
+        requires { HasTaskOver P.made P.shape P.leaves P.ended (knows self.old) (geometry (made self.old)) task.now end spent }
         ensures made { made self.new ≡ made self.old }
-        ensures next { (now later : View) → knows self.old now (task_made P.made task.now) → IsTaskOver P.made P.shape P.leaves P.ended (geometry (made self.old)) now later task.now end
+        ensures next { (now later : View) → knows self.old now (task_made P.made task.now) → IsTaskOver P.made P.shape P.leaves P.ended (geometry (made self.old)) now later task.now end → IsDrawn spent later
             → IsNextTask P.made P.is_new P.may_begin P.shape counts (knows self.new) (left self.new) (left self.old end) (geometry (made self.old)) later result };
 
     /// What the end of a piece of work counts: faults, moves and demotions by how they ended. What the events of the piece

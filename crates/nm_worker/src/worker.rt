@@ -10,23 +10,24 @@ ghost use Rattle.nm_action.specs.Own.{Own};
 ghost use Rattle.nm_view.specs.Views.{View};
 ghost use Rattle.nm_view.specs.Opening.{opening};
 ghost use Rattle.nm_event.specs.Fitting.{Fits};
+ghost use Rattle.nm_event.specs.After.{after_of};
 ghost use Rattle.nm_part.specs.Patterns.{IsLeft};
 ghost use Rattle.nm_tally.specs.Counting.{IsCounted};
 ghost use Rattle.nm_actor.specs.Turns.{Turns, turns_view};
 ghost use Rattle.nm_worker.specs.Notes.{Notes, noted_turns};
-ghost use Rattle.nm_worker.specs.Routines.{task_made, IsNextTask, IsTaskOver, HasTaskOver, CanBeginTask};
+ghost use Rattle.nm_worker.specs.Routines.{task_made, IsNextTask, IsTaskOver, IsDrawn, HasTaskOver, CanBeginTask};
 ghost use Rattle.nm_worker.specs.Workers.{IsAt, IsGiven, IsAnswered, IsWorkHeard, IsNewWorker};
 
 use crate::routine::{Ended, Routine, Task};
 use nm_actor::Actor;
 use nm_base::Geometry;
-use nm_event::{Action, Heard, Reply, Step, Tally, Turn};
+use nm_event::{Action, Heard, Reply, Spent, Step, Tally, Turn};
 use nm_part::Piece;
 use nm_tally::Counter;
 use std::alloc::{AllocError, Global};
 
 /// The actor that a routine makes of its tasks: it runs a piece of work to its end, puts a page or takes one, and then
-/// does what the routine says; it counts the events, and the ends of the pieces of work.
+/// does what the routine says; it counts the events, the ends of the pieces of work, and what was drawn.
 #[derive(Drop)]
 pub struct Worker<R, P> {
     routine: R,
@@ -35,6 +36,7 @@ pub struct Worker<R, P> {
     action: Action,
     events: Counter,
     ends: Tally,
+    spent: Spent,
 }
 
 impl<P: Piece + Drop, R: Routine<P> + Drop> Worker<R, P>
@@ -49,7 +51,7 @@ where
         ensures made { IfOk result (λ w. R.made w.routine ≡ R.made routine) }
         ensures new { IfOk result (λ w. IsNewWorker
             (IsNextTask P.made P.is_new P.may_begin P.shape R.counts (R.knows w.routine) (R.left w.routine) (R.shape (R.made w.routine)) (R.geometry (R.made w.routine)) (opening (R.geometry (R.made w.routine)) (R.number (R.made w.routine))) w.task)
-            (R.geometry (R.made w.routine)) w.events w.ends) }
+            (R.geometry (R.made w.routine)) (R.number (R.made w.routine)) w.events w.ends w.spent) }
     {
         let events = Counter::new(alloc, g)?;
         let mut routine = routine;
@@ -60,6 +62,7 @@ where
             action: Action::Poll,
             events,
             ends: Tally::default(),
+            spent: Spent::default(),
         })
     }
 
@@ -76,6 +79,7 @@ where
         ensures routine { self.new.routine ≡ self.old.routine }
         ensures events { self.new.events ≡ self.old.events }
         ensures ends { self.new.ends ≡ self.old.ends }
+        ensures spent { self.new.spent ≡ self.old.spent }
         ensures given { (notes : Notes)
             → IsNextTask P.made P.is_new P.may_begin P.shape R.counts (R.knows self.old.routine) (R.left self.old.routine) (λ rest outcome. R.shape (R.made self.old.routine) (notes ++ rest) outcome) (R.geometry (R.made self.old.routine)) (turns_view (R.geometry (R.made self.old.routine)) (R.number (R.made self.old.routine)) (noted_turns notes)) self.old.task
             → IsGiven P.made P.is_new P.may_begin P.shape P.awaits R.counts (R.knows self.old.routine) (R.left self.old.routine) (R.shape (R.made self.old.routine)) (R.geometry (R.made self.old.routine)) (R.number (R.made self.old.routine)) self.new.action self.new.task result notes }
@@ -94,27 +98,31 @@ where
 
     /// The first turn of the task after its own, which has ended so.
     fn go_on(&mut self, end: Ended<P::Outcome>) -> Turn
-        requires { HasTaskOver P.made P.shape P.leaves P.ended (R.knows self.old.routine) (R.geometry (R.made self.old.routine)) self.old.task end }
+        requires { HasTaskOver P.made P.shape P.leaves P.ended (R.knows self.old.routine) (R.geometry (R.made self.old.routine)) self.old.task end self.old.spent }
         ensures made { R.made self.new.routine ≡ R.made self.old.routine }
         ensures events { self.new.events ≡ self.old.events }
         ensures ends { self.new.ends ≡ self.old.ends }
+        ensures spent { self.new.spent ≡ self.old.spent }
         ensures given { (notes : Notes) (now : View) → R.knows self.old.routine now (task_made P.made self.old.task)
             → IsTaskOver P.made P.shape P.leaves P.ended (R.geometry (R.made self.old.routine)) now (turns_view (R.geometry (R.made self.old.routine)) (R.number (R.made self.old.routine)) (noted_turns notes)) self.old.task end
+            → IsDrawn self.old.spent (turns_view (R.geometry (R.made self.old.routine)) (R.number (R.made self.old.routine)) (noted_turns notes))
             → IsLeft (R.shape (R.made self.old.routine)) notes (R.left self.old.routine end)
             → IsGiven P.made P.is_new P.may_begin P.shape P.awaits R.counts (R.knows self.new.routine) (R.left self.new.routine) (R.shape (R.made self.old.routine)) (R.geometry (R.made self.old.routine)) (R.number (R.made self.old.routine)) self.new.action self.new.task result notes }
     {
-        self.task = self.routine.go_on(&self.task, end);
+        self.task = self.routine.go_on(&self.task, end, self.spent);
         self.give()
     }
 
     /// The turn after a reply to the piece of work that runs.
     fn hear(&mut self, reply: Reply) -> Turn
-        requires { IsWorkHeard (λ notes last. IsAt P.made P.is_new P.may_begin P.shape P.awaits R.counts (R.knows self.old.routine) (R.left self.old.routine) (R.shape (R.made self.old.routine)) (R.geometry (R.made self.old.routine)) (R.number (R.made self.old.routine)) self.old.action notes last self.old.task) (R.geometry (R.made self.old.routine)) (R.number (R.made self.old.routine)) reply }
+        requires { IsWorkHeard (λ notes last. IsAt P.made P.is_new P.may_begin P.shape P.awaits R.counts (R.knows self.old.routine) (R.left self.old.routine) (R.shape (R.made self.old.routine)) (R.geometry (R.made self.old.routine)) (R.number (R.made self.old.routine)) self.old.action notes last self.old.task) (R.geometry (R.made self.old.routine)) (R.number (R.made self.old.routine)) self.old.spent reply }
         ensures made { R.made self.new.routine ≡ R.made self.old.routine }
         ensures events { self.new.events ≡ self.old.events }
+        ensures spent { self.new.spent ≡ self.old.spent }
         ensures given { (notes : Notes) (action : Action)
             → IsAt P.made P.is_new P.may_begin P.shape P.awaits R.counts (R.knows self.old.routine) (R.left self.old.routine) (R.shape (R.made self.old.routine)) (R.geometry (R.made self.old.routine)) (R.number (R.made self.old.routine)) self.old.action notes (Some (turn.Do action)) self.old.task
             → Fits (R.geometry (R.made self.old.routine)) (turns_view (R.geometry (R.made self.old.routine)) (R.number (R.made self.old.routine)) (noted_turns notes)) action reply
+            → IsDrawn self.old.spent (after_of (R.geometry (R.made self.old.routine)) (turns_view (R.geometry (R.made self.old.routine)) (R.number (R.made self.old.routine)) (noted_turns notes)) action reply)
             → IsAnswered (IsGiven P.made P.is_new P.may_begin P.shape P.awaits R.counts (R.knows self.new.routine) (R.left self.new.routine) (R.shape (R.made self.old.routine)) (R.geometry (R.made self.old.routine)) (R.number (R.made self.old.routine)) self.new.action self.new.task result) self.old.ends self.new.ends notes (turn.Do action) (Answer reply) }
     {
         let Task::Run(piece) = &mut self.task else {
@@ -153,9 +161,9 @@ where
 
     ghost is_new = { λ w. IsNewWorker
         (IsNextTask P.made P.is_new P.may_begin P.shape R.counts (R.knows w.routine) (R.left w.routine) (R.shape (R.made w.routine)) (R.geometry (R.made w.routine)) (opening (R.geometry (R.made w.routine)) (R.number (R.made w.routine))) w.task)
-        (R.geometry (R.made w.routine)) w.events w.ends };
+        (R.geometry (R.made w.routine)) (R.number (R.made w.routine)) w.events w.ends w.spent };
 
-    ghost agrees = { λ w. IsAgreeing P.made P.is_new P.may_begin P.shape P.awaits R.counts (R.knows w.routine) (R.left w.routine) (R.shape (R.made w.routine)) (R.geometry (R.made w.routine)) (R.number (R.made w.routine)) w.action w.task w.events w.ends };
+    ghost agrees = { λ w. IsAgreeing P.made P.is_new P.may_begin P.shape P.awaits R.counts (R.knows w.routine) (R.left w.routine) (R.shape (R.made w.routine)) (R.geometry (R.made w.routine)) (R.number (R.made w.routine)) w.action w.task w.events w.ends w.spent };
 
     ghost counted = { λ w. sum_of w.events.tally w.ends };
 
@@ -164,6 +172,7 @@ where
             Heard::Start => self.give(),
             Heard::Answer(reply) => {
                 self.events.note(self.action, reply);
+                self.spent.count(self.action);
                 self.hear(reply)
             }
             Heard::PutDone => self.go_on(Ended::Put { full: false }),
@@ -177,5 +186,5 @@ where
         self.events.tally().plus(self.ends)
     }
 
-    ghost opens = { λ w new. record { notes = []; is = refl; next = refl; events = new.events; ends = new.ends; pages = new.pages; at = new.next } };
+    ghost opens = { λ w new. record { notes = []; is = refl; next = refl; events = new.events; ends = new.ends; pages = new.pages; drawn = new.drawn; few = new.few; at = new.next } };
 }
