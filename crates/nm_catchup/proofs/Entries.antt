@@ -66,7 +66,7 @@ is-some o x e = rw e refl
 
 -- What is kept, beside a view that changed.
 
-acked-as : (o : Option ℕ) (view later : View) → later.acked ≡ view.acked → IfSome o (IsAcked view) → IfSome o (IsAcked later)
+pub acked-as : (o : Option ℕ) (view later : View) → later.acked ≡ view.acked → IfSome o (IsAcked view) → IfSome o (IsAcked later)
 acked-as None view later same h = h
 acked-as (Some number) view later same h = record { is = same ∙ h.is; most = h.most }
 

@@ -1,0 +1,92 @@
+-- What is known of an access between two turns.
+use Rattle.std.specs.Prelude.{◌≡◌, ◌≢◌, ℕ, List, []}
+use Rattle.nm_base.specs.Geometry.{Geometry}
+use Rattle.nm_base.specs.PageWord.{IsPageWord}
+use Rattle.nm_action.specs.declared.action.Action.{Action}
+use Rattle.nm_action.specs.declared.turn.Turn.{Turn}
+use Rattle.nm_action.specs.Own.{Own}
+use Rattle.nm_view.specs.Views.{View}
+use Rattle.nm_part.specs.Patterns.{Sometimes, IsLeft}
+use Rattle.nm_actor.specs.Turns.{Turns}
+use Rattle.nm_desk.specs.Desk.{desk}
+use Rattle.nm_catchup.specs.Catching.{kept_of}
+use Rattle.nm_access.specs.declared.access.Access.{Access}
+use Rattle.nm_access.specs.declared.access.AccessStep.{AccessStep}
+use Rattle.nm_access.specs.declared.made.AccessMade.{AccessMade}
+use Rattle.nm_access.specs.Faults.{FaultKinds, IsFree, ends_tally}
+use Rattle.nm_access.specs.Accesses.{Held, Tries, AfterLook, Faults, Translates, IsAccess}
+use Rattle.nm_access.specs.Accessing.{IsAccessMade, IsReady, IsPeeked, IsInFault, IsFaultGiven, AwaitsAccess, IsAccessStep, view_then}
+
+-- In all of these `made_of` and `awaits_of` tell the data of a fault, and what it awaits.
+
+abbrev pub AwaitsOf : {F M X : Type 0} → FaultKinds M X → (F → M) → (F → Geometry → View → Own → Action → Type 0) → Access F → Geometry → Held X → View → Turns → Turn → Type 0
+AwaitsOf kinds made_of awaits_of a = AwaitsAccess kinds a.geometry.now a.made a.stage a.hinted (made_of a.fault) (awaits_of a.fault) a.cache a.tally
+
+abbrev pub IsStepOf : {F M X : Type 0} → FaultKinds M X → (F → M) → (F → Geometry → View → Own → Action → Type 0) → Access F → Geometry → Held X → View → Turns → AccessStep → Type 0
+IsStepOf kinds made_of awaits_of a = IsAccessStep kinds a.geometry.now a.made a.stage a.hinted (made_of a.fault) (awaits_of a.fault) a.cache a.tally
+
+-- what is held
+abbrev pub held_of : {F X : Type 0} → Access F → List X → Held X
+held_of a ends = record { kept = kept_of a.cache; ends = ends }
+
+-- it was made with this, and has counted the ends of its faults
+pub record IsBegunWell {F M X : Type 0} (kinds : FaultKinds M X) (a : Access F) (g : Geometry) (ends : List X) : Type 0 where
+  pub same : a.geometry.now ≡ g
+  pub may : IsAccessMade g a.made
+  pub counted : a.tally ≡ ends_tally kinds.counts ends
+
+-- (1) is left
+pub record IsTrying {F M X : Type 0} (kinds : FaultKinds M X) (a : Access F) (g : Geometry) (was : Held X) (view : View) (turns : Turns) : Type 0 where
+  pub ends : List X
+  pub well : IsBegunWell kinds a g ends
+  pub due : IsLeft (IsAccess kinds g a.made was) turns (Sometimes (λ tries. Tries g a.made (Translates kinds g a.made tries) (held_of a ends) a.hinted))
+  pub ready : IsReady g (kept_of a.cache) (view_then g view turns)
+
+-- the virtual page was looked at
+pub record IsLooked {F M X : Type 0} (kinds : FaultKinds M X) (a : Access F) (stamp word : ℕ) (g : Geometry) (was : Held X) (view : View) (turns : Turns) : Type 0 where
+  pub ends : List X
+  pub well : IsBegunWell kinds a g ends
+  pub due : IsLeft (IsAccess kinds g a.made was) turns (Sometimes (λ tries. AfterLook kinds g a.made stamp (Translates kinds g a.made tries) (held_of a ends) a.hinted word))
+  pub known : IsPeeked g a.made stamp (kept_of a.cache) (view_then g view turns)
+  pub layout : IsPageWord word
+
+-- there is an access whose virtual page was looked at
+pub record HasLooked {F M X : Type 0} (kinds : FaultKinds M X) (a : Access F) (stamp word : ℕ) : Type 0 where
+  pub geometry : Geometry
+  pub was : Held X
+  pub view : View
+  pub turns : Turns
+  pub looked : IsLooked kinds a stamp word geometry was view turns
+
+-- a fault with this data is left
+pub record IsFaulting {F M X : Type 0} (kinds : FaultKinds M X) (a : Access F) (fault : M) (g : Geometry) (was : Held X) (view : View) (turns : Turns) : Type 0 where
+  pub ends : List X
+  pub well : IsBegunWell kinds a g ends
+  pub due : IsLeft (IsAccess kinds g a.made was) turns (Sometimes (λ tries. Faults kinds g a.made (Translates kinds g a.made tries) fault (held_of a ends) a.hinted))
+  pub ready : IsReady g (kept_of a.cache) (view_then g view turns)
+
+-- a fault gives an action
+pub record IsGiving {F M X : Type 0} (kinds : FaultKinds M X) (made_of : F → M) (awaits_of : F → Geometry → View → Own → Action → Type 0) (a : Access F) (action : Action) (g : Geometry) (was : Held X) (view : View) (turns : Turns) : Type 0 where
+  pub ends : List X
+  pub well : IsBegunWell kinds a g ends
+  pub inner : Own
+  pub run : IsInFault kinds a.made a.hinted (made_of a.fault) (kept_of a.cache) ends g was view inner turns
+  pub gives : IsFaultGiven kinds (made_of a.fault) (awaits_of a.fault) g run.first inner action
+
+-- there is an access whose fault gives an action
+pub record HasGiven {F M X : Type 0} (kinds : FaultKinds M X) (made_of : F → M) (awaits_of : F → Geometry → View → Own → Action → Type 0) (a : Access F) (action : Action) : Type 0 where
+  pub geometry : Geometry
+  pub was : Held X
+  pub view : View
+  pub turns : Turns
+  pub gives : IsGiving kinds made_of awaits_of a action geometry was view turns
+
+-- there is an access of which a fault with this data is left, and it may begin
+pub record HasFaultBegun {F M X : Type 0} (kinds : FaultKinds M X) (may_begin : M → Geometry → View → Type 0) (awaits_of : F → Geometry → View → Own → Action → Type 0) (a : Access F) (fault : M) : Type 0 where
+  pub geometry : Geometry
+  pub was : Held X
+  pub view : View
+  pub turns : Turns
+  pub faulting : IsFaulting kinds a fault geometry was view turns
+  pub begin : may_begin fault geometry (desk geometry (view_then geometry view turns))
+  pub frees : (now left : View) (end : X) → kinds.leaves fault geometry now end left → IsFree left
