@@ -39,7 +39,7 @@ use Rattle.nm_batch.proofs.Unmapping.{rest-ready, one-done, goes-unmap}
 
 -- One page is copied.
 
-abbrev copy_made : Geometry → ReadyPiece → CopiesMade
+abbrev pub copy_made : Geometry → ReadyPiece → CopiesMade
 copy_made g p = record { page = p.page; frame = p.frame; words = g.words }
 
 abbrev MayCopyOf : Geometry → View → ReadyPiece → Type 0
@@ -119,22 +119,22 @@ flushed-once made place number g first now later h f =
     let o = h.has in
     let base = spoiled_each o.pages first.owned in
     let r = length place.ready in
-    let new = map (with_op f.flushed) h.open in
+    let new = map (with_op f.flushed) h.held in
     record {
       underway = h.underway;
       words = h.words;
       decided = h.decided;
       done = [];
       rest = new;
-      has = open-mapped made g first now later h.open f.flushed 0 r 1 r o.scan o (λ x. ap (λ (y : Op). y.page) (f.each x).same)
+      has = open-mapped made g first now later h.held f.flushed 0 r 1 r o.scan o (λ x. ap (λ (y : Op). y.page) (f.each x).same)
           (f.is ∙ (ap (λ (w : View). record w { bumps = w.bumps + 1; ops = map f.flushed w.ops }) o.is
-          ∙ (ap (λ (l : List Op). record first { ops = l; owned = owned_with base h.open; scan = o.scan; bumps = first.bumps + 0 + 1; raises = first.raises + r }) (ops-mapped f.flushed h.open)
-          ∙ (ap (λ (l : List Owned). record first { ops = map open_op new; owned = base ++ l; scan = o.scan; bumps = first.bumps + 0 + 1; raises = first.raises + r }) (owned-mapped f.flushed h.open)
+          ∙ (ap (λ (l : List Op). record first { ops = l; owned = owned_with base h.held; scan = o.scan; bumps = first.bumps + 0 + 1; raises = first.raises + r }) (ops-mapped f.flushed h.held)
+          ∙ (ap (λ (l : List Owned). record first { ops = map open_op new; owned = base ++ l; scan = o.scan; bumps = first.bumps + 0 + 1; raises = first.raises + r }) (owned-mapped f.flushed h.held)
           ∙ ap (λ (n : ℕ). record first { ops = map open_op new; owned = owned_with base new; scan = o.scan; bumps = n; raises = first.raises + r }) (zero-one first.bumps)))));
-      ready = ready-mapped f.flushed h.open ∙ h.ready;
+      ready = ready-mapped f.flushed h.held ∙ h.ready;
       at = refl;
       copied = none_left (IsCopiedOpen g);
-      uncopied = all_map (IsReadyOpen g) (IsUncopiedOpen g) (with_op f.flushed) h.open (λ x k. uncopied-open g x (f.flushed x.op) k (flushed-ready g x.piece.page x.piece.vpage x.piece.home number x.op (f.flushed x.op) (f.each x.op) k.op)) h.kind;
+      uncopied = all_map (IsReadyOpen g) (IsUncopiedOpen g) (with_op f.flushed) h.held (λ x k. uncopied-open g x (f.flushed x.op) k (flushed-ready g x.piece.page x.piece.vpage x.piece.home number x.op (f.flushed x.op) (f.each x.op) k.op)) h.kind;
     }
 
 pub after-flushing-first : (made : BatchMade) (place : BatchPlace) (number : ℕ) (g : Geometry) (first now later : View) → IsBatchReady made (idle place) g first now → IsFlushed g now number later

@@ -68,7 +68,7 @@ may-first made g first now p rest bumps raises h k =
       turn = ap (λ (v : View). v.turn) h.is ∙ h.may.turn;
     }
 
-may-decide : (made : BatchMade) (g : Geometry) (first now : View) (open : List OpenPiece) (d : DecideMade) (ds : List DecideMade) (bumps raises : ℕ) → HasOpen made g first now open bumps raises → All (IsSwappedOpen g) open → map open_made open ≡ d ∷ ds → MayDecideOf g now d
+may-decide : (made : BatchMade) (g : Geometry) (first now : View) (held : List OpenPiece) (d : DecideMade) (ds : List DecideMade) (bumps raises : ℕ) → HasOpen made g first now held bumps raises → All (IsSwappedOpen g) held → map open_made held ≡ d ∷ ds → MayDecideOf g now d
 may-decide made g first now [] d ds bumps raises h k e = cc
 may-decide made g first now (p ∷ rest) d ds bumps raises h k e =
     let same : open_made p ≡ d = cc in
@@ -113,10 +113,10 @@ twice : (a b c : ℕ) → b ≡ c → a + (c + b) ≡ a + 2 * c
 twice a b c e = omega arith
 
 -- no operation is left
-all-closed : (open : List OpenPiece) → length open ≡ 0 → (base : List Owned) (scan : Scanned) (first : View) (ready words : ℕ) → 0 < ready → words ≡ ready → first.ops ≡ []
-    → with_open open base scan 2 (ready + words) first ≡ record first { owned = base; scan = scan; bumps = first.bumps + flush_bumps ready; raises = first.raises + 2 * ready }
-all-closed open count base scan first ready words some even alone =
-    ap (λ (l : List OpenPiece). with_open l base scan 2 (ready + words) first) (empty-list open count)
+all-closed : (held : List OpenPiece) → length held ≡ 0 → (base : List Owned) (scan : Scanned) (first : View) (ready words : ℕ) → 0 < ready → words ≡ ready → first.ops ≡ []
+    → with_open held base scan 2 (ready + words) first ≡ record first { owned = base; scan = scan; bumps = first.bumps + flush_bumps ready; raises = first.raises + 2 * ready }
+all-closed held count base scan first ready words some even alone =
+    ap (λ (l : List OpenPiece). with_open l base scan 2 (ready + words) first) (empty-list held count)
     ∙ (ap (λ (l : List Op). record first { ops = l; owned = owned_with base []; scan = scan; bumps = first.bumps + 2; raises = first.raises + (ready + words) }) (sym alone)
     ∙ (ap (λ (l : List Owned). record first { owned = l; scan = scan; bumps = first.bumps + 2; raises = first.raises + (ready + words) }) (append-nil base)
     ∙ (ap (λ (n : ℕ). record first { owned = base; scan = scan; bumps = first.bumps + n; raises = first.raises + (ready + words) }) (both-flushes ready some)
@@ -136,7 +136,7 @@ all-ended made place g first now h none =
     let few : length place.ready ≤ length place.prepared = h.underway.few in
     let count : length (ends_of place.prepared place.decided) ≡ length made.pieces = omega arith in
     let fits : length place.ready ≤ length made.pieces = omega arith in
-    let closed : length h.open ≡ 0 = sym (length-map h.open open_made) ∙ ap length (h.rest ∙ none) in
+    let closed : length h.held ≡ 0 = sym (length-map h.held open_made) ∙ ap length (h.rest ∙ none) in
     let there : 0 < length place.ready = h.underway.some in
     let even : length place.words ≡ length place.ready = h.even in
     record {
@@ -146,7 +146,7 @@ all-ended made place g first now h none =
       decided = length place.ready;
       few = fits;
       scan = h.has.scan;
-      is = h.has.is ∙ all-closed h.open closed (spoiled_each h.has.pages first.owned) h.has.scan first (length place.ready) (length place.words) there even h.has.may.alone;
+      is = h.has.is ∙ all-closed h.held closed (spoiled_each h.has.pages first.owned) h.has.scan first (length place.ready) (length place.words) there even h.has.may.alone;
     }
 
 
@@ -160,7 +160,7 @@ goes-decide made place (d ∷ ds) g first now h next =
     let tail : D ≡ ds = drop-next (length place.decided) (taken_of place.ready place.words) ds d next in
     let known : IsBatchDeciding made (idle place) d g first now = record { has = h; next = next ∙ ap (λ (l : List DecideMade). d ∷ l) (sym tail) } in
     let run = decide-run (IsPlanPlaced batch_piece_at BatchKnown g made (record place { stage = Deciding d })) (λ g end. DecidesFrom g place.prepared (drop (length place.decided + 1) (taken_of place.ready place.words)) (place.decided ++ end ∷ [])) (record { 0 = g; 1 = d }) g first now
-        (may-decide made g first now h.open d ds 2 (length place.ready + length place.words) h.has h.swapped (h.rest ∙ next)) (record { geometry = refl; is = refl; holds = known }) (λ end. can-decide g place.prepared D (place.decided ++ end ∷ [])) in
+        (may-decide made g first now h.held d ds 2 (length place.ready + length place.words) h.has h.swapped (h.rest ∙ next)) (record { geometry = refl; is = refl; holds = known }) (λ end. can-decide g place.prepared D (place.decided ++ end ∷ [])) in
     let L : List DecideMade → Type 0 = λ l. RunsBatch made (record place { stage = Deciding d }) (Follows (IsDeciding d g) (λ end. DecidesFrom g place.prepared l (place.decided ++ end ∷ []))) g first now in
     subst L tail run
 
@@ -176,24 +176,24 @@ flushed-twice made place number g first now later h f =
     let o = h.has in
     let base = spoiled_each o.pages first.owned in
     let r = length place.ready + length place.words in
-    let new = map (with_op f.flushed) h.open in
+    let new = map (with_op f.flushed) h.held in
     let none : length place.decided ≡ 0 = ap length h.decided in
     let T : List Decided → Type 0 = λ l. map open_made new ≡ drop (length l) (taken_of place.ready place.words) in
     let W : List ReadyPiece → List ℕ → Type 0 = λ a b. map open_made new ≡ taken_of a b in
     let all : map open_made new ≡ taken_of place.ready place.words =
-    subst (λ (b : List ℕ). W place.ready b) (word-mapped f.flushed h.open ∙ h.words) (subst (λ (a : List ReadyPiece). W a (map open_word new)) (ready-mapped f.flushed h.open ∙ h.ready) (made-taken new)) in
-    let many : length place.words ≡ length place.ready = ap length (sym h.words) ∙ (length-map h.open open_word ∙ (sym (length-map h.open open_ready) ∙ ap length h.ready)) in
+    subst (λ (b : List ℕ). W place.ready b) (word-mapped f.flushed h.held ∙ h.words) (subst (λ (a : List ReadyPiece). W a (map open_word new)) (ready-mapped f.flushed h.held ∙ h.ready) (made-taken new)) in
+    let many : length place.words ≡ length place.ready = ap length (sym h.words) ∙ (length-map h.held open_word ∙ (sym (length-map h.held open_ready) ∙ ap length h.ready)) in
     record {
       underway = h.underway;
       even = many;
-      open = new;
-      has = open-mapped made g first now later h.open f.flushed 1 r 2 r o.scan o (λ x. ap (λ (y : Op). y.page) (f.each x).same)
+      held = new;
+      has = open-mapped made g first now later h.held f.flushed 1 r 2 r o.scan o (λ x. ap (λ (y : Op). y.page) (f.each x).same)
           (f.is ∙ (ap (λ (w : View). record w { bumps = w.bumps + 1; ops = map f.flushed w.ops }) o.is
-          ∙ (ap (λ (l : List Op). record first { ops = l; owned = owned_with base h.open; scan = o.scan; bumps = first.bumps + 1 + 1; raises = first.raises + r }) (ops-mapped f.flushed h.open)
-          ∙ (ap (λ (l : List Owned). record first { ops = map open_op new; owned = base ++ l; scan = o.scan; bumps = first.bumps + 1 + 1; raises = first.raises + r }) (owned-mapped f.flushed h.open)
+          ∙ (ap (λ (l : List Op). record first { ops = l; owned = owned_with base h.held; scan = o.scan; bumps = first.bumps + 1 + 1; raises = first.raises + r }) (ops-mapped f.flushed h.held)
+          ∙ (ap (λ (l : List Owned). record first { ops = map open_op new; owned = base ++ l; scan = o.scan; bumps = first.bumps + 1 + 1; raises = first.raises + r }) (owned-mapped f.flushed h.held)
           ∙ ap (λ (n : ℕ). record first { ops = map open_op new; owned = owned_with base new; scan = o.scan; bumps = n; raises = first.raises + r }) (one-two first.bumps)))));
       rest = subst T (sym h.decided) all;
-      swapped = all_map (IsTakenOpen g) (IsSwappedOpen g) (with_op f.flushed) h.open (λ x k. swapped-open g number x (f.flushed x.op) k (flushed-taken g x.piece.page x.piece.vpage x.word x.piece.home number x.op (f.flushed x.op) (f.each x.op) k.op)) h.taken;
+      swapped = all_map (IsTakenOpen g) (IsSwappedOpen g) (with_op f.flushed) h.held (λ x k. swapped-open g number x (f.flushed x.op) k (flushed-taken g x.piece.page x.piece.vpage x.word x.piece.home number x.op (f.flushed x.op) (f.each x.op) k.op)) h.taken;
     }
 
 pub after-flushing-again : (made : BatchMade) (place : BatchPlace) (number : ℕ) (g : Geometry) (first now later : View) → IsBatchTaken made (idle place) g first now → IsFlushed g now number later
@@ -204,26 +204,26 @@ after-flushing-again made place number g first now later h f =
     subst G h.decided (goes-decide made place (drop (length place.decided) (taken_of place.ready place.words)) g first later s refl)
 
 -- after a decision
-first-decided : (made : BatchMade) (place : BatchPlace) (end : Decided) (d : DecideMade) (ds : List DecideMade) (g : Geometry) (first now later : View) (open : List OpenPiece) → IsUnderway made (idle place) first → length place.words ≡ length place.ready
-    → HasOpen made g first now open 2 (length place.ready + length place.words) → map open_made open ≡ d ∷ ds → All (IsSwappedOpen g) open → drop (length place.decided) (taken_of place.ready place.words) ≡ d ∷ ds → IsDecision d now later
+first-decided : (made : BatchMade) (place : BatchPlace) (end : Decided) (d : DecideMade) (ds : List DecideMade) (g : Geometry) (first now later : View) (held : List OpenPiece) → IsUnderway made (idle place) first → length place.words ≡ length place.ready
+    → HasOpen made g first now held 2 (length place.ready + length place.words) → map open_made held ≡ d ∷ ds → All (IsSwappedOpen g) held → drop (length place.decided) (taken_of place.ready place.words) ≡ d ∷ ds → IsDecision d now later
     → HasDecidedSome made (idle (record place { decided = place.decided ++ end ∷ [] })) g first later
 first-decided made place end d ds g first now later [] u even has rest k next left = cc
-first-decided made place end d ds g first now later (p ∷ open) u even has rest k next left =
+first-decided made place end d ds g first now later (p ∷ held) u even has rest k next left =
     let same : open_made p ≡ d = cc in
-    let others : map open_made open ≡ ds = cc in
+    let others : map open_made held ≡ ds = cc in
     let D : DecideMade → Type 0 = λ m. IsDecision m now later in
     let long : length (place.decided ++ end ∷ []) ≡ length place.decided + 1 = length-append place.decided (end ∷ []) in
     let within : length place.decided < length (taken_of place.ready place.words) = drop-within (length place.decided) (taken_of place.ready place.words) ds d next in
     let taken : length (taken_of place.ready place.words) ≡ length place.ready = taken-length place.ready place.words even in
     let fits : length (place.decided ++ end ∷ []) ≤ length place.ready = omega arith in
-    let R : ℕ → Type 0 = λ n. map open_made open ≡ drop n (taken_of place.ready place.words) in
+    let R : ℕ → Type 0 = λ n. map open_made held ≡ drop n (taken_of place.ready place.words) in
     record {
       underway = record { ready_is = u.ready_is; all = u.all; few = u.few; some = u.some; unworn = u.unworn; decided = fits };
       even = even;
-      open = open;
-      has = decided-open made g first now later p open 2 (length place.ready + length place.words) has k (subst D (sym same) left);
+      held = held;
+      has = decided-open made g first now later p held 2 (length place.ready + length place.words) has k (subst D (sym same) left);
       rest = subst R (sym long) (others ∙ sym (drop-next (length place.decided) (taken_of place.ready place.words) ds d next));
-      swapped = all_tail (IsSwappedOpen g) p open k;
+      swapped = all_tail (IsSwappedOpen g) p held k;
     }
 
 pub after-deciding-piece : (made : BatchMade) (place : BatchPlace) (d : DecideMade) (end : Decided) (g : Geometry) (first now later : View) → IsBatchDeciding made (idle place) d g first now → IsDecision d now later
@@ -231,7 +231,7 @@ pub after-deciding-piece : (made : BatchMade) (place : BatchPlace) (d : DecideMa
 after-deciding-piece made place d end g first now later h left =
     let new : BatchPlace = record place { decided = place.decided ++ end ∷ [] } in
     let long : length (place.decided ++ end ∷ []) ≡ length place.decided + 1 = length-append place.decided (end ∷ []) in
-    let s = first-decided made place end d (drop (length place.decided + 1) (taken_of place.ready place.words)) g first now later h.has.open h.has.underway h.has.even h.has.has (h.has.rest ∙ h.next) h.has.swapped h.next left in
+    let s = first-decided made place end d (drop (length place.decided + 1) (taken_of place.ready place.words)) g first now later h.has.held h.has.underway h.has.even h.has.has (h.has.rest ∙ h.next) h.has.swapped h.next left in
     let G : ℕ → Type 0 = λ n. BatchGoes made new (decide_stage new) (DecidesFrom g place.prepared (drop n (taken_of place.ready place.words)) (place.decided ++ end ∷ [])) g first later in
     subst G long (goes-decide made new (drop (length (place.decided ++ end ∷ [])) (taken_of place.ready place.words)) g first later s refl)
 

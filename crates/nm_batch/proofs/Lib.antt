@@ -1,10 +1,12 @@
 pub mod Lists
 pub mod Pieces
 pub mod Opened
+pub mod Ends
 pub mod Ending
 pub mod Steps
 pub mod Copying
 pub mod Deciding
 pub mod Unmapping
 pub mod Preparing
+pub mod Arms
 pub mod Tasks

@@ -127,8 +127,8 @@ drop-over {A} n xs e =
     omega arith
 
 pub once-drop : {A : Type 0} (key : A → ℕ) (n : ℕ) (xs : List A) → Once key xs → Once key (drop n xs)
-once-drop key n [] h = grind arith
-once-drop key zero (x ∷ xs) h = h
+once-drop key zero xs h = h
+once-drop key (suc n) [] h = h
 once-drop key (suc n) (x ∷ xs) h = once-drop key n xs h.1
 
 -- the item at a place is one of the list

@@ -1,5 +1,5 @@
 -- The lists that a batch keeps of its pieces.
-use Rattle.std.proofs.Common.{◌≡◌, ℕ, zero, suc, ◌+◌, ◌<◌, ◌≤◌, List, [], ◌∷◌, ◌++◌, length, drop, map, refl, sym, ap, ◌∙◌, subst, arith}
+use Rattle.std.proofs.Common.{◌≡◌, ℕ, zero, suc, ◌+◌, ◌<◌, ◌≤◌, List, [], ◌∷◌, ◌++◌, length, drop, map, Option, Some, None, refl, sym, ap, ◌∙◌, subst, arith}
 use Rattle.nm_action.specs.declared.spent.Spent.{Spent}
 use Rattle.nm_prepare.specs.declared.prepare.Prepared.{Prepared}
 use Rattle.nm_prepare.specs.declared.prepare.Prepared.TheVariants.{Busy, Closed, Ready}
@@ -7,6 +7,9 @@ use Rattle.nm_commit.specs.declared.decide.DecideMade.{DecideMade}
 use Rattle.nm_commit.specs.declared.decide.Decided.{Decided}
 use Rattle.nm_txn.specs.declared.batch.ReadyPiece.{ReadyPiece}
 use Rattle.nm_txn.specs.Batches.{count_ready, drawn_after, drawn_with, ready_with, ready_of, taken_of, ends_of}
+use Rattle.nm_batch.specs.declared.batch.BatchPlace.{BatchPlace}
+use Rattle.nm_batch.specs.declared.batch.BatchStage.TheVariants.{Deciding}
+use Rattle.nm_batch.specs.Places.{decide_stage_by, decide_stage}
 use Rattle.nm_batch.specs.Opened.{OpenPiece, open_ready, open_word, open_made}
 
 -- what is drawn after one piece more
@@ -60,7 +63,7 @@ taken-length (p ∷ ps) [] e = let bad : ⊥ = omega (arith, e) in absurd bad
 taken-length (p ∷ ps) (w ∷ ws) e = let less : length ws ≡ length ps = omega (arith, e) in ap suc (taken-length ps ws less)
 
 -- the pieces with their words
-pub made-taken : (open : List OpenPiece) → map open_made open ≡ taken_of (map open_ready open) (map open_word open)
+pub made-taken : (held : List OpenPiece) → map open_made held ≡ taken_of (map open_ready held) (map open_word held)
 made-taken [] = refl
 made-taken (p ∷ ps) = ap (λ (l : List DecideMade). open_made p ∷ l) (made-taken ps)
 
@@ -74,3 +77,26 @@ ends-first (Ready home frame) ends (d ∷ ds) step h = let less : count_ready en
 pub ends-count : (ends : List Prepared) (decided : List Decided) → count_ready ends ≤ length decided → length (ends_of ends decided) ≡ length ends
 ends-count [] decided h = refl
 ends-count (e ∷ ends) decided h = ends-first e ends decided (λ d few. ends-count ends d few) h
+
+-- The next stage of a decision.
+
+pub decide-none : (place : BatchPlace) (n : ℕ) → n ≡ length place.decided → drop n place.ready ≡ [] → None ≡ decide_stage place
+decide-none place n e none =
+    let N : ℕ → Type 0 = λ k. drop k place.ready ≡ [] in
+    let here = subst N e none in
+    sym (ap decide_stage_by (taken-drop (length place.decided) place.ready place.words ∙ ap (λ (l : List ReadyPiece). taken_of l (drop (length place.decided) place.words)) here))
+
+pub decide-no-word : (place : BatchPlace) (n : ℕ) (p : ReadyPiece) (ps : List ReadyPiece) → n ≡ length place.decided → drop n place.ready ≡ p ∷ ps → drop n place.words ≡ [] → None ≡ decide_stage place
+decide-no-word place n p ps e some none =
+    let S : ℕ → Type 0 = λ k. drop k place.ready ≡ p ∷ ps in
+    let N : ℕ → Type 0 = λ k. drop k place.words ≡ [] in
+    sym (ap decide_stage_by (taken-drop (length place.decided) place.ready place.words
+    ∙ (ap (λ (l : List ReadyPiece). taken_of l (drop (length place.decided) place.words)) (subst S e some) ∙ ap (taken_of (p ∷ ps)) (subst N e none))))
+
+pub decide-some : (place : BatchPlace) (n : ℕ) (p : ReadyPiece) (ps : List ReadyPiece) (w : ℕ) (ws : List ℕ) → n ≡ length place.decided → drop n place.ready ≡ p ∷ ps → drop n place.words ≡ w ∷ ws
+    → Some (Deciding (record { page = p.page; vpage = p.vpage; word = w; home = p.home; frame = p.frame })) ≡ decide_stage place
+decide-some place n p ps w ws e some word =
+    let S : ℕ → Type 0 = λ k. drop k place.ready ≡ p ∷ ps in
+    let N : ℕ → Type 0 = λ k. drop k place.words ≡ w ∷ ws in
+    sym (ap decide_stage_by (taken-drop (length place.decided) place.ready place.words
+    ∙ (ap (λ (l : List ReadyPiece). taken_of l (drop (length place.decided) place.words)) (subst S e some) ∙ ap (taken_of (p ∷ ps)) (subst N e word))))

@@ -1,5 +1,5 @@
 -- The steps of a batch: it comes to its next stage, or is over.
-use Rattle.std.proofs.Common.{◌≡◌, List, Option, Some, None, refl, sym, ap, ◌∙◌, subst}
+use Rattle.std.proofs.Common.{◌≡◌, ℕ, List, Option, Some, None, refl, sym, ap, ◌∙◌, subst}
 use Rattle.nm_base.specs.Geometry.{Geometry}
 use Rattle.nm_action.specs.Own.{Own}
 use Rattle.nm_view.specs.Views.{View}
@@ -14,9 +14,10 @@ use Rattle.nm_txn.specs.Batches.{BatchMade, ends_of}
 use Rattle.nm_batch.specs.declared.batch.BatchAsked.{BatchAsked}
 use Rattle.nm_batch.specs.declared.batch.BatchPlace.{BatchPlace}
 use Rattle.nm_batch.specs.declared.batch.BatchStage.{BatchStage}
+use Rattle.nm_batch.specs.declared.batch.BatchStage.TheVariants.{Preparing}
 use Rattle.nm_batch.specs.declared.batch.Batch.{Batch}
 use Rattle.nm_batch.specs.Leaving.{IsBatchLeft}
-use Rattle.nm_batch.specs.Places.{batch_made, batch_piece, batch_piece_at, batch_left_by, batch_left, IsBatchRun, IsBatchOver, IsBatchStep}
+use Rattle.nm_batch.specs.Places.{batch_made, new_batch_place, batch_piece, batch_piece_at, batch_left_by, batch_left, IsBatchRun, IsBatchOver, IsBatchStep}
 use Rattle.nm_batch.specs.Opened.{idle, BatchKnownBy, BatchKnown}
 
 -- the piece of a place runs
@@ -91,3 +92,11 @@ pub after-batch : (old mid new : Batch) (here : BatchStage) (end so : TxnEnds) (
 after-batch old mid new here end so runs stage g first now later result at ended placed left same asked step show =
     step-batch old mid new stage (batch_left (batch_made old.asked) old.place g end) g first later result placed.geometry same asked step
     (at-batch (batch_made old.asked) old.place old.geometry.now (λ s e. BatchGoes (batch_made old.asked) mid.place stage (batch_left_by (batch_made old.asked) s old.place g e) g first later) here end so g first now later runs at ended placed left show)
+
+-- the first piece
+pub gives-first : (old new : Batch) (page v : ℕ) (runs : TxnParts) (was : Own → List TxnEnd → Type 0) (g : Geometry) (view : View) → old.geometry.now ≡ g → old.place ≡ new_batch_place old.asked.spent
+    → new ≡ record old { place = record old.place { stage = Preparing page v } } → runs ≡ batch_piece old.geometry.now old.place.drawn (Preparing page v)
+    → RunsBatch (batch_made old.asked) (record (new_batch_place old.asked.spent) { stage = Preparing page v }) was g view view → GivesBatch new runs was g view view
+gives-first old new page v runs was g view geometry start is acts run =
+    let R : BatchPlace → Type 0 = λ p. RunsBatch (batch_made old.asked) (record p { stage = Preparing page v }) was g view view in
+    gives-batch old old new (Preparing page v) runs was g view view geometry refl refl is acts (subst R (sym start) run)

@@ -90,8 +90,8 @@ raises-unmap made place g first now h =
 
 -- The second flush.
 
-taken-dry : (g : Geometry) (open : List OpenPiece) → All (IsTakenOpen g) open → AreDueDry (map open_op open)
-taken-dry g open h = all_map (IsTakenOpen g) (λ (o : Op). IsTrue o.due → o.wet ≡ []) open_op open (λ x k due. k.op.dry) h
+taken-dry : (g : Geometry) (held : List OpenPiece) → All (IsTakenOpen g) held → AreDueDry (map open_op held)
+taken-dry g held h = all_map (IsTakenOpen g) (λ (o : Op). IsTrue o.due → o.wet ≡ []) open_op held (λ x k due. k.op.dry) h
 
 all-done : (done rest : List OpenPiece) → rest ≡ [] → done ++ rest ≡ done
 all-done done rest e = ap (λ (l : List OpenPiece). done ++ l) e ∙ append-nil done
@@ -103,7 +103,7 @@ all-taken made place g first now h none =
     let same = all-done h.done h.rest empty in
     let H : List OpenPiece → Type 0 = λ l. HasOpen made g first now l 1 (length place.ready + length place.words) in
     let R : List OpenPiece → Type 0 = λ l. map open_ready l ≡ place.ready in
-    record { underway = h.underway; decided = h.decided; open = h.done; has = subst H same h.has; ready = subst R same h.ready; words = h.words; taken = h.taken }
+    record { underway = h.underway; decided = h.decided; held = h.done; has = subst H same h.has; ready = subst R same h.ready; words = h.words; taken = h.taken }
 
 runs-flush-again : (made : BatchMade) (place : BatchPlace) (g : Geometry) (first now : View) → IsBatchTaken made (idle place) g first now → RunsBatch made (record place { stage = FlushingAgain }) (FlushesAgain g place.prepared (taken_of place.ready place.words)) g first now
 runs-flush-again made place g first now h =
@@ -112,7 +112,7 @@ runs-flush-again made place g first now h =
     let bumps : first.bumps < worn_bumps = h.underway.unworn.bumps in
     let few : first.bumps + 1 < own_bumps = omega arith in
     flush-run (IsPlanPlaced batch_piece_at BatchKnown g made (record place { stage = FlushingAgain })) (λ g. DecidesEach g place.prepared (taken_of place.ready place.words)) g.cpus g first now
-    (record { all = refl; bump = record { few = subst B (sym h.has.is) few; dry = subst D (sym h.has.is) (taken-dry g h.open h.taken) } })
+    (record { all = refl; bump = record { few = subst B (sym h.has.is) few; dry = subst D (sym h.has.is) (taken-dry g h.held h.taken) } })
     (record { geometry = refl; is = refl; holds = h }) (can-decide g place.prepared (taken_of place.ready place.words) [])
 
 -- The next step.
@@ -167,7 +167,7 @@ unmapped-first made place word p ps g first now later done (x ∷ rest) under no
       right = record { writable = v.reply.carried.table.writable; saved = v.reply.carried.table.saved };
     } in
     record {
-      underway = under;
+      underway = record { ready_is = under.ready_is; all = under.all; few = under.few; some = under.some; unworn = under.unworn; decided = under.decided };
       decided = none;
       done = done ++ z ∷ [];
       rest = rest;

@@ -121,11 +121,11 @@ pub record IsUnworn (view : View) : Type 0 where
 
 -- some pieces were prepared
 pub record HasPrepared (made : BatchMade) (place : BatchPlace) (g : Geometry) (first now : View) : Type 0 where
-  pub open : List OpenPiece
-  pub has : HasOpen made g first now open 0 (length open)
-  pub kind : All (IsReadyOpen g) open
+  pub held : List OpenPiece
+  pub has : HasOpen made g first now held 0 (length held)
+  pub kind : All (IsReadyOpen g) held
   pub unworn : (place.ready ≡ []) ⊎ IsUnworn first
-  pub ready : map open_ready open ≡ place.ready
+  pub ready : map open_ready held ≡ place.ready
   pub ready_is : place.ready ≡ ready_of made.pieces place.prepared
   pub within : length place.prepared ≤ length made.pieces
   pub few : length place.ready ≤ length place.prepared
@@ -133,7 +133,7 @@ pub record HasPrepared (made : BatchMade) (place : BatchPlace) (g : Geometry) (f
   pub decided : place.decided ≡ []
   pub drawn : place.drawn ≡ drawn_with made.spent place.prepared
   pub spent : place.drawn ≡ spent_by now
-  pub later : All (λ p. find asked_page p.piece.page (drop (length place.prepared) made.pieces) ≡ None) open
+  pub later : All (λ p. find asked_page p.piece.page (drop (length place.prepared) made.pieces) ≡ None) held
 
 -- all pieces were prepared, and some are ready
 pub record IsUnderway (made : BatchMade) (place : BatchPlace) (first : View) : Type 0 where
@@ -149,10 +149,10 @@ pub record IsBatchReady (made : BatchMade) (place : BatchPlace) (g : Geometry) (
   pub underway : IsUnderway made place first
   pub words : place.words ≡ []
   pub decided : place.decided ≡ []
-  pub open : List OpenPiece
-  pub has : HasOpen made g first now open 0 (length place.ready)
-  pub ready : map open_ready open ≡ place.ready
-  pub kind : All (IsReadyOpen g) open
+  pub held : List OpenPiece
+  pub has : HasOpen made g first now held 0 (length place.ready)
+  pub ready : map open_ready held ≡ place.ready
+  pub kind : All (IsReadyOpen g) held
 
 -- so many pages are copied
 pub record HasCopied (made : BatchMade) (place : BatchPlace) (index : ℕ) (g : Geometry) (first now : View) : Type 0 where
@@ -183,20 +183,20 @@ pub record HasUnmapped (made : BatchMade) (place : BatchPlace) (g : Geometry) (f
 pub record IsBatchTaken (made : BatchMade) (place : BatchPlace) (g : Geometry) (first now : View) : Type 0 where
   pub underway : IsUnderway made place first
   pub decided : place.decided ≡ []
-  pub open : List OpenPiece
-  pub has : HasOpen made g first now open 1 (length place.ready + length place.words)
-  pub ready : map open_ready open ≡ place.ready
-  pub words : map open_word open ≡ place.words
-  pub taken : All (IsTakenOpen g) open
+  pub held : List OpenPiece
+  pub has : HasOpen made g first now held 1 (length place.ready + length place.words)
+  pub ready : map open_ready held ≡ place.ready
+  pub words : map open_word held ≡ place.words
+  pub taken : All (IsTakenOpen g) held
 
 -- some pieces were decided
 pub record HasDecidedSome (made : BatchMade) (place : BatchPlace) (g : Geometry) (first now : View) : Type 0 where
   pub underway : IsUnderway made place first
   pub even : length place.words ≡ length place.ready
-  pub open : List OpenPiece
-  pub has : HasOpen made g first now open 2 (length place.ready + length place.words)
-  pub rest : map open_made open ≡ drop (length place.decided) (taken_of place.ready place.words)
-  pub swapped : All (IsSwappedOpen g) open
+  pub held : List OpenPiece
+  pub has : HasOpen made g first now held 2 (length place.ready + length place.words)
+  pub rest : map open_made held ≡ drop (length place.decided) (taken_of place.ready place.words)
+  pub swapped : All (IsSwappedOpen g) held
 
 -- a piece is prepared
 pub record IsBatchPreparing (made : BatchMade) (place : BatchPlace) (page v : ℕ) (g : Geometry) (first now : View) : Type 0 where
