@@ -1,0 +1,6 @@
+//! A page is inspected: whether it is to be demoted.
+#![tactic(auto)]
+
+pub mod inspect;
+
+pub use inspect::{Inspect, InspectEnd, InspectMade, InspectPiece, Inspected};
