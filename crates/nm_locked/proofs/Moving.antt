@@ -38,7 +38,7 @@ or-none : (a b : Bool) → (a || b) ≡ false → (a ≡ false) × (b ≡ false)
 or-none true b e = cc
 or-none false b e = (refl, e)
 
-left-enough : (spent : Spent) → is_worn spent ≡ false → (spent.bumps + 2 ≤ own_bumps) × (spent.raises + most_vpages ≤ own_raises)
+pub left-enough : (spent : Spent) → is_worn spent ≡ false → (spent.bumps + 2 ≤ own_bumps) × (spent.raises + most_vpages ≤ own_raises)
 left-enough spent e =
     let both = or-none (nat_le worn_bumps spent.bumps) (nat_le worn_raises spent.raises) e in
     let bumps : spent.bumps < worn_bumps = grind (arith, nat_tests, both.0) in
@@ -139,11 +139,11 @@ erase-go page frame w owned true rest = refl
 erase-go page frame w owned false rest = ap (λ (l : List Owned). spoiled_frame page w ∷ l) rest
 
 -- frames of which nothing is known keep their numbers
-spoiled-there : (page frame : ℕ) (owned : List Owned) → IsSome (find owned_frame frame owned) → IsSome (find owned_frame frame (spoiled page owned))
+pub spoiled-there : (page frame : ℕ) (owned : List Owned) → IsSome (find owned_frame frame owned) → IsSome (find owned_frame frame (spoiled page owned))
 spoiled-there page frame [] h = h
 spoiled-there page frame (w ∷ owned) h = spoiled-go page frame w owned (w.frame == frame) (spoiled-there page frame owned) h
 
-erase-spoiled : (page frame : ℕ) (owned : List Owned) → erase owned_frame frame (spoiled page owned) ≡ spoiled page (erase owned_frame frame owned)
+pub erase-spoiled : (page frame : ℕ) (owned : List Owned) → erase owned_frame frame (spoiled page owned) ≡ spoiled page (erase owned_frame frame owned)
 erase-spoiled page frame [] = refl
 erase-spoiled page frame (w ∷ owned) = erase-go page frame w owned (w.frame == frame) (erase-spoiled page frame owned)
 

@@ -160,7 +160,7 @@ after-busy made g view now later own word h a = a.0.is ∙ h.begun
 
 -- The LooksInMove.
 
-and-both : (a b : Bool) → (not a && not b) ≡ true → (a ≡ false) × (b ≡ false)
+pub and-both : (a b : Bool) → (not a && not b) ≡ true → (a ≡ false) × (b ≡ false)
 and-both true b e = cc
 and-both false true e = cc
 and-both false false e = (refl, refl)
@@ -185,7 +185,7 @@ later-all p l t (q ∷ qs) h =
     more P q qs (λ some. found-later q.0 p l t (all_head Q q qs h some)) (later-all p l t qs (all_tail Q q qs h))
 
 -- each virtual page that was looked at as not 0 is found
-seen-found : (told : List (ℕ × ℕ)) → All (λ q. q.1 ≢ 0 → IsSome (find itself q.0 (mapped_of told))) told
+pub seen-found : (told : List (ℕ × ℕ)) → All (λ q. q.1 ≢ 0 → IsSome (find itself q.0 (mapped_of told))) told
 seen-found [] = none_left (λ q. q.1 ≢ 0 → IsSome (find itself q.0 []))
 seen-found (p ∷ ps) =
     let l : List (ℕ × ℕ) = filter (λ q. not (q.1 == 0)) ps in
@@ -209,7 +209,7 @@ found-few [] = omega arith
 found-few (p ∷ ps) = found-cond (not (p.1 == 0)) p (filter (λ q. not (q.1 == 0)) ps) (length (map first ps)) (found-few ps)
 
 -- there are no more than there can be virtual pages
-looked-few : (g : Geometry) (page : ℕ) (told : List (ℕ × ℕ)) → IsGeometry g → map first told ≡ vpages_of g page → length (mapped_of told) ≤ most_vpages
+pub looked-few : (g : Geometry) (page : ℕ) (told : List (ℕ × ℕ)) → IsGeometry g → map first told ≡ vpages_of g page → length (mapped_of told) ≤ most_vpages
 looked-few g page told geometry pages =
     let few = geometry.ranges.3.0 in
     let all = among-few page g.vpages 0 in
@@ -275,7 +275,7 @@ after-looking made home g view now later own (Other (This found)) h a =
 
 -- The home.
 
-none-of : (g : Geometry) (page : ℕ) → vpages_of g page ≡ [] → (v : ℕ) → backing_page g v ≡ Some page → ⊥
+pub none-of : (g : Geometry) (page : ℕ) → vpages_of g page ≡ [] → (v : ℕ) → backing_page g v ≡ Some page → ⊥
 none-of g page none v e = let h = vpages-has g page v e in let n = subst (λ (l : List ℕ). IsSome (find itself v l)) none h in let c : false ≡ true = n in cc
 
 -- the virtual pages are to be looked at, if there are any

@@ -64,7 +64,7 @@ back-push (e ∷ (next ∷ own)) event = ap (λ (n : ℕ). one (is_put e.0 && is
 
 unlock-keeps : (page : ℕ) (action : Action) → unlocks page action ≡ true → is_release action ≡ false
 unlock-keeps page (Unlock b) is = refl
-unlock-keeps page action is = cc is
+unlock-keeps page action is = cc
 
 no-more : (b : Bool) (n : ℕ) → n ≡ n + one (b && false)
 no-more true n = omega arith
@@ -91,11 +91,12 @@ open-step page own event false is locked =
     ap frames_back (before-whole page own (event ∷ []) locked ∙ ap (λ (l : Own). own ++ l) (alone page event false is))
     ∙ (back-push own event ∙ ap (λ (l : Own). frames_back l + one (ends_put own && is_release event.0)) (sym whole))
 
+none-more : (n : ℕ) → n ≡ n + 0
+none-more n = omega arith
+
 freed-step : (page : ℕ) (own : Own) (event : Action × Reply) (locked : Bool) → stays_locked page own ≡ locked → freed_inside page (own ++ event ∷ []) ≡ freed_inside page own + one (locked && (ends_put own && is_release event.0))
 freed-step page own event true is = open-step page own event (unlocks page event.0) refl is
-freed-step page own event false is =
-    let cut : frames_back (before_unlock page (own ++ event ∷ [])) ≡ frames_back (before_unlock page own) = ap frames_back (before-cut page own (event ∷ []) is) in
-    omega (arith, cut)
+freed-step page own event false is = ap frames_back (before-cut page own (event ∷ []) is) ∙ none-more (freed_inside page own)
 
 cap-step : (most : ℕ) (locked putting release : Bool) (freed total : ℕ) → freed ≡ min total most → (if (locked && putting) && release then min (freed + 1) most else freed) ≡ min (total + one (locked && (putting && release))) most
 cap-step most true true true freed total is = omega (arith, is)

@@ -1,5 +1,5 @@
 -- The steps of the search for a frame.
-use Rattle.std.proofs.Common.{◌≡◌, ◌≢◌, ℕ, List, [], Option, Some, None, All, refl, sym, ap, ◌∙◌, subst}
+use Rattle.std.proofs.Common.{◌≡◌, ◌≢◌, ℕ, Option, Some, None, All, refl, sym, ap, ◌∙◌, subst}
 use Rattle.nm_base.specs.Geometry.{Geometry}
 use Rattle.nm_base.specs.Ranges.{IsTier}
 use Rattle.nm_base.specs.HomeWord.{home_word}
@@ -8,7 +8,7 @@ use Rattle.nm_view.specs.declared.view.Fill.TheVariants.{Raw}
 use Rattle.nm_view.specs.Views.{Op, View}
 use Rattle.nm_view.specs.Opening.{unscanned}
 use Rattle.nm_event.specs.After.{owning}
-use Rattle.nm_part.specs.Patterns.{Ends, Follows, CanEnd}
+use Rattle.nm_part.specs.Patterns.{Follows, CanEnd}
 use Rattle.nm_part.proofs.Patterns.{ends-now, over-at-once, can-ends, can-follow}
 use Rattle.nm_compose.specs.Plans.{IsNewRun, IsOver}
 use Rattle.nm_compose.specs.Stages.{IsPieceAt, RunsAt}
@@ -23,7 +23,7 @@ use Rattle.nm_pool.specs.declared.job.PoolJob.TheVariants.{Take}
 use Rattle.nm_pool.proofs.Begun.{some-pool}
 use Rattle.nm_reclaim.specs.Reclaims.{pages_visited, IsReclaim}
 use Rattle.nm_reclaim.specs.Swept.{MayReclaim, IsSwept}
-use Rattle.nm_reclaim.specs.Sweeping.{SweptMade, MaySweep, IsSweep}
+use Rattle.nm_reclaim.specs.Sweeping.{SweptMade, IsSweep}
 use Rattle.nm_reclaim.specs.Tasks.{first_visited, TaskMade, MayTask, IsSweepFor}
 use Rattle.nm_reclaim.proofs.Ending.{can-visits}
 use Rattle.nm_reclaim.proofs.Forgetting.{swept-after, forgotten-unowned}
@@ -34,10 +34,10 @@ use Rattle.nm_obtain.specs.declared.obtain.ObtainMade.{ObtainMade}
 use Rattle.nm_obtain.specs.declared.obtain.Obtained.{Obtained}
 use Rattle.nm_obtain.specs.declared.obtain.Obtained.TheVariants as ends
 use Rattle.nm_obtain.specs.declared.obtain.Stage.{Stage}
-use Rattle.nm_obtain.specs.declared.obtain.Stage.TheVariants.{New, Trying, Reclaiming, TryingAgain}
+use Rattle.nm_obtain.specs.declared.obtain.Stage.TheVariants.{Trying, Reclaiming, TryingAgain}
 use Rattle.nm_obtain.specs.Obtains.{reclaim_for, AfterSecondTry, TriesAgain, ReclaimsTier, AfterFirstTry, IsObtain}
 use Rattle.nm_obtain.specs.Obtaining.{MayObtain, HasObtained, IsObtained}
-use Rattle.nm_obtain.specs.Searching.{ObtainParts, ObtainPieceEnd, IsPoolTask, MayObtainPiece, IsObtainPiece, ObtainPieceLeaves, ObtainPiece, obtain_parts, IsNewObtainPiece, obtain_made, obtain_piece, task_end_in, obtain_left, IsSearching, IsReclaimingFrom, ObtainKnown, obtain_stages}
+use Rattle.nm_obtain.specs.Searching.{ObtainParts, ObtainPieceEnd, IsPoolTask, MayObtainPiece, IsObtainPiece, ObtainPieceLeaves, ObtainPiece, obtain_parts, IsNewObtainPiece, obtain_made, obtain_piece, obtain_left, IsSearching, IsReclaimingFrom, ObtainKnown, obtain_stages}
 
 -- What is left can end.
 

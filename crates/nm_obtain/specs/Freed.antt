@@ -1,5 +1,5 @@
 -- The shadows that are reclaimed inside an operation on a page: each frame that is put back before the page is unlocked.
-use Rattle.std.specs.Prelude.{ℕ, ◌+◌, ◌==◌, ◌&&◌, not, Bool, true, false, if◌then◌else◌, [], ◌∷◌}
+use Rattle.std.specs.Prelude.{ℕ, ◌+◌, ◌==◌, ◌&&◌, Bool, true, false, if◌then◌else◌, [], ◌∷◌}
 use Rattle.nm_action.specs.declared.action.Action.{Action}
 use Rattle.nm_action.specs.declared.action.Action.TheVariants.{Unlock, PutFrame, ReleaseTurn}
 use Rattle.nm_action.specs.Own.{Own}

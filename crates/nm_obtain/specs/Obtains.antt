@@ -1,5 +1,5 @@
 -- A frame of a tier is sought inside an operation on a page: a pattern over finished lists, the last step first.
-use Rattle.std.specs.Prelude.{ℕ, Option, Some}
+use Rattle.std.specs.Prelude.{Some}
 use Rattle.nm_base.specs.Geometry.{Geometry}
 use Rattle.nm_action.specs.Own.{Own}
 use Rattle.nm_part.specs.Patterns.{Ends, Follows}

@@ -37,11 +37,18 @@ impl FreedCount {
         ensures page { self.new.page ≡ self.old.page }
         ensures counted { (own : Own) (reply : Reply) → HasCounted self.old own → HasCounted self.new (own ++ (action, reply) ∷ []) }
     {
-        let unlocked = unlocks(self.page, action);
         let freed = self.freed_with(action);
-        self.locked = stays_locked(self.locked, unlocked);
-        self.putting = is_put(action);
+        let locked = self.stays_locked(action);
         self.freed = freed;
+        self.locked = locked;
+        self.putting = is_put(action);
+    }
+
+    /// Whether the page is still locked after this action.
+    fn stays_locked(&self, action: Action) -> bool
+        ensures { result ≡ (self.now.locked && not (unlocks self.now.page action)) }
+    {
+        self.locked && !unlocks(self.page, action)
     }
 
     /// The count with this action.
@@ -61,13 +68,6 @@ impl FreedCount {
     {
         self.freed
     }
-}
-
-/// Whether a page stays locked, by whether an action unlocks it.
-fn stays_locked(locked: bool, unlocked: bool) -> bool
-    ensures { result ≡ (locked && not unlocked) }
-{
-    locked && !unlocked
 }
 
 /// Whether an action puts a frame back.

@@ -1,0 +1,6 @@
+pub mod Ending
+pub mod Runs
+pub mod Steps
+pub mod Moving
+pub mod DemoteSteps
+pub mod Tasks

@@ -1,0 +1,8 @@
+pub mod Selecting
+pub mod Selections
+pub mod Stages
+pub mod Demotions
+pub mod Leaving
+pub mod Pieces
+pub mod Places
+pub mod Tasks
