@@ -37,7 +37,7 @@ pub record AreFlags (action : Action) (reply : Reply) (old new : List Bool) : Ty
   pub size : length new ≡ length old
 
 -- a counter has counted this own list
-pub record IsCounted (c : Counter) (own : Own) : Type 0 where
+pub record CountsEvents (c : Counter) (own : Own) : Type 0 where
   pub tally : c.tally ≡ events_tally own
   pub locked : (page : ℕ) → page < length c.locked.items → slice_index_or c.locked.items page false ≡ is_locked page (backwards [] own)
   pub reclaiming : c.reclaiming ≡ reclaiming_after (backwards [] own)

@@ -5,7 +5,7 @@ ghost use Rattle.nm_action.specs.declared.action.Action.{Action};
 ghost use Rattle.nm_action.specs.Own.{Own};
 ghost use Rattle.nm_base.specs.Geometry.{page_count};
 ghost use Rattle.nm_tally.specs.Counts.{zero_tally, mark_counts, counts_with, is_inside};
-ghost use Rattle.nm_tally.specs.Counting.{IsCountable, IsCounted, AreFlags, reclaiming_with, backwards};
+ghost use Rattle.nm_tally.specs.Counting.{IsCountable, CountsEvents, AreFlags, reclaiming_with, backwards};
 
 use nm_action::{Action, Bit, Reply, Tally};
 use nm_base::Geometry;
@@ -34,7 +34,8 @@ impl Reclaiming {
             },
             unlocked: match action {
                 Action::Unlock { .. } => self.given_up,
-                Action::TakeTurn { .. } | Action::Poll | Action::Peek { .. } | Action::Ack { .. } => self.unlocked,
+                Action::TakeTurn { .. } | Action::Poll | Action::Peek { .. } | Action::Ack { .. } =>
+                    self.unlocked,
                 _ => false,
             },
             put_back: match action {
@@ -80,7 +81,10 @@ fn event_counts(inside: bool, put_back: bool, action: Action, reply: Reply) -> T
         Action::Bump => Tally { flushes: 1, ..none },
         Action::ReleaseTurn { .. } => {
             if put_back {
-                Tally { reclaimed: 1, ..none }
+                Tally {
+                    reclaimed: 1,
+                    ..none
+                }
             } else {
                 none
             }
@@ -104,7 +108,7 @@ impl Counter {
     /// flag for each backing page.
     pub fn new(alloc: Global, g: &Geometry) -> Result<Counter, AllocError>
         ensures pages { IfOk result (λ c. length c.locked.items ≡ page_count g.now) }
-        ensures counted { IfOk result (λ c. IsCounted c []) }
+        ensures counted { IfOk result (λ c. CountsEvents c []) }
     {
         Ok(Counter {
             tally: Tally::default(),
@@ -117,7 +121,7 @@ impl Counter {
     pub fn note(&mut self, action: Action, reply: Reply)
         requires { IsCountable (length self.old.locked.items) action }
         ensures pages { length self.new.locked.items ≡ length self.old.locked.items }
-        ensures counted { (own : Own) → IsCounted self.old own → IsCounted self.new (own ++ (action, reply) ∷ []) }
+        ensures counted { (own : Own) → CountsEvents self.old own → CountsEvents self.new (own ++ (action, reply) ∷ []) }
     {
         let inside = self.is_inside(action);
         let counts = event_counts(inside, self.reclaiming.put_back, action, reply);
@@ -145,7 +149,7 @@ impl Counter {
     /// Whether an action is a Mark inside an operation on its page.
     fn is_inside(&self, action: Action) -> bool
         requires { IsCountable (length self.now.locked.items) action }
-        ensures { (own : Own) → IsCounted self.now own → result ≡ is_inside action (backwards [] own) }
+        ensures { (own : Own) → CountsEvents self.now own → result ≡ is_inside action (backwards [] own) }
     {
         match action {
             Action::Mark { page, .. } => self.locked[page as usize],

@@ -20,7 +20,7 @@ use Rattle.nm_worker.specs.declared.routine.Ended.{Ended}
 use Rattle.nm_worker.specs.declared.routine.Ended.TheVariants as ended
 use Rattle.nm_worker.specs.Notes.{Noted, Notes, noted_turns, uncounted, counts_last, worked, IsTask}
 use Rattle.nm_worker.specs.Routines.{IsTaskRun, IsWorkRun, IsNextTask}
-use Rattle.nm_worker.specs.Workers.{ComesNext, IsAtTask, IsAtWork, IsGiven}
+use Rattle.nm_worker.specs.Workers.{ComesNext, IsAtTask, IsAtWork, IsTurnGiven}
 use Rattle.nm_worker.proofs.NoteLists.{own-uncounted, view-more, worked-with}
 
 -- A piece of work.
@@ -59,7 +59,7 @@ pub work-given : {P M X : Type 0} (made : P → M) (is_new : P → Type 0) (may_
     → made piece ≡ work
     → IsAtTask (knows (turns_view g number (noted_turns front)) (Run work)) (IsTask shape counts g (Run work)) left whole front
     → IsAsked (awaits piece) (shape work) g (turns_view g number (noted_turns front)) inner action
-    → IsGiven made is_new may_begin shape awaits counts knows left whole g number action (Run piece) (turn.Do action) (front ++ uncounted inner)
+    → IsTurnGiven made is_new may_begin shape awaits counts knows left whole g number action (Run piece) (turn.Do action) (front ++ uncounted inner)
 work-given {P} {M} made is_new may_begin shape awaits counts knows left whole g number piece work front inner action same run asked =
     let R : M → Type 0 = λ m. IsAtWork shape (awaits piece) counts knows left whole g number action (front ++ uncounted inner) action m in
     let A : View → Type 0 = λ view. Allowed g view action in
@@ -80,12 +80,12 @@ pub start-given : {P M X : Type 0} (made : P → M) (is_new : P → Type 0) (may
     → task ≡ Run was → made piece ≡ made was
     → ((g : Geometry) (view : View) → may_begin (made was) g view → IsAsked (awaits piece) (shape (made was)) g view [] action)
     → (notes : Notes) → IsNextTask made is_new may_begin shape counts knows left (λ rest outcome. whole (notes ++ rest) outcome) g (turns_view g number (noted_turns notes)) task
-    → IsGiven made is_new may_begin shape awaits counts knows left whole g number action (Run piece) (turn.Do action) notes
+    → IsTurnGiven made is_new may_begin shape awaits counts knows left whole g number action (Run piece) (turn.Do action) notes
 start-given {P} {M} {X} made is_new may_begin shape awaits counts knows left whole g number task was piece action is same asked notes next =
     let view = turns_view g number (noted_turns notes) in
     let N : Task P → Type 0 = λ t. IsNextTask made is_new may_begin shape counts knows left (λ rest outcome. whole (notes ++ rest) outcome) g view t in
     let run : IsWorkRun (is_new was) (may_begin (made was) g view) (knows view (Run (made was))) (IsTask shape counts g (Run (made was))) left (λ rest outcome. whole (notes ++ rest) outcome) = subst N is next in
-    let G : Notes → Type 0 = λ l. IsGiven made is_new may_begin shape awaits counts knows left whole g number action (Run piece) (turn.Do action) l in
+    let G : Notes → Type 0 = λ l. IsTurnGiven made is_new may_begin shape awaits counts knows left whole g number action (Run piece) (turn.Do action) l in
     subst G (append-nil notes) (work-given made is_new may_begin shape awaits counts knows left whole g number piece (made was) notes [] action same
     (due-after (knows view (Run (made was))) (IsTask shape counts g (Run (made was))) left whole notes run.run) (asked g view run.may_begin))
 
@@ -108,7 +108,7 @@ lane-comes done left whole notes note end can due shown =
 pub put-given : {P M X : Type 0} (made : P → M) (is_new : P → Type 0) (may_begin : M → Geometry → View → Type 0) (shape : M → Geometry → Own → X → Type 0) (awaits : P → Geometry → View → Own → Action → Type 0) (counts : X → Tally) (knows : View → Task M → Type 0) (left : Ended X → Notes → Unit {0} → Type 0) (whole : Notes → Unit {0} → Type 0) (g : Geometry) (number : ℕ) (kept : Action) (task : Task P) (lane : Lane) (page : ℕ)
     → task ≡ Put lane page
     → (notes : Notes) → IsNextTask made is_new may_begin shape counts knows left (λ rest outcome. whole (notes ++ rest) outcome) g (turns_view g number (noted_turns notes)) task
-    → IsGiven made is_new may_begin shape awaits counts knows left whole g number kept (Put lane page) (turn.Put lane page) notes
+    → IsTurnGiven made is_new may_begin shape awaits counts knows left whole g number kept (Put lane page) (turn.Put lane page) notes
 put-given {P} {M} {X} made is_new may_begin shape awaits counts knows left whole g number kept task lane page is notes next =
     let view = turns_view g number (noted_turns notes) in
     let N : Task P → Type 0 = λ t. IsNextTask made is_new may_begin shape counts knows left (λ rest outcome. whole (notes ++ rest) outcome) g view t in
@@ -123,7 +123,7 @@ put-given {P} {M} {X} made is_new may_begin shape awaits counts knows left whole
 pub take-given : {P M X : Type 0} (made : P → M) (is_new : P → Type 0) (may_begin : M → Geometry → View → Type 0) (shape : M → Geometry → Own → X → Type 0) (awaits : P → Geometry → View → Own → Action → Type 0) (counts : X → Tally) (knows : View → Task M → Type 0) (left : Ended X → Notes → Unit {0} → Type 0) (whole : Notes → Unit {0} → Type 0) (g : Geometry) (number : ℕ) (kept : Action) (task : Task P) (lane : Lane)
     → task ≡ Take lane
     → (notes : Notes) → IsNextTask made is_new may_begin shape counts knows left (λ rest outcome. whole (notes ++ rest) outcome) g (turns_view g number (noted_turns notes)) task
-    → IsGiven made is_new may_begin shape awaits counts knows left whole g number kept (Take lane) (turn.Take lane) notes
+    → IsTurnGiven made is_new may_begin shape awaits counts knows left whole g number kept (Take lane) (turn.Take lane) notes
 take-given {P} {M} {X} made is_new may_begin shape awaits counts knows left whole g number kept task lane is notes next =
     let view = turns_view g number (noted_turns notes) in
     let N : Task P → Type 0 = λ t. IsNextTask made is_new may_begin shape counts knows left (λ rest outcome. whole (notes ++ rest) outcome) g view t in

@@ -12,11 +12,11 @@ use Rattle.nm_compose.specs.Choices.{IsOr}
 use Rattle.nm_worker.specs.declared.routine.Task.TheVariants.{Run, Put, Take}
 use Rattle.nm_worker.specs.declared.routine.Ended.{Ended}
 use Rattle.nm_worker.specs.declared.routine.Ended.TheVariants as ended
-use Rattle.nm_worker.specs.Notes.{Notes, worked, put_heard, take_heard, IsWork, IsPut, IsTake, IsTask}
+use Rattle.nm_worker.specs.Notes.{Notes, worked, put_heard, take_heard, IsWorkDone, IsPut, IsTake, IsTask}
 
 -- Lists of tasks.
 
-pub some-work : {M X : Type 0} (shape : M → Geometry → Own → X → Type 0) (counts : X → Tally) (work : M) (g : Geometry) → CanEnd (shape work g) → CanEnd (IsWork shape counts work g)
+pub some-work : {M X : Type 0} (shape : M → Geometry → Own → X → Type 0) (counts : X → Tally) (work : M) (g : Geometry) → CanEnd (shape work g) → CanEnd (IsWorkDone shape counts work g)
 some-work shape counts work g can = record {
   rest = worked (counts can.outcome) can.rest;
   outcome = can.outcome;
@@ -32,13 +32,13 @@ some-take lane page = record { rest = record { turn = turn.Take lane; heard = ta
 -- What follows a task.
 
 run-ends : {M X : Type 0} (shape : M → Geometry → Own → X → Type 0) (counts : X → Tally) (g : Geometry) (work : M) (left : Ended X → Notes → Unit {0} → Type 0) (end : Ended X) (front back : Notes) (outcome : Unit {0})
-    → IsTask shape counts g (Run work) front end → left end back outcome → Follows (IsWork shape counts work g) (λ x. left (ended.Run x)) (front ++ back) outcome
+    → IsTask shape counts g (Run work) front end → left end back outcome → Follows (IsWorkDone shape counts work g) (λ x. left (ended.Run x)) (front ++ back) outcome
 run-ends shape counts g work left (ended.Run x) front back outcome shown rest = record { end = x; front = front; back = back; shown = shown; rest = rest; is = refl }
 run-ends shape counts g work left (ended.Put full) front back outcome shown rest = absurd shown
 run-ends shape counts g work left (ended.Take page) front back outcome shown rest = absurd shown
 
 pub run-follows : {M X : Type 0} (shape : M → Geometry → Own → X → Type 0) (counts : X → Tally) (g : Geometry) (work : M) (left : Ended X → Notes → Unit {0} → Type 0) (notes : Notes) (outcome : Unit {0})
-    → Follows (IsTask shape counts g (Run work)) left notes outcome → Follows (IsWork shape counts work g) (λ x. left (ended.Run x)) notes outcome
+    → Follows (IsTask shape counts g (Run work)) left notes outcome → Follows (IsWorkDone shape counts work g) (λ x. left (ended.Run x)) notes outcome
 run-follows shape counts g work left notes outcome h = rw h.is (run-ends shape counts g work left h.end h.front h.back outcome h.shown h.rest)
 
 put-ends : {M X : Type 0} (shape : M → Geometry → Own → X → Type 0) (counts : X → Tally) (g : Geometry) (lane : Lane) (page : ℕ) (left : Ended X → Notes → Unit {0} → Type 0) (end : Ended X) (front back : Notes) (outcome : Unit {0})
@@ -64,19 +64,19 @@ take-follows shape counts g lane left notes outcome h = rw h.is (take-ends shape
 -- What follows a piece of work that was chosen from two kinds.
 
 this-work-ends : {M N X Y : Type 0} (shape_a : M → Geometry → Own → X → Type 0) (shape_b : N → Geometry → Own → Y → Type 0) (counts : Or X Y → Tally) (m : M) (g : Geometry) (left : Or X Y → Notes → Unit {0} → Type 0) (end : Or X Y) (own : Own) (back : Notes) (outcome : Unit {0})
-    → IsOr shape_a shape_b (This m) g own end → left end back outcome → Follows (IsWork shape_a (λ x. counts (This x)) m g) (λ x. left (This x)) (worked (counts end) own ++ back) outcome
+    → IsOr shape_a shape_b (This m) g own end → left end back outcome → Follows (IsWorkDone shape_a (λ x. counts (This x)) m g) (λ x. left (This x)) (worked (counts end) own ++ back) outcome
 this-work-ends shape_a shape_b counts m g left (This x) own back outcome shown rest = record { end = x; front = worked (counts (This x)) own; back = back; shown = record { own = own; shown = shown; is = refl }; rest = rest; is = refl }
 this-work-ends shape_a shape_b counts m g left (Other y) own back outcome shown rest = absurd shown
 
 pub this-work : {M N X Y : Type 0} (shape_a : M → Geometry → Own → X → Type 0) (shape_b : N → Geometry → Own → Y → Type 0) (counts : Or X Y → Tally) (m : M) (g : Geometry) (left : Or X Y → Notes → Unit {0} → Type 0) (notes : Notes) (outcome : Unit {0})
-    → Follows (IsWork (IsOr shape_a shape_b) counts (This m) g) left notes outcome → Follows (IsWork shape_a (λ x. counts (This x)) m g) (λ x. left (This x)) notes outcome
+    → Follows (IsWorkDone (IsOr shape_a shape_b) counts (This m) g) left notes outcome → Follows (IsWorkDone shape_a (λ x. counts (This x)) m g) (λ x. left (This x)) notes outcome
 this-work shape_a shape_b counts m g left notes outcome h = rw (h.is, h.shown.is) (this-work-ends shape_a shape_b counts m g left h.end h.shown.own h.back outcome h.shown.shown h.rest)
 
 other-work-ends : {M N X Y : Type 0} (shape_a : M → Geometry → Own → X → Type 0) (shape_b : N → Geometry → Own → Y → Type 0) (counts : Or X Y → Tally) (n : N) (g : Geometry) (left : Or X Y → Notes → Unit {0} → Type 0) (end : Or X Y) (own : Own) (back : Notes) (outcome : Unit {0})
-    → IsOr shape_a shape_b (Other n) g own end → left end back outcome → Follows (IsWork shape_b (λ y. counts (Other y)) n g) (λ y. left (Other y)) (worked (counts end) own ++ back) outcome
+    → IsOr shape_a shape_b (Other n) g own end → left end back outcome → Follows (IsWorkDone shape_b (λ y. counts (Other y)) n g) (λ y. left (Other y)) (worked (counts end) own ++ back) outcome
 other-work-ends shape_a shape_b counts n g left (This x) own back outcome shown rest = absurd shown
 other-work-ends shape_a shape_b counts n g left (Other y) own back outcome shown rest = record { end = y; front = worked (counts (Other y)) own; back = back; shown = record { own = own; shown = shown; is = refl }; rest = rest; is = refl }
 
 pub other-work : {M N X Y : Type 0} (shape_a : M → Geometry → Own → X → Type 0) (shape_b : N → Geometry → Own → Y → Type 0) (counts : Or X Y → Tally) (n : N) (g : Geometry) (left : Or X Y → Notes → Unit {0} → Type 0) (notes : Notes) (outcome : Unit {0})
-    → Follows (IsWork (IsOr shape_a shape_b) counts (Other n) g) left notes outcome → Follows (IsWork shape_b (λ y. counts (Other y)) n g) (λ y. left (Other y)) notes outcome
+    → Follows (IsWorkDone (IsOr shape_a shape_b) counts (Other n) g) left notes outcome → Follows (IsWorkDone shape_b (λ y. counts (Other y)) n g) (λ y. left (Other y)) notes outcome
 other-work shape_a shape_b counts n g left notes outcome h = rw (h.is, h.shown.is) (other-work-ends shape_a shape_b counts n g left h.end h.shown.own h.back outcome h.shown.shown h.rest)

@@ -30,12 +30,12 @@ use Rattle.nm_worker.specs.declared.routine.Task.TheVariants.{Run, Put, Take, St
 use Rattle.nm_worker.specs.declared.routine.Ended.{Ended}
 use Rattle.nm_worker.specs.declared.routine.Ended.TheVariants as ended
 use Rattle.nm_worker.specs.Notes.{Noted, Notes, noted_turns, uncounted, worked, put_heard, take_heard, tally_with, notes_tally, IsTask}
-use Rattle.nm_worker.specs.Routines.{task_made, IsTaskRun, IsWorkRun, IsNextTask, IsWorkOver, IsTaskOver, IsDrawn, HasTaskOver, CanBeginTask}
-use Rattle.nm_worker.specs.Workers.{IsAtTask, IsAtWork, IsAtLane, IsAt, IsGiven, IsFewDrawn, IsAgreeing, IsAnswered, IsWorkHeard}
+use Rattle.nm_worker.specs.Routines.{task_data, IsTaskRun, IsWorkRun, IsNextTask, IsWorkOver, IsTaskOver, IsDrawn, HasTaskOver, CanBeginTask}
+use Rattle.nm_worker.specs.Workers.{IsAtTask, IsAtWork, IsAtLane, AwaitsTurn, IsTurnGiven, IsFewDrawn, FollowsRoutine, IsAnswerNoted, IsWorkHeard}
 use Rattle.nm_base.specs.Geometry.{page_count}
 use Rattle.nm_tally.specs.Counts.{zero_tally}
 use Rattle.nm_permit.specs.Permitted.{InRange}
-use Rattle.nm_tally.specs.Counting.{IsCountable, IsCounted}
+use Rattle.nm_tally.specs.Counting.{IsCountable, CountsEvents}
 use Rattle.nm_tally.proofs.Countable.{countable}
 use Rattle.nm_action.specs.Spent.{counted}
 use Rattle.nm_part.proofs.OwnLemmas.{view-push}
@@ -46,15 +46,15 @@ use Rattle.nm_worker.proofs.Drawing.{IsKept, drawn-after, few-after}
 -- after an answered turn the actor agrees with it, and its next turn is permitted
 pub turn-answered : {P M X R Q : Type 0} (made : P → M) (is_new : P → Type 0) (may_begin : M → Geometry → View → Type 0) (shape : M → Geometry → Own → X → Type 0) (awaits : P → Geometry → View → Own → Action → Type 0) (counts : X → Tally) (knows : R → View → Task M → Type 0) (left : R → Ended X → Notes → Unit {0} → Type 0) (data_of : R → Q) (whole : Q → Notes → Unit {0} → Type 0) (geometry : Q → Geometry) (number : Q → ℕ) (old new : R) (later : Action) (next : Task P) (counting : Counter) (tally total : Tally) (spending : Spent) (result : Turn) (turns : Turns) (notes : Notes) (given : Turn) (heard : Heard)
     → data_of new ≡ data_of old → turns ≡ noted_turns notes → tally ≡ notes_tally notes
-    → IsCounted counting (own_list (turns ++ (given, heard) ∷ [])) → length counting.locked.items ≡ page_count (geometry (data_of old))
+    → CountsEvents counting (own_list (turns ++ (given, heard) ∷ [])) → length counting.locked.items ≡ page_count (geometry (data_of old))
     → IsDrawn spending (turns_view (geometry (data_of old)) (number (data_of old)) (turns ++ (given, heard) ∷ [])) → IsFewDrawn spending
-    → IsAnswered (IsGiven made is_new may_begin shape awaits counts (knows new) (left new) (whole (data_of old)) (geometry (data_of old)) (number (data_of old)) later next result) tally total notes given heard
-    → IsTurn (geometry (data_of old)) (number (data_of old)) (IsAgreeing made is_new may_begin shape awaits counts (knows new) (left new) (whole (data_of new)) (geometry (data_of new)) (number (data_of new)) later next counting total spending) (turns ++ (given, heard) ∷ []) result
+    → IsAnswerNoted (IsTurnGiven made is_new may_begin shape awaits counts (knows new) (left new) (whole (data_of old)) (geometry (data_of old)) (number (data_of old)) later next result) tally total notes given heard
+    → IsTurn (geometry (data_of old)) (number (data_of old)) (FollowsRoutine made is_new may_begin shape awaits counts (knows new) (left new) (whole (data_of new)) (geometry (data_of new)) (number (data_of new)) later next counting total spending) (turns ++ (given, heard) ∷ []) result
 turn-answered {P} {M} {X} {R} {Q} made is_new may_begin shape awaits counts knows left data_of whole geometry number old new later next counting tally total spending result turns notes given heard same is sums events pages drawn few h =
     let note : Noted = record { turn = given; heard = heard; counts = h.counts } in
     let list : turns ++ (given, heard) ∷ [] ≡ noted_turns (notes ++ note ∷ []) = ap (λ (l : Turns). l ++ (given, heard) ∷ []) is ∙ sym (turns-append notes (note ∷ [])) in
     let V : Turns → Type 0 = λ l. IsPermittedTurn (geometry (data_of old)) (turns_view (geometry (data_of old)) (number (data_of old)) l) result in
-    let K : Q → Type 0 = λ q. IsTurn (geometry (data_of old)) (number (data_of old)) (IsAgreeing made is_new may_begin shape awaits counts (knows new) (left new) (whole q) (geometry q) (number q) later next counting total spending) (turns ++ (given, heard) ∷ []) result in
+    let K : Q → Type 0 = λ q. IsTurn (geometry (data_of old)) (number (data_of old)) (FollowsRoutine made is_new may_begin shape awaits counts (knows new) (left new) (whole q) (geometry q) (number q) later next counting total spending) (turns ++ (given, heard) ∷ []) result in
     subst K (sym same) (record {
       agreed = record {
         notes = notes ++ note ∷ [];
@@ -75,17 +75,17 @@ turn-answered {P} {M} {X} {R} {Q} made is_new may_begin shape awaits counts know
 -- the first turn
 pub first-turn : {P M X R Q : Type 0} (made : P → M) (is_new : P → Type 0) (may_begin : M → Geometry → View → Type 0) (shape : M → Geometry → Own → X → Type 0) (awaits : P → Geometry → View → Own → Action → Type 0) (counts : X → Tally) (knows : R → View → Task M → Type 0) (left : R → Ended X → Notes → Unit {0} → Type 0) (data_of : R → Q) (whole : Q → Notes → Unit {0} → Type 0) (geometry : Q → Geometry) (number : Q → ℕ) (old new : R) (kept later : Action) (task next : Task P) (counter counting : Counter) (tally total : Tally) (spent spending : Spent) (result : Turn)
     → new ≡ old → counting ≡ counter → total ≡ tally → spending ≡ spent
-    → ((notes : Notes) → IsNextTask made is_new may_begin shape counts (knows old) (left old) (λ rest outcome. (whole (data_of old)) (notes ++ rest) outcome) (geometry (data_of old)) (turns_view (geometry (data_of old)) (number (data_of old)) (noted_turns notes)) task → IsGiven made is_new may_begin shape awaits counts (knows old) (left old) (whole (data_of old)) (geometry (data_of old)) (number (data_of old)) later next result notes)
-    → (turns : Turns) (last : Option Turn) → IsAgreeing made is_new may_begin shape awaits counts (knows old) (left old) (whole (data_of old)) (geometry (data_of old)) (number (data_of old)) kept task counter tally spent turns last → IsAnswerTo (geometry (data_of old)) (turns_view (geometry (data_of old)) (number (data_of old)) turns) last Start
-    → IsTurn (geometry (data_of old)) (number (data_of old)) (IsAgreeing made is_new may_begin shape awaits counts (knows new) (left new) (whole (data_of new)) (geometry (data_of new)) (number (data_of new)) later next counting total spending) (answered last Start turns) result
+    → ((notes : Notes) → IsNextTask made is_new may_begin shape counts (knows old) (left old) (λ rest outcome. (whole (data_of old)) (notes ++ rest) outcome) (geometry (data_of old)) (turns_view (geometry (data_of old)) (number (data_of old)) (noted_turns notes)) task → IsTurnGiven made is_new may_begin shape awaits counts (knows old) (left old) (whole (data_of old)) (geometry (data_of old)) (number (data_of old)) later next result notes)
+    → (turns : Turns) (last : Option Turn) → FollowsRoutine made is_new may_begin shape awaits counts (knows old) (left old) (whole (data_of old)) (geometry (data_of old)) (number (data_of old)) kept task counter tally spent turns last → IsAnswerTo (geometry (data_of old)) (turns_view (geometry (data_of old)) (number (data_of old)) turns) last Start
+    → IsTurn (geometry (data_of old)) (number (data_of old)) (FollowsRoutine made is_new may_begin shape awaits counts (knows new) (left new) (whole (data_of new)) (geometry (data_of new)) (number (data_of new)) later next counting total spending) (answered last Start turns) result
 first-turn {P} {M} {X} {R} {Q} made is_new may_begin shape awaits counts knows left data_of whole geometry number old new kept later task next counter counting tally total spent spending result is events sums draws given turns None h answer =
     let none : turns ≡ [] = h.is ∙ ap noted_turns h.next in
     let first = given [] h.at in
     let S : Spent → Type 0 = λ k. IsDrawn k (turns_view (geometry (data_of old)) (number (data_of old)) turns) in
     let T : Spent → Type 0 = λ k. IsFewDrawn k in
     let V : Turns → Type 0 = λ l. IsPermittedTurn (geometry (data_of old)) (turns_view (geometry (data_of old)) (number (data_of old)) l) result in
-    let D : Counter → Type 0 = λ k. IsCounted k (own_list turns) in
-    let K : R → Type 0 = λ r. IsTurn (geometry (data_of old)) (number (data_of old)) (IsAgreeing made is_new may_begin shape awaits counts (knows r) (left r) (whole (data_of r)) (geometry (data_of r)) (number (data_of r)) later next counting total spending) turns result in
+    let D : Counter → Type 0 = λ k. CountsEvents k (own_list turns) in
+    let K : R → Type 0 = λ r. IsTurn (geometry (data_of old)) (number (data_of old)) (FollowsRoutine made is_new may_begin shape awaits counts (knows r) (left r) (whole (data_of r)) (geometry (data_of r)) (number (data_of r)) later next counting total spending) turns result in
     subst K (sym is) (record {
       agreed = record {
         notes = [];
@@ -108,14 +108,14 @@ first-turn made is_new may_begin shape awaits counts knows left data_of whole ge
 -- A reply.
 
 at-kept : {P M X : Type 0} (made : P → M) (is_new : P → Type 0) (may_begin : M → Geometry → View → Type 0) (shape : M → Geometry → Own → X → Type 0) (awaits : P → Geometry → View → Own → Action → Type 0) (counts : X → Tally) (knows : View → Task M → Type 0) (left : Ended X → Notes → Unit {0} → Type 0) (whole : Notes → Unit {0} → Type 0) (g : Geometry) (number : ℕ) (kept : Action) (notes : Notes) (action : Action) (task : Task P)
-    → IsAt made is_new may_begin shape awaits counts knows left whole g number kept notes (Some (turn.Do action)) task → IsKept g (turns_view g number (noted_turns notes)) kept action
+    → AwaitsTurn made is_new may_begin shape awaits counts knows left whole g number kept notes (Some (turn.Do action)) task → IsKept g (turns_view g number (noted_turns notes)) kept action
 at-kept made is_new may_begin shape awaits counts knows left whole g number kept notes action (Run piece) at = record { same = at.same; permitted = at.permitted }
 at-kept made is_new may_begin shape awaits counts knows left whole g number kept notes action (Put lane page) at = absurd at
 at-kept made is_new may_begin shape awaits counts knows left whole g number kept notes action (Take lane) at = absurd at
 at-kept made is_new may_begin shape awaits counts knows left whole g number kept notes action Stop at = absurd at
 
 noting : {P M X : Type 0} (made : P → M) (is_new : P → Type 0) (may_begin : M → Geometry → View → Type 0) (shape : M → Geometry → Own → X → Type 0) (awaits : P → Geometry → View → Own → Action → Type 0) (counts : X → Tally) (knows : View → Task M → Type 0) (left : Ended X → Notes → Unit {0} → Type 0) (whole : Notes → Unit {0} → Type 0) (g : Geometry) (number : ℕ) (kept : Action) (task : Task P) (counter : Counter) (tally : Tally) (spent : Spent) (reply : Reply) (turns : Turns) (last : Option Turn)
-    → IsAgreeing made is_new may_begin shape awaits counts knows left whole g number kept task counter tally spent turns last → IsAnswerTo g (turns_view g number turns) last (Answer reply) → IsCountable (length counter.locked.items) kept
+    → FollowsRoutine made is_new may_begin shape awaits counts knows left whole g number kept task counter tally spent turns last → IsAnswerTo g (turns_view g number turns) last (Answer reply) → IsCountable (length counter.locked.items) kept
 noting made is_new may_begin shape awaits counts knows left whole g number kept task counter tally spent reply turns None h answer = absurd answer
 noting made is_new may_begin shape awaits counts knows left whole g number kept task counter tally spent reply turns (Some (turn.Do action)) h answer =
     let k = at-kept made is_new may_begin shape awaits counts knows left whole g number kept h.notes action task h.at in
@@ -128,13 +128,13 @@ noting made is_new may_begin shape awaits counts knows left whole g number kept 
 
 -- the action that was answered can be counted
 pub action-counts : {P M X : Type 0} (made : P → M) (is_new : P → Type 0) (may_begin : M → Geometry → View → Type 0) (shape : M → Geometry → Own → X → Type 0) (awaits : P → Geometry → View → Own → Action → Type 0) (counts : X → Tally) (knows : View → Task M → Type 0) (left : Ended X → Notes → Unit {0} → Type 0) (whole : Notes → Unit {0} → Type 0) (g : Geometry) (number : ℕ) (kept : Action) (task : Task P) (counter : Counter) (tally : Tally) (spent : Spent) (reply : Reply)
-    → HasHeard g number (IsAgreeing made is_new may_begin shape awaits counts knows left whole g number kept task counter tally spent) (Answer reply) → IsCountable (length counter.locked.items) kept
+    → HasHeard g number (FollowsRoutine made is_new may_begin shape awaits counts knows left whole g number kept task counter tally spent) (Answer reply) → IsCountable (length counter.locked.items) kept
 action-counts made is_new may_begin shape awaits counts knows left whole g number kept task counter tally spent reply h = noting made is_new may_begin shape awaits counts knows left whole g number kept task counter tally spent reply h.turns h.last h.agreed h.answer
 
 -- the piece of work that runs is to hear the reply
 hearing : {P M X : Type 0} (made : P → M) (is_new : P → Type 0) (may_begin : M → Geometry → View → Type 0) (shape : M → Geometry → Own → X → Type 0) (awaits : P → Geometry → View → Own → Action → Type 0) (counts : X → Tally) (knows : View → Task M → Type 0) (left : Ended X → Notes → Unit {0} → Type 0) (whole : Notes → Unit {0} → Type 0) (g : Geometry) (number : ℕ) (kept : Action) (task : Task P) (counter : Counter) (tally : Tally) (spent spending : Spent) (reply : Reply) (turns : Turns) (last : Option Turn)
-    → IsAgreeing made is_new may_begin shape awaits counts knows left whole g number kept task counter tally spent turns last → IsAnswerTo g (turns_view g number turns) last (Answer reply) → spending ≡ counted kept spent
-    → IsWorkHeard (λ notes last. IsAt made is_new may_begin shape awaits counts knows left whole g number kept notes last task) g number spending reply
+    → FollowsRoutine made is_new may_begin shape awaits counts knows left whole g number kept task counter tally spent turns last → IsAnswerTo g (turns_view g number turns) last (Answer reply) → spending ≡ counted kept spent
+    → IsWorkHeard (λ notes last. AwaitsTurn made is_new may_begin shape awaits counts knows left whole g number kept notes last task) g number spending reply
 hearing made is_new may_begin shape awaits counts knows left whole g number kept task counter tally spent spending reply turns None h answer draws = absurd answer
 hearing made is_new may_begin shape awaits counts knows left whole g number kept task counter tally spent spending reply turns (Some (turn.Do action)) h answer draws =
     let F : Turns → Type 0 = λ l. Fits g (turns_view g number l) action reply in
@@ -147,24 +147,24 @@ hearing made is_new may_begin shape awaits counts knows left whole g number kept
 hearing made is_new may_begin shape awaits counts knows left whole g number kept task counter tally spent spending reply turns (Some turn.End) h answer draws = absurd answer
 
 pub work-requires : {P M X : Type 0} (made : P → M) (is_new : P → Type 0) (may_begin : M → Geometry → View → Type 0) (shape : M → Geometry → Own → X → Type 0) (awaits : P → Geometry → View → Own → Action → Type 0) (counts : X → Tally) (knows : View → Task M → Type 0) (left : Ended X → Notes → Unit {0} → Type 0) (whole : Notes → Unit {0} → Type 0) (g : Geometry) (number : ℕ) (kept : Action) (task : Task P) (counter : Counter) (tally : Tally) (spent spending : Spent) (reply : Reply)
-    → HasHeard g number (IsAgreeing made is_new may_begin shape awaits counts knows left whole g number kept task counter tally spent) (Answer reply) → spending ≡ counted kept spent
-    → IsWorkHeard (λ notes last. IsAt made is_new may_begin shape awaits counts knows left whole g number kept notes last task) g number spending reply
+    → HasHeard g number (FollowsRoutine made is_new may_begin shape awaits counts knows left whole g number kept task counter tally spent) (Answer reply) → spending ≡ counted kept spent
+    → IsWorkHeard (λ notes last. AwaitsTurn made is_new may_begin shape awaits counts knows left whole g number kept notes last task) g number spending reply
 work-requires made is_new may_begin shape awaits counts knows left whole g number kept task counter tally spent spending reply h draws = hearing made is_new may_begin shape awaits counts knows left whole g number kept task counter tally spent spending reply h.turns h.last h.agreed h.answer draws
 
 -- the turn after it
 pub work-turn : {P M X R Q : Type 0} (made : P → M) (is_new : P → Type 0) (may_begin : M → Geometry → View → Type 0) (shape : M → Geometry → Own → X → Type 0) (awaits : P → Geometry → View → Own → Action → Type 0) (counts : X → Tally) (knows : R → View → Task M → Type 0) (left : R → Ended X → Notes → Unit {0} → Type 0) (data_of : R → Q) (whole : Q → Notes → Unit {0} → Type 0) (geometry : Q → Geometry) (number : Q → ℕ) (old new : R) (kept later : Action) (task next : Task P) (counter counting : Counter) (tally total : Tally) (spent spending : Spent) (result : Turn) (reply : Reply)
     → data_of new ≡ data_of old
     → spending ≡ counted kept spent
-    → ((own : Own) → IsCounted counter own → IsCounted counting (own ++ (kept, reply) ∷ [])) → length counting.locked.items ≡ length counter.locked.items
-    → ((notes : Notes) (action : Action) → IsAt made is_new may_begin shape awaits counts (knows old) (left old) (whole (data_of old)) (geometry (data_of old)) (number (data_of old)) kept notes (Some (turn.Do action)) task → Fits (geometry (data_of old)) (turns_view (geometry (data_of old)) (number (data_of old)) (noted_turns notes)) action reply → IsDrawn spending (after_of (geometry (data_of old)) (turns_view (geometry (data_of old)) (number (data_of old)) (noted_turns notes)) action reply) → IsAnswered (IsGiven made is_new may_begin shape awaits counts (knows new) (left new) (whole (data_of old)) (geometry (data_of old)) (number (data_of old)) later next result) tally total notes (turn.Do action) (Answer reply))
-    → (turns : Turns) (last : Option Turn) → IsAgreeing made is_new may_begin shape awaits counts (knows old) (left old) (whole (data_of old)) (geometry (data_of old)) (number (data_of old)) kept task counter tally spent turns last → IsAnswerTo (geometry (data_of old)) (turns_view (geometry (data_of old)) (number (data_of old)) turns) last (Answer reply)
-    → IsTurn (geometry (data_of old)) (number (data_of old)) (IsAgreeing made is_new may_begin shape awaits counts (knows new) (left new) (whole (data_of new)) (geometry (data_of new)) (number (data_of new)) later next counting total spending) (answered last (Answer reply) turns) result
+    → ((own : Own) → CountsEvents counter own → CountsEvents counting (own ++ (kept, reply) ∷ [])) → length counting.locked.items ≡ length counter.locked.items
+    → ((notes : Notes) (action : Action) → AwaitsTurn made is_new may_begin shape awaits counts (knows old) (left old) (whole (data_of old)) (geometry (data_of old)) (number (data_of old)) kept notes (Some (turn.Do action)) task → Fits (geometry (data_of old)) (turns_view (geometry (data_of old)) (number (data_of old)) (noted_turns notes)) action reply → IsDrawn spending (after_of (geometry (data_of old)) (turns_view (geometry (data_of old)) (number (data_of old)) (noted_turns notes)) action reply) → IsAnswerNoted (IsTurnGiven made is_new may_begin shape awaits counts (knows new) (left new) (whole (data_of old)) (geometry (data_of old)) (number (data_of old)) later next result) tally total notes (turn.Do action) (Answer reply))
+    → (turns : Turns) (last : Option Turn) → FollowsRoutine made is_new may_begin shape awaits counts (knows old) (left old) (whole (data_of old)) (geometry (data_of old)) (number (data_of old)) kept task counter tally spent turns last → IsAnswerTo (geometry (data_of old)) (turns_view (geometry (data_of old)) (number (data_of old)) turns) last (Answer reply)
+    → IsTurn (geometry (data_of old)) (number (data_of old)) (FollowsRoutine made is_new may_begin shape awaits counts (knows new) (left new) (whole (data_of new)) (geometry (data_of new)) (number (data_of new)) later next counting total spending) (answered last (Answer reply) turns) result
 work-turn made is_new may_begin shape awaits counts knows left data_of whole geometry number old new kept later task next counter counting tally total spent spending result reply same draws events pages given turns None h answer = absurd answer
 work-turn made is_new may_begin shape awaits counts knows left data_of whole geometry number old new kept later task next counter counting tally total spent spending result reply same draws events pages given turns (Some (turn.Do action)) h answer =
     let k = at-kept made is_new may_begin shape awaits counts (knows old) (left old) (whole (data_of old)) (geometry (data_of old)) (number (data_of old)) kept h.notes action task h.at in
     let F : Turns → Type 0 = λ l. Fits (geometry (data_of old)) (turns_view (geometry (data_of old)) (number (data_of old)) l) action reply in
-    let C : Own → Type 0 = λ l. IsCounted counting l in
-    let E : Action → Type 0 = λ a. IsCounted counting (own_list turns ++ (a, reply) ∷ []) in
+    let C : Own → Type 0 = λ l. CountsEvents counting l in
+    let E : Action → Type 0 = λ a. CountsEvents counting (own_list turns ++ (a, reply) ∷ []) in
     let U : Turns → Type 0 = λ l. IsDrawn spent (turns_view (geometry (data_of old)) (number (data_of old)) l) in
     let V : View → Type 0 = λ v. IsDrawn spending v in
     let P : Turns → Type 0 = λ l. IsKept (geometry (data_of old)) (turns_view (geometry (data_of old)) (number (data_of old)) l) kept action in

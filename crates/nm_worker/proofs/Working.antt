@@ -22,15 +22,15 @@ use Rattle.nm_worker.specs.declared.routine.Task.TheVariants.{Run}
 use Rattle.nm_worker.specs.declared.routine.Ended.{Ended}
 use Rattle.nm_worker.specs.declared.routine.Ended.TheVariants as ended
 use Rattle.nm_worker.specs.Notes.{Noted, Notes, noted_turns, uncounted, worked, IsTask}
-use Rattle.nm_worker.specs.Routines.{task_made, IsWorkOver, IsTaskOver, IsDrawn, HasTaskOver}
-use Rattle.nm_worker.specs.Workers.{IsAtWork, IsAt, IsGiven, IsAnswered, IsWorkHeard}
+use Rattle.nm_worker.specs.Routines.{task_data, IsWorkOver, IsTaskOver, IsDrawn, HasTaskOver}
+use Rattle.nm_worker.specs.Workers.{IsAtWork, AwaitsTurn, IsTurnGiven, IsAnswerNoted, IsWorkHeard}
 use Rattle.nm_worker.proofs.NoteLists.{own-uncounted, own-worked, view-more, uncounted-push, worked-push}
 use Rattle.nm_worker.proofs.Giving.{work-given}
 
 -- the task that runs is over after these notes
 pub record IsTaskEnded {P M X : Type 0} (made : P → M) (shape : M → Geometry → Own → X → Type 0) (leaves : M → Geometry → View → X → View → Type 0) (ends : P → Geometry → Own → X → Type 0) (knows : View → Task M → Type 0) (left : Ended X → Notes → Unit {0} → Type 0) (whole : Notes → Unit {0} → Type 0) (g : Geometry) (number : ℕ) (spent : Spent) (task : Task P) (notes : Notes) (end : Ended X) : Type 0 where
   pub now : View
-  pub known : knows now (task_made made task)
+  pub known : knows now (task_data made task)
   pub over : IsTaskOver made shape leaves ends g now (turns_view g number (noted_turns notes)) task end
   pub drawn : IsDrawn spent (turns_view g number (noted_turns notes))
   pub due : IsLeft whole notes (left end)
@@ -53,12 +53,12 @@ abbrev WorkAt : {P M X : Type 0} → (P → M) → (P → Type 0) → (M → Geo
 WorkAt made is_new may_begin shape awaits counts knows left whole g number kept notes action piece = IsAtWork shape (awaits piece) counts knows left whole g number kept notes action (made piece)
 
 at-work : {P M X : Type 0} (made : P → M) (is_new : P → Type 0) (may_begin : M → Geometry → View → Type 0) (shape : M → Geometry → Own → X → Type 0) (awaits : P → Geometry → View → Own → Action → Type 0) (counts : X → Tally) (knows : View → Task M → Type 0) (left : Ended X → Notes → Unit {0} → Type 0) (whole : Notes → Unit {0} → Type 0) (g : Geometry) (number : ℕ) (kept : Action) (notes : Notes) (action : Action) (task : Task P) (piece : P)
-    → task ≡ Run piece → IsAt made is_new may_begin shape awaits counts knows left whole g number kept notes (Some (turn.Do action)) task → WorkAt made is_new may_begin shape awaits counts knows left whole g number kept notes action piece
-at-work {P} made is_new may_begin shape awaits counts knows left whole g number kept notes action task piece is at = let N : Task P → Type 0 = λ t. IsAt made is_new may_begin shape awaits counts knows left whole g number kept notes (Some (turn.Do action)) t in subst N is at
+    → task ≡ Run piece → AwaitsTurn made is_new may_begin shape awaits counts knows left whole g number kept notes (Some (turn.Do action)) task → WorkAt made is_new may_begin shape awaits counts knows left whole g number kept notes action piece
+at-work {P} made is_new may_begin shape awaits counts knows left whole g number kept notes action task piece is at = let N : Task P → Type 0 = λ t. AwaitsTurn made is_new may_begin shape awaits counts knows left whole g number kept notes (Some (turn.Do action)) t in subst N is at
 
 -- it hears the reply
 pub work-heard : {P M X : Type 0} (made : P → M) (is_new : P → Type 0) (may_begin : M → Geometry → View → Type 0) (shape : M → Geometry → Own → X → Type 0) (awaits : P → Geometry → View → Own → Action → Type 0) (counts : X → Tally) (knows : View → Task M → Type 0) (left : Ended X → Notes → Unit {0} → Type 0) (whole : Notes → Unit {0} → Type 0) (g : Geometry) (number : ℕ) (kept : Action) (task : Task P) (piece : P) (spent : Spent) (reply : Reply)
-    → task ≡ Run piece → IsWorkHeard (λ notes last. IsAt made is_new may_begin shape awaits counts knows left whole g number kept notes last task) g number spent reply → IsHeard (awaits piece) reply
+    → task ≡ Run piece → IsWorkHeard (λ notes last. AwaitsTurn made is_new may_begin shape awaits counts knows left whole g number kept notes last task) g number spent reply → IsHeard (awaits piece) reply
 work-heard made is_new may_begin shape awaits counts knows left whole g number kept task piece spent reply is h =
     let at = at-work made is_new may_begin shape awaits counts knows left whole g number kept h.notes h.action task piece is h.here in
     record {
@@ -74,27 +74,27 @@ work-heard made is_new may_begin shape awaits counts knows left whole g number k
 pub work-more : {P M X : Type 0} (made : P → M) (is_new : P → Type 0) (may_begin : M → Geometry → View → Type 0) (shape : M → Geometry → Own → X → Type 0) (awaits : P → Geometry → View → Own → Action → Type 0) (leaves : M → Geometry → View → X → View → Type 0) (ends : P → Geometry → Own → X → Type 0) (counts : X → Tally) (knows : View → Task M → Type 0) (left : Ended X → Notes → Unit {0} → Type 0) (whole : Notes → Unit {0} → Type 0) (g : Geometry) (number : ℕ) (kept : Action) (task : Task P) (was piece : P) (given : Action) (reply : Reply) (result : Step X) (tally : Tally) (spent : Spent)
     → task ≡ Run was → made piece ≡ made was → result ≡ Do given
     → ((g : Geometry) (v : View) (own : Own) (action : Action) → awaits was g v own action → Fits g (view_after g v own) action reply → IsPartStep (awaits piece) (shape (made was)) (leaves (made was)) (ends piece) g v (own ++ (action, reply) ∷ []) result)
-    → (notes : Notes) (action : Action) → IsAt made is_new may_begin shape awaits counts knows left whole g number kept notes (Some (turn.Do action)) task → Fits g (turns_view g number (noted_turns notes)) action reply → IsDrawn spent (after_of g (turns_view g number (noted_turns notes)) action reply)
-    → IsAnswered (IsGiven made is_new may_begin shape awaits counts knows left whole g number given (Run piece) (turn.Do given)) tally tally notes (turn.Do action) (Answer reply)
+    → (notes : Notes) (action : Action) → AwaitsTurn made is_new may_begin shape awaits counts knows left whole g number kept notes (Some (turn.Do action)) task → Fits g (turns_view g number (noted_turns notes)) action reply → IsDrawn spent (after_of g (turns_view g number (noted_turns notes)) action reply)
+    → IsAnswerNoted (IsTurnGiven made is_new may_begin shape awaits counts knows left whole g number given (Run piece) (turn.Do given)) tally tally notes (turn.Do action) (Answer reply)
 work-more {P} {M} {X} made is_new may_begin shape awaits leaves ends counts knows left whole g number kept task was piece given reply result tally spent is same does after notes action here fits drawn =
     let at = at-work made is_new may_begin shape awaits counts knows left whole g number kept notes action task was is here in
     let view = turns_view g number (noted_turns at.front) in
     let step = after g view at.inner action at.awaited (work-fits g number notes at.front at.inner action reply at.is fits) in
     let S : Step X → Type 0 = λ s. IsPartStep (awaits piece) (shape (made was)) (leaves (made was)) (ends piece) g view (at.inner ++ (action, reply) ∷ []) s in
     let note : Noted = record { turn = turn.Do action; heard = Answer reply; counts = None } in
-    let N : Notes → Type 0 = λ l. IsGiven made is_new may_begin shape awaits counts knows left whole g number given (Run piece) (turn.Do given) l in
+    let N : Notes → Type 0 = λ l. IsTurnGiven made is_new may_begin shape awaits counts knows left whole g number given (Run piece) (turn.Do given) l in
     record {
       counts = None;
       ends = refl;
       next = subst N (sym (ap (λ (l : Notes). l ++ note ∷ []) at.is ∙ uncounted-push at.front at.inner action reply))
-      (work-given made is_new may_begin shape awaits counts knows left whole g number piece (made was) at.front (at.inner ++ (action, reply) ∷ []) given same at.run (subst S does step));
+          (work-given made is_new may_begin shape awaits counts knows left whole g number piece (made was) at.front (at.inner ++ (action, reply) ∷ []) given same at.run (subst S does step));
     }
 
 -- it is over with this reply
 pub work-over : {P M X : Type 0} (made : P → M) (is_new : P → Type 0) (may_begin : M → Geometry → View → Type 0) (shape : M → Geometry → Own → X → Type 0) (awaits : P → Geometry → View → Own → Action → Type 0) (leaves : M → Geometry → View → X → View → Type 0) (ends : P → Geometry → Own → X → Type 0) (counts : X → Tally) (knows : View → Task M → Type 0) (left : Ended X → Notes → Unit {0} → Type 0) (whole : Notes → Unit {0} → Type 0) (g : Geometry) (number : ℕ) (kept : Action) (task : Task P) (was piece : P) (reply : Reply) (result : Step X) (end : X) (spent : Spent)
     → task ≡ Run was → made piece ≡ made was → result ≡ Over end
     → ((g : Geometry) (v : View) (own : Own) (action : Action) → awaits was g v own action → Fits g (view_after g v own) action reply → IsPartStep (awaits piece) (shape (made was)) (leaves (made was)) (ends piece) g v (own ++ (action, reply) ∷ []) result)
-    → (notes : Notes) (action : Action) → IsAt made is_new may_begin shape awaits counts knows left whole g number kept notes (Some (turn.Do action)) task → Fits g (turns_view g number (noted_turns notes)) action reply → IsDrawn spent (after_of g (turns_view g number (noted_turns notes)) action reply)
+    → (notes : Notes) (action : Action) → AwaitsTurn made is_new may_begin shape awaits counts knows left whole g number kept notes (Some (turn.Do action)) task → Fits g (turns_view g number (noted_turns notes)) action reply → IsDrawn spent (after_of g (turns_view g number (noted_turns notes)) action reply)
     → IsTaskEnded made shape leaves ends knows left whole g number spent (Run piece) (notes ++ record { turn = turn.Do action; heard = Answer reply; counts = Some (counts end) } ∷ []) (ended.Run end)
 work-over {P} {M} {X} made is_new may_begin shape awaits leaves ends counts knows left whole g number kept task was piece reply result end spent is same does after notes action here fits drawn =
     let at = at-work made is_new may_begin shape awaits counts knows left whole g number kept notes action task was is here in

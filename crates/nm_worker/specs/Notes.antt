@@ -60,7 +60,7 @@ worked counts [] = []
 worked counts (e ∷ own) = record { turn = turn.Do e.0; heard = Answer e.1; counts = counts_last counts own } ∷ worked counts own
 
 -- a piece of work was done: its list is finished and shows this end, and what the end counts is counted with the last answer
-pub record IsWork {M X : Type 0} (shape : M → Geometry → Own → X → Type 0) (counts : X → Tally) (work : M) (g : Geometry) (notes : Notes) (end : X) : Type 0 where
+pub record IsWorkDone {M X : Type 0} (shape : M → Geometry → Own → X → Type 0) (counts : X → Tally) (work : M) (g : Geometry) (notes : Notes) (end : X) : Type 0 where
   pub own : Own
   pub shown : shape work g own end
   pub is : notes ≡ worked (counts end) own
@@ -85,7 +85,7 @@ pub record IsTake (lane : Lane) (notes : Notes) (page : Option ℕ) : Type 0 whe
 
 -- a task was done, and ended so
 abbrev pub IsTask : {M X : Type 0} → (M → Geometry → Own → X → Type 0) → (X → Tally) → Geometry → Task M → Notes → Ended X → Type 0
-IsTask shape counts g (Run work) notes (ended.Run end) = IsWork shape counts work g notes end
+IsTask shape counts g (Run work) notes (ended.Run end) = IsWorkDone shape counts work g notes end
 IsTask shape counts g (Put lane page) notes (ended.Put full) = IsPut lane page notes full
 IsTask shape counts g (Take lane) notes (ended.Take page) = IsTake lane notes page
 IsTask shape counts g task notes end = ⊥

@@ -16,11 +16,11 @@ use Rattle.nm_worker.specs.Notes.{Notes, IsTask}
 -- In all of these `now` is the view in which a task begins, and `was` the pattern that was left before it.
 
 -- a task with its piece of work seen by what that was made with
-abbrev pub task_made : {P M : Type 0} → (P → M) → Task P → Task M
-task_made made (Run piece) = Run (made piece)
-task_made made (Put lane page) = Put lane page
-task_made made (Take lane) = Take lane
-task_made made Stop = Stop
+abbrev pub task_data : {P M : Type 0} → (P → M) → Task P → Task M
+task_data made (Run piece) = Run (made piece)
+task_data made (Put lane page) = Put lane page
+task_data made (Take lane) = Take lane
+task_data made Stop = Stop
 
 -- a task runs: what is known holds, the sequence can be finished after each of its ends, and a list of the task with what is
 -- left after it is a list of what was left before
@@ -65,7 +65,7 @@ pub record IsDrawn (spent : Spent) (view : View) : Type 0 where
 pub record HasTaskOver {P M X : Type 0} (made : P → M) (shape : M → Geometry → Own → X → Type 0) (leaves : M → Geometry → View → X → View → Type 0) (ends : P → Geometry → Own → X → Type 0) (knows : View → Task M → Type 0) (g : Geometry) (task : Task P) (end : Ended X) (spent : Spent) : Type 0 where
   pub now : View
   pub later : View
-  pub known : knows now (task_made made task)
+  pub known : knows now (task_data made task)
   pub over : IsTaskOver made shape leaves ends g now later task end
   pub drawn : IsDrawn spent later
 

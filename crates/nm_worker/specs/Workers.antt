@@ -17,7 +17,7 @@ use Rattle.nm_event.specs.After.{after_of}
 use Rattle.nm_part.specs.Patterns.{Follows, IsLeft, CanEnd}
 use Rattle.nm_tally.specs.declared.counter.Counter.{Counter}
 use Rattle.nm_tally.specs.Counts.{zero_tally}
-use Rattle.nm_tally.specs.Counting.{IsCounted}
+use Rattle.nm_tally.specs.Counting.{CountsEvents}
 use Rattle.nm_actor.specs.Turns.{Turns, own_list, turns_view}
 use Rattle.nm_actor.specs.Actors.{IsPermittedTurn}
 use Rattle.nm_worker.specs.declared.routine.Task.{Task}
@@ -37,10 +37,10 @@ pub record ComesNext (whole : Notes → Unit {0} → Type 0) (notes : Notes) (gi
 
 -- the notes and the turn that waits for its answer are the beginning of a whole sequence; where End was given, they are one;
 -- where Start is to be heard there are none
-abbrev pub GoesOn : (Notes → Unit {0} → Type 0) → Notes → Option Turn → Type 0
-GoesOn whole notes None = notes ≡ []
-GoesOn whole notes (Some turn.End) = whole notes tt
-GoesOn whole notes (Some given) = ComesNext whole notes given
+abbrev pub IsContinued : (Notes → Unit {0} → Type 0) → Notes → Option Turn → Type 0
+IsContinued whole notes None = notes ≡ []
+IsContinued whole notes (Some turn.End) = whole notes tt
+IsContinued whole notes (Some given) = ComesNext whole notes given
 
 -- How far it has come.
 
@@ -66,18 +66,18 @@ pub record IsAtLane {X : Type 0} (knows : Type 0) (done : Notes → Ended X → 
   pub run : IsAtTask knows done left whole notes
 
 -- by the turn that waits for its answer, and the task: where there is none the first task comes next
-abbrev pub IsAt : {P M X : Type 0} → (P → M) → (P → Type 0) → (M → Geometry → View → Type 0) → (M → Geometry → Own → X → Type 0) → (P → Geometry → View → Own → Action → Type 0) → (X → Tally) → (View → Task M → Type 0) → (Ended X → Notes → Unit {0} → Type 0) → (Notes → Unit {0} → Type 0) → Geometry → ℕ → Action → Notes → Option Turn → Task P → Type 0
-IsAt made is_new may_begin shape awaits counts knows left whole g number kept notes None task = IsNextTask made is_new may_begin shape counts knows left whole g (opening g number) task
-IsAt made is_new may_begin shape awaits counts knows left whole g number kept notes (Some (turn.Do action)) (Run piece) = IsAtWork shape (awaits piece) counts knows left whole g number kept notes action (made piece)
-IsAt made is_new may_begin shape awaits counts knows left whole g number kept notes (Some (turn.Put into b)) (Put lane page) = IsAtLane (knows (turns_view g number (noted_turns notes)) (Put lane page)) (IsTask shape counts g (Put lane page)) left whole notes (turn.Put into b) (turn.Put lane page)
-IsAt made is_new may_begin shape awaits counts knows left whole g number kept notes (Some (turn.Take from)) (Take lane) = IsAtLane (knows (turns_view g number (noted_turns notes)) (Take lane)) (IsTask shape counts g (Take lane)) left whole notes (turn.Take from) (turn.Take lane)
-IsAt made is_new may_begin shape awaits counts knows left whole g number kept notes (Some turn.End) Stop = Unit {0}
-IsAt made is_new may_begin shape awaits counts knows left whole g number kept notes (Some given) task = ⊥
+abbrev pub AwaitsTurn : {P M X : Type 0} → (P → M) → (P → Type 0) → (M → Geometry → View → Type 0) → (M → Geometry → Own → X → Type 0) → (P → Geometry → View → Own → Action → Type 0) → (X → Tally) → (View → Task M → Type 0) → (Ended X → Notes → Unit {0} → Type 0) → (Notes → Unit {0} → Type 0) → Geometry → ℕ → Action → Notes → Option Turn → Task P → Type 0
+AwaitsTurn made is_new may_begin shape awaits counts knows left whole g number kept notes None task = IsNextTask made is_new may_begin shape counts knows left whole g (opening g number) task
+AwaitsTurn made is_new may_begin shape awaits counts knows left whole g number kept notes (Some (turn.Do action)) (Run piece) = IsAtWork shape (awaits piece) counts knows left whole g number kept notes action (made piece)
+AwaitsTurn made is_new may_begin shape awaits counts knows left whole g number kept notes (Some (turn.Put into b)) (Put lane page) = IsAtLane (knows (turns_view g number (noted_turns notes)) (Put lane page)) (IsTask shape counts g (Put lane page)) left whole notes (turn.Put into b) (turn.Put lane page)
+AwaitsTurn made is_new may_begin shape awaits counts knows left whole g number kept notes (Some (turn.Take from)) (Take lane) = IsAtLane (knows (turns_view g number (noted_turns notes)) (Take lane)) (IsTask shape counts g (Take lane)) left whole notes (turn.Take from) (turn.Take lane)
+AwaitsTurn made is_new may_begin shape awaits counts knows left whole g number kept notes (Some turn.End) Stop = Unit {0}
+AwaitsTurn made is_new may_begin shape awaits counts knows left whole g number kept notes (Some given) task = ⊥
 
 -- a turn is given after these notes: it goes on with them, its answer is awaited, and its action is permitted
-pub record IsGiven {P M X : Type 0} (made : P → M) (is_new : P → Type 0) (may_begin : M → Geometry → View → Type 0) (shape : M → Geometry → Own → X → Type 0) (awaits : P → Geometry → View → Own → Action → Type 0) (counts : X → Tally) (knows : View → Task M → Type 0) (left : Ended X → Notes → Unit {0} → Type 0) (whole : Notes → Unit {0} → Type 0) (g : Geometry) (number : ℕ) (kept : Action) (task : Task P) (given : Turn) (notes : Notes) : Type 0 where
-  pub next : GoesOn whole notes (Some given)
-  pub at : IsAt made is_new may_begin shape awaits counts knows left whole g number kept notes (Some given) task
+pub record IsTurnGiven {P M X : Type 0} (made : P → M) (is_new : P → Type 0) (may_begin : M → Geometry → View → Type 0) (shape : M → Geometry → Own → X → Type 0) (awaits : P → Geometry → View → Own → Action → Type 0) (counts : X → Tally) (knows : View → Task M → Type 0) (left : Ended X → Notes → Unit {0} → Type 0) (whole : Notes → Unit {0} → Type 0) (g : Geometry) (number : ℕ) (kept : Action) (task : Task P) (given : Turn) (notes : Notes) : Type 0 where
+  pub next : IsContinued whole notes (Some given)
+  pub at : AwaitsTurn made is_new may_begin shape awaits counts knows left whole g number kept notes (Some given) task
   pub permitted : IsPermittedTurn g (turns_view g number (noted_turns notes)) given
 
 -- no more was drawn than a view may
@@ -87,19 +87,19 @@ pub record IsFewDrawn (spent : Spent) : Type 0 where
 
 -- the actor has these answered turns, and this one waits for its answer: they go on as a sequence of the routine, and what is
 -- counted is counted of them
-pub record IsAgreeing {P M X : Type 0} (made : P → M) (is_new : P → Type 0) (may_begin : M → Geometry → View → Type 0) (shape : M → Geometry → Own → X → Type 0) (awaits : P → Geometry → View → Own → Action → Type 0) (counts : X → Tally) (knows : View → Task M → Type 0) (left : Ended X → Notes → Unit {0} → Type 0) (whole : Notes → Unit {0} → Type 0) (g : Geometry) (number : ℕ) (kept : Action) (task : Task P) (counter : Counter) (tally : Tally) (spent : Spent) (turns : Turns) (last : Option Turn) : Type 0 where
+pub record FollowsRoutine {P M X : Type 0} (made : P → M) (is_new : P → Type 0) (may_begin : M → Geometry → View → Type 0) (shape : M → Geometry → Own → X → Type 0) (awaits : P → Geometry → View → Own → Action → Type 0) (counts : X → Tally) (knows : View → Task M → Type 0) (left : Ended X → Notes → Unit {0} → Type 0) (whole : Notes → Unit {0} → Type 0) (g : Geometry) (number : ℕ) (kept : Action) (task : Task P) (counter : Counter) (tally : Tally) (spent : Spent) (turns : Turns) (last : Option Turn) : Type 0 where
   pub notes : Notes
   pub is : turns ≡ noted_turns notes
-  pub next : GoesOn whole notes last
-  pub events : IsCounted counter (own_list turns)
+  pub next : IsContinued whole notes last
+  pub events : CountsEvents counter (own_list turns)
   pub ends : tally ≡ notes_tally notes
   pub pages : length counter.locked.items ≡ page_count g
   pub drawn : IsDrawn spent (turns_view g number turns)
   pub few : IsFewDrawn spent
-  pub at : IsAt made is_new may_begin shape awaits counts knows left whole g number kept notes last task
+  pub at : AwaitsTurn made is_new may_begin shape awaits counts knows left whole g number kept notes last task
 
 -- a turn was answered, with what its answer counts, and another is given after it
-pub record IsAnswered (given : Notes → Type 0) (old new : Tally) (notes : Notes) (answered : Turn) (heard : Heard) : Type 0 where
+pub record IsAnswerNoted (given : Notes → Type 0) (old new : Tally) (notes : Notes) (answered : Turn) (heard : Heard) : Type 0 where
   pub counts : Option Tally
   pub ends : new ≡ tally_with old counts
   pub next : given (notes ++ record { turn = answered; heard = heard; counts = counts } ∷ [])
@@ -115,7 +115,7 @@ pub record IsWorkHeard (at : Notes → Option Turn → Type 0) (g : Geometry) (n
 -- a worker is new: its first task comes next, and nothing is counted
 pub record IsNewWorker (first : Type 0) (g : Geometry) (number : ℕ) (counter : Counter) (tally : Tally) (spent : Spent) : Type 0 where
   pub next : first
-  pub events : IsCounted counter []
+  pub events : CountsEvents counter []
   pub ends : tally ≡ zero_tally
   pub pages : length counter.locked.items ≡ page_count g
   pub drawn : IsDrawn spent (opening g number)

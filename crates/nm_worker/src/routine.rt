@@ -41,7 +41,7 @@ pub trait Routine<P: Piece> {
     ghost use Rattle.nm_worker.specs.declared.routine.Task.{Task};
     ghost use Rattle.nm_worker.specs.declared.routine.Ended.{Ended};
     ghost use Rattle.nm_worker.specs.Notes.{Notes};
-    ghost use Rattle.nm_worker.specs.Routines.{task_made, IsNextTask, IsTaskOver, IsDrawn, HasTaskOver};
+    ghost use Rattle.nm_worker.specs.Routines.{task_data, IsNextTask, IsTaskOver, IsDrawn, HasTaskOver};
 
     /// The plain data that it was made with.
     type Made;
@@ -81,7 +81,7 @@ pub trait Routine<P: Piece> {
     fn go_on(&mut self, task: &Task<P>, end: Ended<P::Outcome>, spent: Spent) -> Task<P>
         requires { HasTaskOver P.made P.shape P.leaves P.ended (knows self.old) (geometry (made self.old)) task.now end spent }
         ensures made { made self.new ≡ made self.old }
-        ensures next { (now later : View) → knows self.old now (task_made P.made task.now) → IsTaskOver P.made P.shape P.leaves P.ended (geometry (made self.old)) now later task.now end → IsDrawn spent later
+        ensures next { (now later : View) → knows self.old now (task_data P.made task.now) → IsTaskOver P.made P.shape P.leaves P.ended (geometry (made self.old)) now later task.now end → IsDrawn spent later
             → IsNextTask P.made P.is_new P.may_begin P.shape counts (knows self.new) (left self.new) (left self.old end) (geometry (made self.old)) later result };
 
     /// What the end of a piece of work counts: faults, moves and demotions by how they ended. What the events of the piece

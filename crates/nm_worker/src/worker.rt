@@ -12,11 +12,11 @@ ghost use Rattle.nm_view.specs.Opening.{opening};
 ghost use Rattle.nm_event.specs.Fitting.{Fits};
 ghost use Rattle.nm_event.specs.After.{after_of};
 ghost use Rattle.nm_part.specs.Patterns.{IsLeft};
-ghost use Rattle.nm_tally.specs.Counting.{IsCounted};
+ghost use Rattle.nm_tally.specs.Counting.{CountsEvents};
 ghost use Rattle.nm_actor.specs.Turns.{Turns, turns_view};
 ghost use Rattle.nm_worker.specs.Notes.{Notes, noted_turns};
-ghost use Rattle.nm_worker.specs.Routines.{task_made, IsNextTask, IsTaskOver, IsDrawn, HasTaskOver, CanBeginTask};
-ghost use Rattle.nm_worker.specs.Workers.{IsAt, IsGiven, IsAnswered, IsWorkHeard, IsNewWorker};
+ghost use Rattle.nm_worker.specs.Routines.{task_data, IsNextTask, IsTaskOver, IsDrawn, HasTaskOver, CanBeginTask};
+ghost use Rattle.nm_worker.specs.Workers.{AwaitsTurn, IsTurnGiven, IsAnswerNoted, IsWorkHeard, IsNewWorker};
 
 use crate::routine::{Ended, Routine, Task};
 use nm_actor::Actor;
@@ -82,7 +82,7 @@ where
         ensures spent { self.new.spent ≡ self.old.spent }
         ensures given { (notes : Notes)
             → IsNextTask P.made P.is_new P.may_begin P.shape R.counts (R.knows self.old.routine) (R.left self.old.routine) (λ rest outcome. R.shape (R.made self.old.routine) (notes ++ rest) outcome) (R.geometry (R.made self.old.routine)) (turns_view (R.geometry (R.made self.old.routine)) (R.number (R.made self.old.routine)) (noted_turns notes)) self.old.task
-            → IsGiven P.made P.is_new P.may_begin P.shape P.awaits R.counts (R.knows self.old.routine) (R.left self.old.routine) (R.shape (R.made self.old.routine)) (R.geometry (R.made self.old.routine)) (R.number (R.made self.old.routine)) self.new.action self.new.task result notes }
+            → IsTurnGiven P.made P.is_new P.may_begin P.shape P.awaits R.counts (R.knows self.old.routine) (R.left self.old.routine) (R.shape (R.made self.old.routine)) (R.geometry (R.made self.old.routine)) (R.number (R.made self.old.routine)) self.new.action self.new.task result notes }
     {
         match &mut self.task {
             Task::Run(piece) => {
@@ -103,11 +103,11 @@ where
         ensures events { self.new.events ≡ self.old.events }
         ensures ends { self.new.ends ≡ self.old.ends }
         ensures spent { self.new.spent ≡ self.old.spent }
-        ensures given { (notes : Notes) (now : View) → R.knows self.old.routine now (task_made P.made self.old.task)
+        ensures given { (notes : Notes) (now : View) → R.knows self.old.routine now (task_data P.made self.old.task)
             → IsTaskOver P.made P.shape P.leaves P.ended (R.geometry (R.made self.old.routine)) now (turns_view (R.geometry (R.made self.old.routine)) (R.number (R.made self.old.routine)) (noted_turns notes)) self.old.task end
             → IsDrawn self.old.spent (turns_view (R.geometry (R.made self.old.routine)) (R.number (R.made self.old.routine)) (noted_turns notes))
             → IsLeft (R.shape (R.made self.old.routine)) notes (R.left self.old.routine end)
-            → IsGiven P.made P.is_new P.may_begin P.shape P.awaits R.counts (R.knows self.new.routine) (R.left self.new.routine) (R.shape (R.made self.old.routine)) (R.geometry (R.made self.old.routine)) (R.number (R.made self.old.routine)) self.new.action self.new.task result notes }
+            → IsTurnGiven P.made P.is_new P.may_begin P.shape P.awaits R.counts (R.knows self.new.routine) (R.left self.new.routine) (R.shape (R.made self.old.routine)) (R.geometry (R.made self.old.routine)) (R.number (R.made self.old.routine)) self.new.action self.new.task result notes }
     {
         self.task = self.routine.go_on(&self.task, end, self.spent);
         self.give()
@@ -115,15 +115,15 @@ where
 
     /// The turn after a reply to the piece of work that runs.
     fn hear(&mut self, reply: Reply) -> Turn
-        requires { IsWorkHeard (λ notes last. IsAt P.made P.is_new P.may_begin P.shape P.awaits R.counts (R.knows self.old.routine) (R.left self.old.routine) (R.shape (R.made self.old.routine)) (R.geometry (R.made self.old.routine)) (R.number (R.made self.old.routine)) self.old.action notes last self.old.task) (R.geometry (R.made self.old.routine)) (R.number (R.made self.old.routine)) self.old.spent reply }
+        requires { IsWorkHeard (λ notes last. AwaitsTurn P.made P.is_new P.may_begin P.shape P.awaits R.counts (R.knows self.old.routine) (R.left self.old.routine) (R.shape (R.made self.old.routine)) (R.geometry (R.made self.old.routine)) (R.number (R.made self.old.routine)) self.old.action notes last self.old.task) (R.geometry (R.made self.old.routine)) (R.number (R.made self.old.routine)) self.old.spent reply }
         ensures made { R.made self.new.routine ≡ R.made self.old.routine }
         ensures events { self.new.events ≡ self.old.events }
         ensures spent { self.new.spent ≡ self.old.spent }
         ensures given { (notes : Notes) (action : Action)
-            → IsAt P.made P.is_new P.may_begin P.shape P.awaits R.counts (R.knows self.old.routine) (R.left self.old.routine) (R.shape (R.made self.old.routine)) (R.geometry (R.made self.old.routine)) (R.number (R.made self.old.routine)) self.old.action notes (Some (turn.Do action)) self.old.task
+            → AwaitsTurn P.made P.is_new P.may_begin P.shape P.awaits R.counts (R.knows self.old.routine) (R.left self.old.routine) (R.shape (R.made self.old.routine)) (R.geometry (R.made self.old.routine)) (R.number (R.made self.old.routine)) self.old.action notes (Some (turn.Do action)) self.old.task
             → Fits (R.geometry (R.made self.old.routine)) (turns_view (R.geometry (R.made self.old.routine)) (R.number (R.made self.old.routine)) (noted_turns notes)) action reply
             → IsDrawn self.old.spent (after_of (R.geometry (R.made self.old.routine)) (turns_view (R.geometry (R.made self.old.routine)) (R.number (R.made self.old.routine)) (noted_turns notes)) action reply)
-            → IsAnswered (IsGiven P.made P.is_new P.may_begin P.shape P.awaits R.counts (R.knows self.new.routine) (R.left self.new.routine) (R.shape (R.made self.old.routine)) (R.geometry (R.made self.old.routine)) (R.number (R.made self.old.routine)) self.new.action self.new.task result) self.old.ends self.new.ends notes (turn.Do action) (Answer reply) }
+            → IsAnswerNoted (IsTurnGiven P.made P.is_new P.may_begin P.shape P.awaits R.counts (R.knows self.new.routine) (R.left self.new.routine) (R.shape (R.made self.old.routine)) (R.geometry (R.made self.old.routine)) (R.number (R.made self.old.routine)) self.new.action self.new.task result) self.old.ends self.new.ends notes (turn.Do action) (Answer reply) }
     {
         let Task::Run(piece) = &mut self.task else {
             unreachable!()
@@ -151,7 +151,7 @@ where
     ghost use Rattle.nm_view.specs.Opening.{opening};
     ghost use Rattle.nm_action.specs.Tally.{sum_of};
     ghost use Rattle.nm_worker.specs.Routines.{IsNextTask};
-    ghost use Rattle.nm_worker.specs.Workers.{IsNewWorker, IsAgreeing};
+    ghost use Rattle.nm_worker.specs.Workers.{IsNewWorker, FollowsRoutine};
 
     ghost made = { λ w. R.made w.routine };
 
@@ -163,7 +163,7 @@ where
         (IsNextTask P.made P.is_new P.may_begin P.shape R.counts (R.knows w.routine) (R.left w.routine) (R.shape (R.made w.routine)) (R.geometry (R.made w.routine)) (opening (R.geometry (R.made w.routine)) (R.number (R.made w.routine))) w.task)
         (R.geometry (R.made w.routine)) (R.number (R.made w.routine)) w.events w.ends w.spent };
 
-    ghost agrees = { λ w. IsAgreeing P.made P.is_new P.may_begin P.shape P.awaits R.counts (R.knows w.routine) (R.left w.routine) (R.shape (R.made w.routine)) (R.geometry (R.made w.routine)) (R.number (R.made w.routine)) w.action w.task w.events w.ends w.spent };
+    ghost agrees = { λ w. FollowsRoutine P.made P.is_new P.may_begin P.shape P.awaits R.counts (R.knows w.routine) (R.left w.routine) (R.shape (R.made w.routine)) (R.geometry (R.made w.routine)) (R.number (R.made w.routine)) w.action w.task w.events w.ends w.spent };
 
     ghost counted = { λ w. sum_of w.events.tally w.ends };
 

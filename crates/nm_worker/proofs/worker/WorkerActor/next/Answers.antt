@@ -1,7 +1,7 @@
 use Rattle.std.proofs.Common.{[], ◌∷◌, ◌++◌, Some, None, true, false, ap, sym, subst, ◌∙◌, length, arith}
 use Rattle.nm_action.specs.declared.spent.Spent.{Spent}
 use Rattle.nm_tally.specs.declared.counter.Counter.{Counter}
-use Rattle.nm_tally.specs.Counting.{IsCounted}
+use Rattle.nm_tally.specs.Counting.{CountsEvents}
 use Rattle.nm_worker.proofs.Turning.{first-turn, action-counts, work-requires, work-turn}
 use Rattle.nm_worker.proofs.Lanes.{put-requires, put-turn, take-requires, take-turn}
 use Rattle.nm_worker.proofs.worker.WorkerActor.next.Goals as goal
@@ -26,7 +26,7 @@ pub returns-in-Answer-clause-turn : goal.returns-in-Answer-clause-turn
 returns-in-Answer-clause-turn g c = rw c.in-Answer.is (
     work-turn g.P.Part.made g.P.Part.is_new g.P.Part.may_begin g.P.Part.shape g.P.Part.awaits g.R.Routine.counts g.R.Routine.knows g.R.Routine.left g.R.Routine.made g.R.Routine.shape g.R.Routine.geometry g.R.Routine.number c.args.self.now.routine c.hear.new.self.routine c.args.self.now.action c.hear.new.self.action c.args.self.now.task c.hear.new.self.task c.args.self.now.events c.hear.new.self.events c.args.self.now.ends c.hear.new.self.ends c.args.self.now.spent c.hear.new.self.spent c.hear.result c.in-Answer.reply
     c.hear.ensures.made (c.hear.ensures.spent ∙ c.count.ensures)
-    (λ own h. let D : Counter → Type 0 = λ k. IsCounted k (own ++ (c.args.self.now.action, c.in-Answer.reply) ∷ []) in subst D (sym c.hear.ensures.events) (c.note.ensures.counted own h))
+    (λ own h. let D : Counter → Type 0 = λ k. CountsEvents k (own ++ (c.args.self.now.action, c.in-Answer.reply) ∷ []) in subst D (sym c.hear.ensures.events) (c.note.ensures.counted own h))
     (ap (λ (k : Counter). length k.locked.items) c.hear.ensures.events ∙ c.note.ensures.pages)
     (λ notes action here fits drawn. c.hear.ensures.given notes action here fits (record {
       bumps = sym (ap (λ (s : Spent). s.bumps) c.hear.ensures.spent) ∙ drawn.bumps;
