@@ -17,9 +17,8 @@ use Rattle.nm_batch.specs.declared.batch.BatchStage.{BatchStage}
 use Rattle.nm_batch.specs.declared.batch.BatchStage.TheVariants.{Preparing, Flushing, Copying, Unmapping, FlushingAgain, Deciding}
 use Rattle.nm_batch.specs.declared.batch.Batch.{Batch}
 use Rattle.nm_batch.specs.Leaving.{most_pieces}
-use Rattle.nm_batch.specs.Places.{batch_made, batch_piece, batch_left_by, noted, CanNotePiece, decided_in, copy_stage, unmap_stage, decide_stage}
+use Rattle.nm_batch.specs.Places.{batch_made, batch_piece, batch_left_by, piece_noted, CanNotePiece, decided_in, copy_stage, unmap_stage, decide_stage}
 use Rattle.nm_batch.specs.Opened.{idle, BatchKnownBy}
-use Rattle.nm_batch.proofs.Lists.{drop-within}
 use Rattle.nm_batch.proofs.Steps.{AtBatch, BatchGoes, at-batch}
 use Rattle.nm_batch.proofs.Preparing.{can-note}
 use Rattle.nm_batch.proofs.Copying.{after-flushing-first, after-copying-piece, copy_made}
@@ -81,16 +80,3 @@ pub room-decided-here : (s : Batch) (d : DecideMade) (g : Geometry) (first now :
 room-decided-here s d g first now runs at placed =
     let K : BatchStage → Type 0 = λ t. BatchKnownBy (batch_made s.asked) t (idle s.place) g first now in
     room-decided (batch_made s.asked) s.place d g first now (subst K at placed.holds)
-
-room-index : (made : BatchMade) (place : BatchPlace) (index : ℕ) (p : ReadyPiece) (g : Geometry) (first now : View) → BatchKnownBy made (Copying index p) (idle place) g first now → index + 1 < 2 ^ 64
-room-index made place index p g first now h =
-    let within : index < length place.ready = drop-within index place.ready (drop (index + 1) place.ready) p h.next in
-    let few : length place.ready ≤ length place.prepared = h.has.underway.few in
-    let all : length place.prepared ≡ length made.pieces = h.has.underway.all in
-    let most : length made.pieces ≤ 8 = h.has.has.may.few in
-    omega arith
-
-pub room-index-here : (s : Batch) (index : ℕ) (p : ReadyPiece) (g : Geometry) (first now : View) (runs : TxnParts) → s.place.stage ≡ Copying index p → AtBatch s g first now runs → index + 1 < 2 ^ 64
-room-index-here s index p g first now runs at placed =
-    let K : BatchStage → Type 0 = λ t. BatchKnownBy (batch_made s.asked) t (idle s.place) g first now in
-    room-index (batch_made s.asked) s.place index p g first now (subst K at placed.holds)

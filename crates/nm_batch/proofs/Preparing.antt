@@ -43,7 +43,7 @@ use Rattle.nm_batch.specs.declared.batch.BatchPlace.{BatchPlace}
 use Rattle.nm_batch.specs.declared.batch.BatchStage.{BatchStage}
 use Rattle.nm_batch.specs.declared.batch.BatchStage.TheVariants.{Preparing, Flushing}
 use Rattle.nm_batch.specs.Leaving.{most_pieces, asked_page, MayBatch, spoiled_each, flush_bumps, IsBatchLeft}
-use Rattle.nm_batch.specs.Places.{new_batch_place, batch_piece_at, noted, CanNoteEnd, CanNotePiece, prepare_stage_by, prepare_stage, PreparesFrom}
+use Rattle.nm_batch.specs.Places.{new_batch_place, batch_piece_at, piece_noted, CanNoteEnd, CanNotePiece, prepare_stage_by, prepare_stage, PreparesFrom}
 use Rattle.nm_batch.specs.Opened.{OpenPiece, open_ready, open_page, open_frame, open_op, open_owned, owned_with, with_open, IsOpenPiece, AreApart, HasOpen, IsReadyOpen, IsUnworn, HasPrepared, IsUnderway, IsBatchReady, IsBatchPreparing, idle, BatchKnown}
 use Rattle.nm_batch.proofs.Lists.{absent-made, absent-all, absent-head, absent-tail, all-with, all-origin, drop-next, drop-within, drop-over, once-drop, all-drop, found-drop, empty-list}
 use Rattle.nm_batch.proofs.Pieces.{drawn-more, ready-more, ready-count, ends-count}
@@ -305,7 +305,7 @@ new-later : (page v home frame : ℕ) (op : Op) (D : List (ℕ × ℕ)) → find
 new-later page v home frame op D e = e
 
 prepared-ready : (made : BatchMade) (place : BatchPlace) (page v home frame : ℕ) (g : Geometry) (first now later : View) → (h : IsBatchPreparing made (idle place) page v g first now) → (r : HasReady (record { page = page; vpage = v; spent = place.drawn }) g now home frame later)
-    → HasPrepared made (idle (noted page v (Ready home frame) place)) g first later
+    → HasPrepared made (idle (piece_noted page v (Ready home frame) place)) g first later
 prepared-ready made place page v home frame g first now later h r =
     let held = h.has.held in
     let z = new_piece page v home frame r.op in
@@ -368,7 +368,7 @@ can-note-end made place (Ready home frame) page v g first now later h left =
 
 -- the next piece is prepared, by how this one was
 pub after-preparing : (made : BatchMade) (place : BatchPlace) (end : Prepared) (page v : ℕ) (g : Geometry) (first now later : View) → IsBatchPreparing made (idle place) page v g first now → IsPrepared (record { page = page; vpage = v; spent = place.drawn }) g now end later
-    → BatchGoes made (noted page v end place) (prepare_stage made (noted page v end place)) (PreparesFrom g made (drop (length place.prepared + 1) made.pieces) (place.prepared ++ end ∷ [])) g first later
+    → BatchGoes made (piece_noted page v end place) (prepare_stage made (piece_noted page v end place)) (PreparesFrom g made (drop (length place.prepared + 1) made.pieces) (place.prepared ++ end ∷ [])) g first later
 after-preparing made place Busy page v g first now later h left =
     let V : View → Type 0 = λ w. HasOpen made g first w h.has.held 0 (length h.has.held) in
     goes-noted made place (record place { prepared = place.prepared ++ Busy ∷ [] }) Busy g first later refl
@@ -377,7 +377,7 @@ after-preparing made place (Closed early) page v g first now later h left =
     goes-noted made place (record place { prepared = place.prepared ++ Closed early ∷ [] }) (Closed early) g first later refl
     (prepared-early made place (Closed early) page v g first now later h (λ d. refl) refl (closed-open made place page v g first now later h left) (ap spent_by left.is))
 after-preparing made place (Ready home frame) page v g first now later h left =
-    goes-noted made place (noted page v (Ready home frame) place) (Ready home frame) g first later refl (prepared-ready made place page v home frame g first now later h left)
+    goes-noted made place (piece_noted page v (Ready home frame) place) (Ready home frame) g first later refl (prepared-ready made place page v home frame g first now later h left)
 
 -- there is room for the note
 pub can-note : (made : BatchMade) (place : BatchPlace) (end : Prepared) (page v : ℕ) (g : Geometry) (first now later : View) → IsBatchPreparing made (idle place) page v g first now → IsPrepared (record { page = page; vpage = v; spent = place.drawn }) g now end later → CanNotePiece place end

@@ -50,8 +50,8 @@ one-done done rest x = append_assoc done (x ∷ []) rest
 abbrev MayUnmapOf : Geometry → View → ReadyPiece → Type 0
 MayUnmapOf g now p = MayUnmapping (record { page = p.page; vpage = p.vpage }) g now
 
-raises-left : (first : View) (most some ready words : ℕ) → IsUnworn first → ready ≤ most → most ≤ 8 → words ≤ ready → first.raises + (ready + words) < own_raises
-raises-left first most some ready words u few eight less = let low : first.raises < worn_raises = u.raises in omega arith
+raises-left : (first : View) (most ready words : ℕ) → IsUnworn first → ready ≤ most → most ≤ 8 → words ≤ ready → first.raises + (ready + words) < own_raises
+raises-left first most ready words u few eight less = let low : first.raises < worn_raises = u.raises in omega arith
 
 may-unmap-next : (made : BatchMade) (g : Geometry) (first now : View) (done : List OpenPiece) (x : OpenPiece) (rest : List OpenPiece) (bumps raises : ℕ) → HasOpen made g first now (done ++ x ∷ rest) bumps raises → IsCopiedOpen g x → first.raises + raises < own_raises → MayUnmapOf g now x.piece
 may-unmap-next made g first now done x rest bumps raises h k few =
@@ -86,7 +86,7 @@ raises-unmap made place g first now h =
     let most : length made.pieces ≤ 8 = h.has.may.few in
     let less : length place.words ≤ length place.ready = words-within made place g first now h in
     let fits : length place.ready ≤ length made.pieces = omega arith in
-    raises-left first (length made.pieces) 0 (length place.ready) (length place.words) h.underway.unworn fits most less
+    raises-left first (length made.pieces) (length place.ready) (length place.words) h.underway.unworn fits most less
 
 -- The second flush.
 

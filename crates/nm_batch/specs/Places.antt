@@ -51,10 +51,10 @@ abbrev pub batch_piece_at : Geometry → BatchMade → BatchPlace → TxnParts
 batch_piece_at g made place = batch_piece g place.drawn place.stage
 
 -- how the next piece was prepared is noted
-abbrev pub noted : ℕ → ℕ → Prepared → BatchPlace → BatchPlace
-noted page v prepared.Busy place = record place { prepared = place.prepared ++ prepared.Busy ∷ [] }
-noted page v (prepared.Closed early) place = record place { prepared = place.prepared ++ prepared.Closed early ∷ [] }
-noted page v (prepared.Ready home frame) place = record place {
+abbrev pub piece_noted : ℕ → ℕ → Prepared → BatchPlace → BatchPlace
+piece_noted page v prepared.Busy place = record place { prepared = place.prepared ++ prepared.Busy ∷ [] }
+piece_noted page v (prepared.Closed early) place = record place { prepared = place.prepared ++ prepared.Closed early ∷ [] }
+piece_noted page v (prepared.Ready home frame) place = record place {
   prepared = place.prepared ++ prepared.Ready home frame ∷ [];
   ready = place.ready ++ record { page = page; vpage = v; home = home; frame = frame } ∷ [];
   drawn = record place.drawn { raises = place.drawn.raises + 1 };

@@ -11,7 +11,7 @@ use Rattle.nm_batch.specs.Leaving.{IsBatchLeft}
 
 -- what it was begun with, in which geometry
 abbrev pub batch_of : BatchTask → Geometry × BatchAsked
-batch_of t = record { 0 = t.run.value.plan.geometry.now; 1 = t.run.value.plan.asked }
+batch_of t = record { 0 = t.run.plan.geometry.now; 1 = t.run.plan.asked }
 
 -- the list is that of a batch with so many ends
 pub record HasBatchEnds (made : BatchMade) (g : Geometry) (own : Own) (count : ℕ) : Type 0 where

@@ -4,7 +4,7 @@ ghost use Rattle.std.specs.Prelude.{◌≡◌, ◌<◌, ◌++◌, ◌∷◌, [],
 ghost use Rattle.nm_batch.specs.Leaving.{most_pieces};
 ghost use Rattle.nm_txn.specs.Batches.{ends_of};
 ghost use Rattle.nm_txn.specs.Pieces.{txn_parts, IsNewTxnPiece};
-ghost use Rattle.nm_batch.specs.Places.{batch_made, new_batch_place, batch_piece, noted, CanNotePiece, decided_in, prepare_stage, copy_stage, unmap_stage, decide_stage, IsBatchStep};
+ghost use Rattle.nm_batch.specs.Places.{batch_made, new_batch_place, batch_piece, piece_noted, CanNotePiece, decided_in, prepare_stage, copy_stage, unmap_stage, decide_stage, IsBatchStep};
 
 use crate::list::PieceList;
 use nm_base::Geometry;
@@ -122,7 +122,7 @@ impl<'a> Batch<'a> {
     /// Notes how the next piece was prepared.
     fn note(&mut self, page: u32, vpage: u32, prepared: Prepared)
         requires { CanNotePiece self.old.place prepared }
-        ensures { self.new ≡ record self.old { place = noted page vpage prepared self.old.place } }
+        ensures { self.new ≡ record self.old { place = piece_noted page vpage prepared self.old.place } }
     {
         self.place.prepared.push(prepared);
         match prepared {

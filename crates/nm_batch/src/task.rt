@@ -18,8 +18,8 @@ use std::alloc::{AllocError, Global};
 #[derive(Drop)]
 pub struct BatchTask<'a> {
     geometry: &'a Geometry,
-    run: Box<Composite<Batch<'a>, TxnPiece<'a>>>,
-    ends: PieceList<TxnEnd>,
+    run: Composite<Batch<'a>, TxnPiece<'a>>,
+    ends: Box<PieceList<TxnEnd>>,
 }
 
 impl<'a> BatchTask<'a> {
@@ -27,17 +27,17 @@ impl<'a> BatchTask<'a> {
     /// drawn nothing. The only error is want of memory.
     pub fn new(alloc: Global, g: &'a Geometry) -> Result<BatchTask<'a>, AllocError>
         ensures geometry { IfOk result (λ t. t.geometry.now ≡ g.now) }
-        ensures new { IfOk result (λ t. ⟦<Composite<Batch<'a>, TxnPiece<'a>> as Part>⟧.is_new t.run.value) }
+        ensures new { IfOk result (λ t. ⟦<Composite<Batch<'a>, TxnPiece<'a>> as Part>⟧.is_new t.run) }
     {
         let asked = BatchAsked {
             pieces: PieceList::of(&[(0, 0)]),
             spent: Spent::default(),
         };
-        let run = Box::new(alloc, Composite::new(Batch::new(g, asked)))?;
+        let ends = Box::new(alloc, PieceList::new())?;
         Ok(BatchTask {
             geometry: g,
-            run,
-            ends: PieceList::new(),
+            run: Composite::new(Batch::new(g, asked)),
+            ends,
         })
     }
 
@@ -49,19 +49,19 @@ impl<'a> BatchTask<'a> {
         requires few { length pieces.now ≤ most_pieces }
         ensures geometry { self.new.geometry.now ≡ self.old.geometry.now }
         ensures made { batch_of self.new ≡ record { 0 = self.old.geometry.now; 1 = record { pieces = pieces.now; spent = spent } } }
-        ensures new { ⟦<Composite<Batch<'a>, TxnPiece<'a>> as Part>⟧.is_new self.new.run.value }
+        ensures new { ⟦<Composite<Batch<'a>, TxnPiece<'a>> as Part>⟧.is_new self.new.run }
     {
         let asked = BatchAsked {
             pieces: PieceList::of(pieces),
             spent,
         };
-        *self.run = Composite::new(Batch::new(self.geometry, asked));
+        self.run = Composite::new(Batch::new(self.geometry, asked));
     }
 
     /// How a piece has ended, counted from 0. Conditions: the batch is over, and there are more than so many pieces.
     pub fn end_of(&self, i: u32) -> TxnEnd
-        requires { i < length self.now.ends }
-        ensures { drop i self.now.ends ≡ result ∷ drop (i + 1) self.now.ends }
+        requires { i < length self.now.ends.value }
+        ensures { drop i self.now.ends.value ≡ result ∷ drop (i + 1) self.now.ends.value }
     {
         match self.ends.get(i as usize) {
             Some(end) => end,
@@ -81,7 +81,7 @@ impl<'a> Part for BatchTask<'a> {
 
     ghost made = { batch_of };
 
-    ghost is_new = { λ t. ⟦<Composite<Batch<'a>, TxnPiece<'a>> as Part>⟧.is_new t.run.value };
+    ghost is_new = { λ t. ⟦<Composite<Batch<'a>, TxnPiece<'a>> as Part>⟧.is_new t.run };
 
     ghost may_begin = { λ made g view. MayBatch made.0 (batch_made made.1) g view };
 
@@ -89,9 +89,9 @@ impl<'a> Part for BatchTask<'a> {
 
     ghost leaves = { λ made g view count left. IsBatchTaskLeft (batch_made made.1) view count left };
 
-    ghost awaits = { λ t. ⟦<Composite<Batch<'a>, TxnPiece<'a>> as Part>⟧.awaits t.run.value };
+    ghost awaits = { λ t. ⟦<Composite<Batch<'a>, TxnPiece<'a>> as Part>⟧.awaits t.run };
 
-    ghost ended = { λ t g own count. IsToldEnds (batch_made (batch_of t).1) t.ends g own count };
+    ghost ended = { λ t g own count. IsToldEnds (batch_made (batch_of t).1) t.ends.value g own count };
 
     fn first(&mut self) -> Step<u32> {
         Step::Do(self.start())
@@ -102,7 +102,7 @@ impl<'a> Part for BatchTask<'a> {
             Step::Do(action) => Step::Do(action),
             Step::Over(ends) => {
                 let count = ends.len() as u32;
-                self.ends = ends;
+                *self.ends = ends;
                 Step::Over(count)
             }
         }

@@ -1,7 +1,4 @@
-use Rattle.std.proofs.Common.{ap, refl, sym, ◌∙◌}
-use Rattle.nm_batch.specs.declared.batch.BatchPlace.{BatchPlace}
-use Rattle.nm_batch.specs.Places.{batch_made, new_batch_place}
-use Rattle.nm_batch.specs.declared.batch.BatchStage.TheVariants.{Preparing}
+use Rattle.nm_batch.specs.Places.{batch_made}
 use Rattle.nm_batch.proofs.Steps.{gives-first}
 use Rattle.nm_batch.proofs.Preparing.{begins-batch, batch-here}
 use Rattle.nm_batch.proofs.batch.BatchPlanTxnPiece.begin.Goals as goal

@@ -1,4 +1,4 @@
-use Rattle.std.proofs.Common.{◌≡◌, ℕ, ◌++◌, ◌∷◌, [], ap, ◌∙◌, refl, sym}
+use Rattle.std.proofs.Common.{ℕ, ◌++◌, ◌∷◌, [], ap, ◌∙◌, refl}
 use Rattle.nm_compose.specs.declared.or.Or.TheVariants.{This}
 use Rattle.nm_txn.specs.Pieces.{txn_parts}
 use Rattle.nm_txn.specs.Stages.{txn_word_in}
@@ -6,7 +6,7 @@ use Rattle.nm_batch.specs.declared.batch.Batch.{Batch}
 use Rattle.nm_batch.specs.declared.batch.BatchPlace.{BatchPlace}
 use Rattle.nm_batch.specs.declared.batch.BatchStage.TheVariants.{Preparing, Flushing, Copying, Unmapping, FlushingAgain, Deciding}
 use Rattle.nm_commit.specs.declared.decide.Decided.{Decided}
-use Rattle.nm_batch.specs.Places.{batch_made, noted, decided_in, prepare_stage, unmap_stage, decide_stage}
+use Rattle.nm_batch.specs.Places.{batch_made, piece_noted, decided_in, prepare_stage, unmap_stage, decide_stage}
 use Rattle.nm_batch.proofs.Steps.{after-batch}
 use Rattle.nm_batch.proofs.Preparing.{after-preparing}
 use Rattle.nm_batch.proofs.Arms.{goes-as, goes-flushed, goes-copied, goes-unmapped, goes-flushed-again, goes-decided, can-note-here, room-word-here, room-decided-here}
@@ -27,7 +27,7 @@ returns-in-This-clause-next c = λ g first now later own known shown left over.
     let old = c.args.self.now in
     after-batch old c.note.new.self c.step.new.self (Preparing c.in-Preparing.page c.in-Preparing.vpage) c.args.end (This c.in-This.prepared) (txn_parts c.args._piece.now) c.prepare_stage-stage.result g first now later c.step.result
     c.in-Preparing.is c.in-This.is known left (ap (λ (s : Batch). s.geometry.now) c.note.ensures) (ap (λ (s : Batch). s.asked) c.note.ensures) c.step.ensures
-    (λ k a. goes-as (batch_made old.asked) (noted c.in-Preparing.page c.in-Preparing.vpage c.in-This.prepared old.place) c.note.new.self.place _ c.prepare_stage-stage.result _ g first later (ap (λ (s : Batch). s.place) c.note.ensures)
+    (λ k a. goes-as (batch_made old.asked) (piece_noted c.in-Preparing.page c.in-Preparing.vpage c.in-This.prepared old.place) c.note.new.self.place _ c.prepare_stage-stage.result _ g first later (ap (λ (s : Batch). s.place) c.note.ensures)
         (c.prepare_stage-stage.ensures ∙ ap (λ (s : Batch). prepare_stage (batch_made s.asked) s.place) c.note.ensures)
         (after-preparing (batch_made old.asked) old.place c.in-This.prepared c.in-Preparing.page c.in-Preparing.vpage g first now later k a))
 
