@@ -127,10 +127,15 @@ task-next awaits ended made page t g view own action step is given keeps h =
     task-asked awaits made page t g view own action given keeps (subst S is h)
 
 -- the end
-pub task-over : (awaits : Geometry → View → Own → Action → Type 0) (ended : Geometry → Own → Or FaultEnd FaultEnd → Type 0) (made : FaultBegun) (page : ℕ) (t : FaultTask) (g : Geometry) (view : View) (own : Own) (end : Or FaultEnd FaultEnd) (step : Step (Or FaultEnd FaultEnd))
-    → step ≡ Over end → IsKeeping page t own → IsPartStep awaits (EitherShape made) (EitherLeaves made) ended g view own step
-    → IsEnded (IsFault made) (λ g view end left. IsFaulted view left) (λ g own end. IsFaultEnded page t own) g view own (either_end end)
-task-over awaits ended made page t g view own end step is keeps h =
+pub task-over : (awaits : Geometry → View → Own → Action → Type 0) (ended : Geometry → Own → Or FaultEnd FaultEnd → Type 0) (made : FaultBegun) (page : ℕ) (t : FaultTask) (g : Geometry) (view : View) (own : Own) (end : Or FaultEnd FaultEnd) (outcome : FaultEnd) (step : Step (Or FaultEnd FaultEnd))
+    → step ≡ Over end → outcome ≡ either_end end → IsKeeping page t own → IsPartStep awaits (EitherShape made) (EitherLeaves made) ended g view own step
+    → IsEnded (IsFault made) (λ g view (end : FaultEnd) left. IsFaulted view left) (λ g own (end : FaultEnd). IsFaultEnded page t own) g view own outcome
+task-over awaits ended made page t g view own end outcome step is shows keeps h =
     let S : Step (Or FaultEnd FaultEnd) → Type 0 = λ s. IsPartStep awaits (EitherShape made) (EitherLeaves made) ended g view own s in
     let e : IsEnded (EitherShape made) (EitherLeaves made) ended g view own end = subst S is h in
-    record { shown = either-shown made g own end e.shown; left = either-left made g view (view_after g view own) end e.left; over = record { page_is = keeps.page_is; counted = keeps.counted } }
+    let F : FaultEnd → Type 0 = λ x. IsFault made g own x in
+    record {
+      shown = subst F (sym shows) (either-shown made g own end e.shown);
+      left = either-left made g view (view_after g view own) end e.left;
+      over = record { page_is = keeps.page_is; counted = keeps.counted };
+    }
