@@ -1,9 +1,9 @@
 -- What is done after each piece of the plan, whatever that ends with.
-use Rattle.std.proofs.Common.{◌≡◌, ℕ, ◌+◌, ◌^◌, ◌<◌, ◌≤◌, List, [], ◌∷◌, ◌++◌, length, drop, Option, sym, subst, arith}
+use Rattle.std.proofs.Common.{◌≡◌, ℕ, ◌+◌, ◌<◌, List, [], ◌∷◌, ◌++◌, length, Option, sym, subst}
 use Rattle.nm_base.specs.Geometry.{Geometry}
 use Rattle.nm_action.specs.Own.{Own}
 use Rattle.nm_view.specs.Views.{View}
-use Rattle.nm_compose.specs.declared.or.Or.TheVariants.{This, Other}
+use Rattle.nm_compose.specs.declared.or.Or.TheVariants.{This}
 use Rattle.nm_prepare.specs.declared.prepare.Prepared.{Prepared}
 use Rattle.nm_commit.specs.declared.decide.DecideMade.{DecideMade}
 use Rattle.nm_txn.specs.declared.batch.ReadyPiece.{ReadyPiece}
@@ -17,7 +17,7 @@ use Rattle.nm_batch.specs.declared.batch.BatchStage.{BatchStage}
 use Rattle.nm_batch.specs.declared.batch.BatchStage.TheVariants.{Preparing, Flushing, Copying, Unmapping, FlushingAgain, Deciding}
 use Rattle.nm_batch.specs.declared.batch.Batch.{Batch}
 use Rattle.nm_batch.specs.Leaving.{most_pieces}
-use Rattle.nm_batch.specs.Places.{batch_made, batch_piece, batch_left_by, piece_noted, CanNotePiece, decided_in, copy_stage, unmap_stage, decide_stage}
+use Rattle.nm_batch.specs.Places.{batch_made, batch_piece, batch_left_by, CanNotePiece, decided_in, copy_stage, unmap_stage, decide_stage}
 use Rattle.nm_batch.specs.Opened.{idle, BatchKnownBy}
 use Rattle.nm_batch.proofs.Steps.{AtBatch, BatchGoes, at-batch}
 use Rattle.nm_batch.proofs.Preparing.{can-note}

@@ -1,10 +1,9 @@
 -- The pages of the ready pieces are copied, one after the other.
-use Rattle.std.proofs.Common.{◌≡◌, ◌≢◌, ℕ, suc, ◌+◌, ◌<◌, ◌≤◌, List, [], ◌∷◌, ◌++◌, length, drop, map, All, Option, Some, None, IsSomeAnd, option_map, refl, sym, ap, ◌∙◌, subst, arith, length-append}
+use Rattle.std.proofs.Common.{◌≡◌, ℕ, ◌+◌, List, [], ◌∷◌, ◌++◌, length, drop, map, All, Some, None, IsSomeAnd, refl, sym, ap, ◌∙◌, subst, arith, length-append}
 use Rattle.std.proofs.lemmas.List.{append-nil, length-map, map-append}
 use Rattle.nm_base.specs.Geometry.{Geometry}
-use Rattle.nm_action.specs.Own.{Own}
 use Rattle.nm_view.specs.declared.view.Fill.{Fill}
-use Rattle.nm_view.specs.declared.view.Fill.TheVariants.{Raw, Copied}
+use Rattle.nm_view.specs.declared.view.Fill.TheVariants.{Raw}
 use Rattle.nm_view.specs.declared.view.Owned.{Owned}
 use Rattle.nm_view.specs.Lists.{find, edit}
 use Rattle.nm_view.specs.Views.{Op, View}
@@ -17,21 +16,19 @@ use Rattle.nm_copying.specs.Copying.{copied_to, copied_fill, copying, MayCopyPag
 use Rattle.nm_copying.specs.declared.copies.CopiesMade.{CopiesMade}
 use Rattle.nm_copying.proofs.Copied.{some-words}
 use Rattle.nm_prepare.specs.Placing.{IsPlanPlaced}
-use Rattle.nm_prepare.specs.declared.prepare.Prepared.{Prepared}
 use Rattle.nm_prepare.proofs.Lists.{some-and}
 use Rattle.nm_txn.specs.declared.batch.ReadyPiece.{ReadyPiece}
 use Rattle.nm_txn.specs.Stages.{IsUncopiedOp}
-use Rattle.nm_txn.specs.Batches.{BatchMade, CopiesEach, UnmapsEach}
+use Rattle.nm_txn.specs.Batches.{BatchMade, CopiesEach}
 use Rattle.nm_txn.proofs.Ops.{flushed-ready, uncopied-may, copied-cleared}
 use Rattle.nm_txn.proofs.Frames.{copied-all}
 use Rattle.nm_txn.proofs.Runs.{copy-run}
 use Rattle.nm_batch.specs.declared.batch.BatchPlace.{BatchPlace}
-use Rattle.nm_batch.specs.declared.batch.BatchStage.{BatchStage}
 use Rattle.nm_batch.specs.declared.batch.BatchStage.TheVariants.{Copying}
 use Rattle.nm_batch.specs.Leaving.{spoiled_each}
 use Rattle.nm_batch.specs.Places.{batch_piece_at, copy_stage_by, copy_stage, unmap_stage, CopiesFromPiece, UnmapsFrom}
-use Rattle.nm_batch.specs.Opened.{OpenPiece, open_ready, open_op, open_word, open_owned, owned_with, with_open, IsOpenPiece, AreApart, HasOpen, IsReadyOpen, IsUncopiedOpen, IsCopiedOpen, IsTakenOpen, IsUnderway, IsBatchReady, HasCopied, HasUnmapped, IsBatchCopying, idle, BatchKnown}
-use Rattle.nm_batch.proofs.Lists.{drop-next, drop-within, empty-list}
+use Rattle.nm_batch.specs.Opened.{OpenPiece, open_ready, open_op, owned_with, IsOpenPiece, HasOpen, IsReadyOpen, IsUncopiedOpen, IsCopiedOpen, IsTakenOpen, IsUnderway, IsBatchReady, HasCopied, HasUnmapped, IsBatchCopying, idle, BatchKnown}
+use Rattle.nm_batch.proofs.Lists.{drop-next, empty-list}
 use Rattle.nm_batch.proofs.Opened.{all-middle, op-at, fill-at, changed, ops-changed, owned-changed, open-changed, with_op, ops-mapped, owned-mapped, ready-mapped, open-mapped}
 use Rattle.nm_batch.proofs.Ending.{can-copy}
 use Rattle.nm_batch.proofs.Steps.{RunsBatch, BatchGoes}
@@ -102,7 +99,7 @@ goes-copy made place index (p ∷ ps) g first now h next =
     let known : IsBatchCopying made (idle place) index p g first now = record { has = h; next = next ∙ ap (λ (l : List ReadyPiece). p ∷ l) (sym tail) } in
     let left : map open_ready h.rest ≡ p ∷ ps = rest-ready h.done h.rest place.ready index h.ready h.at ∙ next in
     let run = copy-run (IsPlanPlaced batch_piece_at BatchKnown g made (record place { stage = Copying index p })) (λ g. CopiesFromPiece g place.prepared place.ready (drop (index + 1) place.ready)) (copy_made g p) g first now
-        (may-copy-piece made g first now h.done h.rest p ps 1 (length place.ready) h.has h.uncopied left) (record { geometry = refl; is = refl; holds = known }) (can-copy g place.prepared place.ready D) in
+    (may-copy-piece made g first now h.done h.rest p ps 1 (length place.ready) h.has h.uncopied left) (record { geometry = refl; is = refl; holds = known }) (can-copy g place.prepared place.ready D) in
     let L : List ReadyPiece → Type 0 = λ l. RunsBatch made (record place { stage = Copying index p }) (Follows (IsCopying (copy_made g p) g) (λ copied. CopiesFromPiece g place.prepared place.ready l)) g first now in
     subst L tail run
 

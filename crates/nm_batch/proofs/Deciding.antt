@@ -1,8 +1,7 @@
 -- The ready pieces of a batch are decided, one after the other.
-use Rattle.std.proofs.Common.{◌≡◌, ◌≢◌, ℕ, zero, suc, ◌+◌, ◌*◌, ◌<◌, ◌≤◌, List, [], ◌∷◌, ◌++◌, length, drop, map, All, Option, Some, None, IsSome, IsSomeAnd, option_map, refl, sym, ap, ◌∙◌, subst, arith, length-append}
+use Rattle.std.proofs.Common.{◌≡◌, ℕ, zero, suc, ◌+◌, ◌*◌, ◌<◌, ◌≤◌, List, [], ◌∷◌, ◌++◌, length, drop, map, All, Some, None, IsSome, IsSomeAnd, refl, sym, ap, ◌∙◌, subst, arith, length-append}
 use Rattle.std.proofs.lemmas.List.{append-nil, length-map}
 use Rattle.nm_base.specs.Geometry.{Geometry}
-use Rattle.nm_action.specs.Own.{Own}
 use Rattle.nm_view.specs.declared.view.Fill.{Fill}
 use Rattle.nm_view.specs.declared.view.Fill.TheVariants.{Copied}
 use Rattle.nm_view.specs.declared.view.Owned.{Owned}
@@ -10,34 +9,31 @@ use Rattle.nm_view.specs.declared.view.Scanned.{Scanned}
 use Rattle.nm_view.specs.Lists.{find, erase}
 use Rattle.nm_view.specs.Views.{Op, View}
 use Rattle.nm_view.specs.Operations.{page_of, owned_frame, op_on, fill_of}
-use Rattle.nm_view.proofs.Items.{all_head, all_tail, more, all_same, all_map}
+use Rattle.nm_view.proofs.Items.{all_head, all_tail, more, all_map}
 use Rattle.nm_event.specs.After.{spoiled, spoiled_fill}
 use Rattle.nm_event.specs.Fitting.{IsNotOwned}
-use Rattle.nm_part.specs.Patterns.{Ends, Follows}
+use Rattle.nm_part.specs.Patterns.{Follows}
 use Rattle.nm_part.proofs.Patterns.{ends-now}
 use Rattle.nm_shoot.specs.Flushed.{IsFlushed}
 use Rattle.nm_prepare.specs.Placing.{IsPlanPlaced}
-use Rattle.nm_prepare.specs.declared.prepare.Prepared.{Prepared}
 use Rattle.nm_prepare.proofs.Lists.{some-and}
 use Rattle.nm_commit.specs.Deciding.{MayDecide, IsDeciding, IsDecision, IsSwapped}
 use Rattle.nm_commit.specs.declared.decide.DecideMade.{DecideMade}
 use Rattle.nm_commit.specs.declared.decide.Decided.{Decided}
 use Rattle.nm_txn.specs.declared.batch.ReadyPiece.{ReadyPiece}
-use Rattle.nm_txn.specs.declared.end.TxnEnd.{TxnEnd}
 use Rattle.nm_txn.specs.Batches.{BatchMade, count_ready, ready_of, taken_of, ends_of, DecidesEach}
 use Rattle.nm_txn.proofs.Ops.{flushed-taken}
 use Rattle.nm_txn.proofs.Runs.{decide-run}
 use Rattle.nm_batch.specs.declared.batch.BatchPlace.{BatchPlace}
-use Rattle.nm_batch.specs.declared.batch.BatchStage.{BatchStage}
 use Rattle.nm_batch.specs.declared.batch.BatchStage.TheVariants.{Deciding}
-use Rattle.nm_batch.specs.Leaving.{most_pieces, asked_page, MayBatch, spoiled_each, flush_bumps, IsBatchLeft}
+use Rattle.nm_batch.specs.Leaving.{most_pieces, asked_page, spoiled_each, flush_bumps, IsBatchLeft}
 use Rattle.nm_batch.specs.Places.{batch_piece_at, decide_stage_by, decide_stage, DecidesFrom}
-use Rattle.nm_batch.specs.Opened.{OpenPiece, open_ready, open_page, open_frame, open_op, open_word, open_owned, open_made, owned_with, with_open, IsOpenPiece, AreApart, HasOpen, IsTakenOpen, IsSwappedOpen, IsUnderway, IsBatchTaken, HasDecidedSome, IsBatchDeciding, idle, BatchKnown}
+use Rattle.nm_batch.specs.Opened.{OpenPiece, open_ready, open_page, open_op, open_word, open_made, owned_with, with_open, IsOpenPiece, HasOpen, IsTakenOpen, IsSwappedOpen, IsUnderway, IsBatchTaken, HasDecidedSome, IsBatchDeciding, idle, BatchKnown}
 use Rattle.nm_batch.proofs.Lists.{absent-head, absent-tail, drop-next, drop-within, drop-over, empty-list, erase-middle}
 use Rattle.nm_batch.proofs.Pieces.{ready-count, ends-count, made-taken, taken-length}
 use Rattle.nm_batch.proofs.Opened.{op-at, fill-at, with_op, ops-mapped, owned-mapped, open-mapped, ready-mapped, word-mapped, copied-kept, owned-spoiled, apart-spoiled, apart-rest, owned-rest}
 use Rattle.nm_batch.proofs.Ending.{can-decide}
-use Rattle.nm_batch.proofs.Steps.{RunsBatch, OverBatch, BatchGoes}
+use Rattle.nm_batch.proofs.Steps.{RunsBatch, BatchGoes}
 
 -- One piece is decided.
 
@@ -149,7 +145,6 @@ all-ended made place g first now h none =
       is = h.has.is ∙ all-closed h.held closed (spoiled_each h.has.pages first.owned) h.has.scan first (length place.ready) (length place.words) there even h.has.may.alone;
     }
 
-
 -- The next step.
 
 pub goes-decide : (made : BatchMade) (place : BatchPlace) (rest : List DecideMade) (g : Geometry) (first now : View) → HasDecidedSome made (idle place) g first now → drop (length place.decided) (taken_of place.ready place.words) ≡ rest
@@ -160,7 +155,7 @@ goes-decide made place (d ∷ ds) g first now h next =
     let tail : D ≡ ds = drop-next (length place.decided) (taken_of place.ready place.words) ds d next in
     let known : IsBatchDeciding made (idle place) d g first now = record { has = h; next = next ∙ ap (λ (l : List DecideMade). d ∷ l) (sym tail) } in
     let run = decide-run (IsPlanPlaced batch_piece_at BatchKnown g made (record place { stage = Deciding d })) (λ g end. DecidesFrom g place.prepared (drop (length place.decided + 1) (taken_of place.ready place.words)) (place.decided ++ end ∷ [])) (record { 0 = g; 1 = d }) g first now
-        (may-decide made g first now h.held d ds 2 (length place.ready + length place.words) h.has h.swapped (h.rest ∙ next)) (record { geometry = refl; is = refl; holds = known }) (λ end. can-decide g place.prepared D (place.decided ++ end ∷ [])) in
+    (may-decide made g first now h.held d ds 2 (length place.ready + length place.words) h.has h.swapped (h.rest ∙ next)) (record { geometry = refl; is = refl; holds = known }) (λ end. can-decide g place.prepared D (place.decided ++ end ∷ [])) in
     let L : List DecideMade → Type 0 = λ l. RunsBatch made (record place { stage = Deciding d }) (Follows (IsDeciding d g) (λ end. DecidesFrom g place.prepared l (place.decided ++ end ∷ []))) g first now in
     subst L tail run
 

@@ -1,26 +1,22 @@
 -- The views along a batch.
-use Rattle.std.proofs.Common.{◌≡◌, ◌≢◌, ℕ, suc, ◌+◌, ◌<◌, ◌≤◌, ◌==◌, if◌then◌else◌, Bool, true, false, List, [], ◌∷◌, ◌++◌, length, map, All, Option, Some, None, IsSome, IsSomeAnd, option_map, refl, sym, ap, ◌∙◌, subst, append_assoc, arith}
+use Rattle.std.proofs.Common.{◌≡◌, ◌≢◌, ℕ, ◌==◌, false, List, [], ◌∷◌, ◌++◌, map, All, Some, None, option_map, refl, sym, ap, ◌∙◌, subst, append_assoc, arith}
 use Rattle.std.proofs.lemmas.List.{map-append}
-use Rattle.nm_base.specs.Geometry.{Geometry, tier_of, backing_page}
-use Rattle.nm_base.specs.Ranges.{IsPage, IsFrame}
-use Rattle.nm_base.specs.HomeWord.{home_word}
+use Rattle.nm_base.specs.Geometry.{Geometry}
 use Rattle.nm_view.specs.declared.view.Fill.{Fill}
 use Rattle.nm_view.specs.declared.view.Fill.TheVariants.{Raw, Copied}
 use Rattle.nm_view.specs.declared.view.Owned.{Owned}
 use Rattle.nm_view.specs.declared.view.Scanned.{Scanned}
-use Rattle.nm_view.specs.Lists.{find, edit, erase, put, Once}
+use Rattle.nm_view.specs.Lists.{find, edit, erase}
 use Rattle.nm_view.specs.Views.{Op, View}
-use Rattle.nm_view.specs.Operations.{page_of, owned_frame, op_on, fill_of}
+use Rattle.nm_view.specs.Operations.{page_of, owned_frame}
 use Rattle.nm_view.proofs.Finds.{once_map, once_join, absent_map}
 use Rattle.nm_view.proofs.Items.{all_head, all_tail, more, none_left, all_join, all_map, all_same}
-use Rattle.nm_view.proofs.Places.{put-new}
-use Rattle.nm_event.specs.After.{filled, owning, spoiled, spoiled_frame, spoiled_fill}
-use Rattle.nm_txn.proofs.Frames.{apart-by-tiers}
+use Rattle.nm_event.specs.After.{filled, spoiled, spoiled_frame, spoiled_fill}
 use Rattle.nm_txn.specs.declared.batch.ReadyPiece.{ReadyPiece}
 use Rattle.nm_txn.specs.Batches.{BatchMade}
-use Rattle.nm_batch.specs.Leaving.{asked_page, MayBatch, spoiled_each}
+use Rattle.nm_batch.specs.Leaving.{spoiled_each}
 use Rattle.nm_batch.specs.Opened.{OpenPiece, open_ready, open_page, open_frame, open_op, open_word, open_owned, owned_with, with_open, IsOpenPiece, AreApart, HasOpen}
-use Rattle.nm_batch.proofs.Lists.{find-middle, edit-middle, erase-middle, absent-both, absent-front, absent-rest, absent-head, absent-tail, absent-more, absent-made, absent-origin, once-front, once-swap, absent-swap, all-rest, all-swap, all-with, all-origin}
+use Rattle.nm_batch.proofs.Lists.{find-middle, edit-middle, erase-middle, absent-both, absent-front, absent-rest, absent-tail, absent-more, absent-made, absent-origin, once-front, once-swap, absent-swap, all-rest, all-swap, all-with}
 
 -- The piece in the middle.
 
@@ -216,8 +212,8 @@ apart-joined base pieces p h page frame home own others =
     let H : OpenPiece → Type 0 = λ x. find owned_frame x.piece.home (owned_with base pieces) ≡ None in
     let N : OpenPiece → Type 0 = λ x. find owned_frame x.piece.home (owned_with base (pieces ++ p ∷ [])) ≡ None in
     let show = λ (x : OpenPiece) (e : H x) (d : D x).
-        (let O : List Owned → Type 0 = λ l. find owned_frame x.piece.home l ≡ None in
-        subst O (sym (owned-joined base pieces p)) (absent-both owned_frame x.piece.home (owned_with base pieces) (open_owned p ∷ []) e (absent-more owned_frame x.piece.home (open_owned p) [] d refl))) in
+    (let O : List Owned → Type 0 = λ l. find owned_frame x.piece.home l ≡ None in
+    subst O (sym (owned-joined base pieces p)) (absent-both owned_frame x.piece.home (owned_with base pieces) (open_owned p ∷ []) e (absent-more owned_frame x.piece.home (open_owned p) [] d refl))) in
     record {
       pages = once_join open_page p pieces h.pages page;
       frames = once_join open_frame p pieces h.frames (absent-origin open_frame owned_frame open_owned p.piece.frame pieces (λ i d lt. refl) (absent-rest owned_frame p.piece.frame base (map open_owned pieces) frame));

@@ -1,55 +1,43 @@
 -- The pieces of a batch are prepared, one after the other.
-use Rattle.std.proofs.Common.{◌≡◌, ◌≢◌, ℕ, suc, ◌+◌, ◌-◌, ◌^◌, ◌<◌, ◌≤◌, false, List, [], ◌∷◌, ◌++◌, length, drop, map, All, Option, Some, None, IsSome, IsTrue, ◌⊎◌, inl, inr, refl, sym, ap, ◌∙◌, subst, arith, length-append}
+use Rattle.std.proofs.Common.{◌≡◌, ◌≢◌, ℕ, suc, ◌+◌, ◌^◌, ◌<◌, ◌≤◌, false, List, [], ◌∷◌, ◌++◌, length, drop, map, All, Some, None, IsSome, IsTrue, ◌⊎◌, inl, inr, refl, sym, ap, ◌∙◌, subst, arith, length-append}
 use Rattle.std.proofs.lemmas.List.{map-append, length-map, append-nil}
-use Rattle.nm_base.specs.Geometry.{Geometry, tier_of}
+use Rattle.nm_base.specs.Geometry.{Geometry}
 use Rattle.nm_base.specs.Ranges.{IsPage}
 use Rattle.nm_base.specs.HomeWord.{home_word}
 use Rattle.nm_action.specs.declared.spent.Spent.{Spent}
-use Rattle.nm_action.specs.Own.{Own}
 use Rattle.nm_view.specs.declared.view.Fill.TheVariants.{Raw}
 use Rattle.nm_view.specs.declared.view.Owned.{Owned}
 use Rattle.nm_view.specs.declared.view.Scanned.{Scanned}
 use Rattle.nm_view.specs.Lists.{find, Once}
 use Rattle.nm_view.specs.Views.{Op, View, own_bumps}
 use Rattle.nm_view.specs.Operations.{page_of, owned_frame, op_on}
-use Rattle.nm_view.proofs.Items.{all_head, all_tail, more, none_left, all_join, all_same, all_map}
+use Rattle.nm_view.proofs.Items.{more, none_left, all_join, all_same, all_map}
 use Rattle.nm_view.proofs.Places.{put-new}
 use Rattle.nm_permit.specs.Permitted.{AreDueDry}
 use Rattle.nm_event.specs.After.{owning, spoiled, spoiled_fill}
-use Rattle.nm_event.specs.Fitting.{IsNotOwned}
-use Rattle.nm_part.specs.Patterns.{Ends, Follows}
-use Rattle.nm_part.proofs.Patterns.{ends-now}
-use Rattle.nm_compose.specs.Plans.{IsPieceRun}
-use Rattle.nm_compose.specs.declared.or.Or.TheVariants.{This, Other}
+use Rattle.nm_part.specs.Patterns.{Follows}
 use Rattle.nm_shoot.specs.Shootdown.{IsShootdown}
 use Rattle.nm_prepare.specs.Placing.{IsPlanPlaced}
 use Rattle.nm_prepare.specs.Preparing.{IsPrepare}
 use Rattle.nm_prepare.specs.Worn.{is_worn, worn_bumps, worn_raises}
 use Rattle.nm_prepare.specs.Ready.{MayPrepare, HasReady, HasClosed, IsPrepared, spent_by, IsReadyOp}
-use Rattle.nm_prepare.specs.declared.prepare.PrepareMade.{PrepareMade}
-use Rattle.nm_prepare.specs.declared.prepare.Early.{Early}
 use Rattle.nm_prepare.specs.declared.prepare.Prepared.{Prepared}
 use Rattle.nm_prepare.specs.declared.prepare.Prepared.TheVariants.{Busy, Closed, Ready}
 use Rattle.nm_prepare.proofs.Clearing.{not-worn}
-use Rattle.nm_commit.specs.declared.decide.Decided.{Decided}
 use Rattle.nm_txn.specs.declared.batch.ReadyPiece.{ReadyPiece}
-use Rattle.nm_txn.specs.declared.end.TxnEnd.{TxnEnd}
-use Rattle.nm_txn.specs.Pieces.{MayTxnPiece, IsTxnPiece}
-use Rattle.nm_txn.specs.Stages.{by_prepared}
 use Rattle.nm_txn.specs.Batches.{BatchMade, count_ready, drawn_after, drawn_with, ready_with, ready_of, ends_of, CopiesEach, AfterPrepares}
 use Rattle.nm_txn.proofs.Frames.{apart-by-tiers}
 use Rattle.nm_txn.proofs.Runs.{prepare-run, flush-run}
 use Rattle.nm_batch.specs.declared.batch.BatchPlace.{BatchPlace}
-use Rattle.nm_batch.specs.declared.batch.BatchStage.{BatchStage}
 use Rattle.nm_batch.specs.declared.batch.BatchStage.TheVariants.{Preparing, Flushing}
-use Rattle.nm_batch.specs.Leaving.{most_pieces, asked_page, MayBatch, spoiled_each, flush_bumps, IsBatchLeft}
+use Rattle.nm_batch.specs.Leaving.{most_pieces, asked_page, MayBatch, spoiled_each, IsBatchLeft}
 use Rattle.nm_batch.specs.Places.{new_batch_place, batch_piece_at, piece_noted, CanNoteEnd, CanNotePiece, prepare_stage_by, prepare_stage, PreparesFrom}
-use Rattle.nm_batch.specs.Opened.{OpenPiece, open_ready, open_page, open_frame, open_op, open_owned, owned_with, with_open, IsOpenPiece, AreApart, HasOpen, IsReadyOpen, IsUnworn, HasPrepared, IsUnderway, IsBatchReady, IsBatchPreparing, idle, BatchKnown}
+use Rattle.nm_batch.specs.Opened.{OpenPiece, open_ready, open_page, open_op, owned_with, with_open, IsOpenPiece, HasOpen, IsReadyOpen, IsUnworn, HasPrepared, IsBatchReady, IsBatchPreparing, idle, BatchKnown}
 use Rattle.nm_batch.proofs.Lists.{absent-made, absent-all, absent-head, absent-tail, all-with, all-origin, drop-next, drop-within, drop-over, once-drop, all-drop, found-drop, empty-list}
 use Rattle.nm_batch.proofs.Pieces.{drawn-more, ready-more, ready-count, ends-count}
 use Rattle.nm_batch.proofs.Opened.{owned-joined, apart-joined, apart-spoiled, owned-spoiled, raw-kept}
 use Rattle.nm_batch.proofs.Ending.{can-prepare, can-copy}
-use Rattle.nm_batch.proofs.Steps.{RunsBatch, OverBatch, BatchGoes}
+use Rattle.nm_batch.proofs.Steps.{RunsBatch, BatchGoes}
 
 -- The next piece may be prepared.
 
@@ -179,7 +167,7 @@ goes-prepare made place (p ∷ ps) g first now h next =
     let tail : D ≡ ps = drop-next (length place.prepared) made.pieces ps p next in
     let known : IsBatchPreparing made (idle place) p.0 p.1 g first now = record { has = h; next = next ∙ ap (λ (l : List (ℕ × ℕ)). p ∷ l) (sym tail) } in
     let run = prepare-run (IsPlanPlaced batch_piece_at BatchKnown g made (record place { stage = Preparing p.0 p.1 })) (λ g end. PreparesFrom g made (drop (length place.prepared + 1) made.pieces) (place.prepared ++ end ∷ [])) (record { 0 = g; 1 = record { page = p.0; vpage = p.1; spent = place.drawn } }) g first now
-        (may-prepare made (idle place) g first now p ps h next) (record { geometry = refl; is = refl; holds = known }) (λ end. can-prepare g made D (place.prepared ++ end ∷ []) h.has.may.geometry) in
+    (may-prepare made (idle place) g first now p ps h next) (record { geometry = refl; is = refl; holds = known }) (λ end. can-prepare g made D (place.prepared ++ end ∷ []) h.has.may.geometry) in
     let W : Spent → Type 0 = λ s. RunsBatch made (record place { stage = Preparing p.0 p.1 }) (Follows (IsPrepare (record { page = p.0; vpage = p.1; spent = s }) g) (λ end. PreparesFrom g made D (place.prepared ++ end ∷ []))) g first now in
     let L : List (ℕ × ℕ) → Type 0 = λ l. RunsBatch made (record place { stage = Preparing p.0 p.1 }) (Follows (IsPrepare (record { page = p.0; vpage = p.1; spent = drawn_with made.spent place.prepared }) g) (λ end. PreparesFrom g made l (place.prepared ++ end ∷ []))) g first now in
     subst L tail (subst W h.drawn run)

@@ -3,7 +3,7 @@ use Rattle.std.proofs.Common.{◌≡◌, ℕ, List, Option, Some, None, refl, sy
 use Rattle.nm_base.specs.Geometry.{Geometry}
 use Rattle.nm_action.specs.Own.{Own}
 use Rattle.nm_view.specs.Views.{View}
-use Rattle.nm_compose.specs.Plans.{IsPieceRun, IsNewRun, IsOver, IsNext}
+use Rattle.nm_compose.specs.Plans.{IsPieceRun, IsOver, IsNext}
 use Rattle.nm_compose.specs.declared.plan.Next.{Next}
 use Rattle.nm_compose.specs.declared.plan.Next.TheVariants.{Run, Over}
 use Rattle.nm_prepare.specs.Placing.{IsPlanPlaced, RunsPlaced}
@@ -11,13 +11,12 @@ use Rattle.nm_prepare.proofs.Placed.{run-placed}
 use Rattle.nm_txn.specs.declared.end.TxnEnd.{TxnEnd}
 use Rattle.nm_txn.specs.Pieces.{TxnPiece, TxnParts, TxnEnds, txn_parts, IsNewTxnPiece, MayTxnPiece, IsTxnPiece, TxnPieceLeaves}
 use Rattle.nm_txn.specs.Batches.{BatchMade, ends_of}
-use Rattle.nm_batch.specs.declared.batch.BatchAsked.{BatchAsked}
 use Rattle.nm_batch.specs.declared.batch.BatchPlace.{BatchPlace}
 use Rattle.nm_batch.specs.declared.batch.BatchStage.{BatchStage}
 use Rattle.nm_batch.specs.declared.batch.BatchStage.TheVariants.{Preparing}
 use Rattle.nm_batch.specs.declared.batch.Batch.{Batch}
 use Rattle.nm_batch.specs.Leaving.{IsBatchLeft}
-use Rattle.nm_batch.specs.Places.{batch_made, new_batch_place, batch_piece, batch_piece_at, batch_left_by, batch_left, IsBatchRun, IsBatchOver, IsBatchStep}
+use Rattle.nm_batch.specs.Places.{batch_made, new_batch_place, batch_piece, batch_piece_at, batch_left_by, batch_left, IsBatchStep}
 use Rattle.nm_batch.specs.Opened.{idle, BatchKnownBy, BatchKnown}
 
 -- the piece of a place runs

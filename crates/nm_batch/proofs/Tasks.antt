@@ -2,8 +2,6 @@
 use Rattle.std.proofs.Common.{◌≡◌, ℕ, List, length, refl, sym, subst}
 use Rattle.nm_base.specs.Geometry.{Geometry}
 use Rattle.nm_action.specs.declared.action.Action.{Action}
-use Rattle.nm_action.specs.declared.turn.Step.{Step}
-use Rattle.nm_action.specs.declared.turn.Step.TheVariants.{Do, Over}
 use Rattle.nm_action.specs.Own.{Own}
 use Rattle.nm_view.specs.Views.{View}
 use Rattle.nm_part.specs.Parts.{IsAsked, IsEnded}

@@ -1,10 +1,8 @@
 -- The virtual pages of the ready pieces are unmapped, one after the other.
-use Rattle.std.proofs.Common.{◌≡◌, ◌≢◌, ℕ, suc, ◌+◌, ◌<◌, ◌≤◌, List, [], ◌∷◌, ◌++◌, length, drop, map, All, Option, Some, None, IsSomeAnd, IsTrue, refl, sym, ap, ◌∙◌, subst, arith, length-append, append_assoc}
+use Rattle.std.proofs.Common.{◌≡◌, ℕ, ◌+◌, ◌<◌, ◌≤◌, List, [], ◌∷◌, ◌++◌, length, drop, map, All, IsSomeAnd, IsTrue, refl, sym, ap, ◌∙◌, subst, arith, length-append, append_assoc}
 use Rattle.std.proofs.lemmas.List.{append-nil, length-map, map-append, drop-map}
 use Rattle.std.proofs.Math.Seq.{drop-append_seam}
 use Rattle.nm_base.specs.Geometry.{Geometry}
-use Rattle.nm_action.specs.Own.{Own}
-use Rattle.nm_view.specs.declared.view.Fill.{Fill}
 use Rattle.nm_view.specs.declared.view.Owned.{Owned}
 use Rattle.nm_view.specs.Lists.{find, edit}
 use Rattle.nm_view.specs.Views.{Op, View, own_bumps, own_raises}
@@ -14,10 +12,8 @@ use Rattle.nm_permit.specs.Permitted.{AreDueDry, MayUnmap}
 use Rattle.nm_part.specs.Patterns.{Follows}
 use Rattle.nm_prepare.specs.Placing.{IsPlanPlaced}
 use Rattle.nm_prepare.specs.Worn.{worn_bumps, worn_raises}
-use Rattle.nm_prepare.specs.declared.prepare.Prepared.{Prepared}
 use Rattle.nm_prepare.proofs.Lists.{some-and}
 use Rattle.nm_commit.specs.Unmapping.{UnmapsOne, unmapped_at, MayUnmapping, IsUnmappedOne}
-use Rattle.nm_commit.specs.declared.unmap.UnmapMade.{UnmapMade}
 use Rattle.nm_txn.specs.declared.batch.ReadyPiece.{ReadyPiece}
 use Rattle.nm_txn.specs.Batches.{BatchMade, taken_of, DecidesEach, FlushesAgain}
 use Rattle.nm_txn.proofs.Ops.{cleared-may, unmapped-taken}
@@ -26,8 +22,8 @@ use Rattle.nm_batch.specs.declared.batch.BatchPlace.{BatchPlace}
 use Rattle.nm_batch.specs.declared.batch.BatchStage.TheVariants.{Unmapping, FlushingAgain}
 use Rattle.nm_batch.specs.Leaving.{most_pieces, spoiled_each}
 use Rattle.nm_batch.specs.Places.{batch_piece_at, unmap_stage_by, unmap_stage, UnmapsFrom}
-use Rattle.nm_batch.specs.Opened.{OpenPiece, open_ready, open_op, open_word, open_owned, owned_with, with_open, IsOpenPiece, AreApart, HasOpen, IsCopiedOpen, IsTakenOpen, IsUnworn, IsUnderway, HasUnmapped, IsBatchTaken, IsBatchUnmapping, idle, BatchKnown}
-use Rattle.nm_batch.proofs.Lists.{drop-next, drop-within, drop-over, empty-list, all-rest}
+use Rattle.nm_batch.specs.Opened.{OpenPiece, open_ready, open_op, open_word, owned_with, IsOpenPiece, HasOpen, IsCopiedOpen, IsTakenOpen, IsUnworn, IsUnderway, HasUnmapped, IsBatchTaken, IsBatchUnmapping, idle, BatchKnown}
+use Rattle.nm_batch.proofs.Lists.{drop-next, drop-within, empty-list}
 use Rattle.nm_batch.proofs.Opened.{all-middle, op-at, changed, ops-changed, owned-kept, open-changed}
 use Rattle.nm_batch.proofs.Ending.{can-unmap, can-decide}
 use Rattle.nm_batch.proofs.Steps.{RunsBatch, BatchGoes}
@@ -126,8 +122,8 @@ goes-unmap made place (p ∷ ps) g first now h next =
     let known : IsBatchUnmapping made (idle place) p g first now = record { has = h; next = next ∙ ap (λ (l : List ReadyPiece). p ∷ l) (sym tail) } in
     let left : map open_ready h.rest ≡ p ∷ ps = rest-ready h.done h.rest place.ready (length place.words) h.ready (done-words h.done place.words h.words) ∙ next in
     let run = unmap-run (IsPlanPlaced batch_piece_at BatchKnown g made (record place { stage = Unmapping p })) (λ g word. UnmapsFrom g place.prepared place.ready (drop (length place.words + 1) place.ready) (place.words ++ word ∷ [])) (record { page = p.page; vpage = p.vpage }) g first now
-        (may-unmap-piece made g first now h.done h.rest p ps 1 (length place.ready + length place.words) h.has h.copied (raises-unmap made place g first now h) left)
-        (record { geometry = refl; is = refl; holds = known }) (λ word. can-unmap g place.prepared place.ready D (place.words ++ word ∷ [])) in
+    (may-unmap-piece made g first now h.done h.rest p ps 1 (length place.ready + length place.words) h.has h.copied (raises-unmap made place g first now h) left)
+    (record { geometry = refl; is = refl; holds = known }) (λ word. can-unmap g place.prepared place.ready D (place.words ++ word ∷ [])) in
     let L : List ReadyPiece → Type 0 = λ l. RunsBatch made (record place { stage = Unmapping p }) (Follows (UnmapsOne (record { page = p.page; vpage = p.vpage }) g) (λ word. UnmapsFrom g place.prepared place.ready l (place.words ++ word ∷ []))) g first now in
     subst L tail run
 

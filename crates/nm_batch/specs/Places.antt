@@ -16,7 +16,7 @@ use Rattle.nm_txn.specs.declared.batch.ReadyPiece.{ReadyPiece}
 use Rattle.nm_txn.specs.declared.end.TxnEnd.{TxnEnd}
 use Rattle.nm_txn.specs.Pieces.{TxnPiece, TxnParts, TxnEnds, txn_parts, IsNewTxnPiece}
 use Rattle.nm_txn.specs.Stages.{NothingInTxn, by_prepared, by_flushed, by_copied, by_taken, by_decided}
-use Rattle.nm_txn.specs.Batches.{BatchMade, drawn_after, ready_of, taken_of, ends_of, DecidesNext, DecidesEach, FlushesAgain, UnmapsNext, UnmapsEach, CopiesNext, CopiesEach, AfterPrepares, PreparesNext}
+use Rattle.nm_txn.specs.Batches.{BatchMade, ready_of, taken_of, ends_of, DecidesNext, DecidesEach, FlushesAgain, UnmapsNext, UnmapsEach, CopiesNext, CopiesEach, AfterPrepares, PreparesNext}
 use Rattle.nm_batch.specs.declared.batch.BatchAsked.{BatchAsked}
 use Rattle.nm_batch.specs.declared.batch.BatchPlace.{BatchPlace}
 use Rattle.nm_batch.specs.declared.batch.BatchStage.{BatchStage}

@@ -110,9 +110,9 @@ impl<'a> Batch<'a> {
             BatchStage::Copying { piece, .. } => Or::Other(Or::Other(Or::This(Composite::new(
                 Copies::new(g, piece.page, piece.frame),
             )))),
-            BatchStage::Unmapping(piece) => Or::Other(Or::Other(Or::Other(Or::This(
-                Composite::new(UnmapOne::new(piece.page, piece.vpage)),
-            )))),
+            BatchStage::Unmapping(piece) => Or::Other(Or::Other(Or::Other(Or::This(Composite::new(
+                UnmapOne::new(piece.page, piece.vpage),
+            ))))),
             BatchStage::Deciding(made) => {
                 Or::Other(Or::Other(Or::Other(Or::Other(Composite::new(Decide::new(g, made))))))
             }
@@ -220,10 +220,7 @@ impl<'a> Batch<'a> {
 }
 
 /// The ends of all pieces, in order: those that ended early as they ended, and the ready ones as they were decided.
-pub fn ends_of(
-    prepared: &PieceList<Prepared>,
-    decided: &PieceList<Decided>,
-) -> PieceList<TxnEnd>
+pub fn ends_of(prepared: &PieceList<Prepared>, decided: &PieceList<Decided>) -> PieceList<TxnEnd>
     ensures { result ≡ ends_of prepared.now decided.now }
 {
     let mut ends = PieceList::new();

@@ -28,8 +28,8 @@ returns-in-This-clause-next c = λ g first now later own known shown left over.
     after-batch old c.note.new.self c.step.new.self (Preparing c.in-Preparing.page c.in-Preparing.vpage) c.args.end (This c.in-This.prepared) (txn_parts c.args._piece.now) c.prepare_stage-stage.result g first now later c.step.result
     c.in-Preparing.is c.in-This.is known left (ap (λ (s : Batch). s.geometry.now) c.note.ensures) (ap (λ (s : Batch). s.asked) c.note.ensures) c.step.ensures
     (λ k a. goes-as (batch_made old.asked) (piece_noted c.in-Preparing.page c.in-Preparing.vpage c.in-This.prepared old.place) c.note.new.self.place _ c.prepare_stage-stage.result _ g first later (ap (λ (s : Batch). s.place) c.note.ensures)
-        (c.prepare_stage-stage.ensures ∙ ap (λ (s : Batch). prepare_stage (batch_made s.asked) s.place) c.note.ensures)
-        (after-preparing (batch_made old.asked) old.place c.in-This.prepared c.in-Preparing.page c.in-Preparing.vpage g first now later k a))
+    (c.prepare_stage-stage.ensures ∙ ap (λ (s : Batch). prepare_stage (batch_made s.asked) s.place) c.note.ensures)
+    (after-preparing (batch_made old.asked) old.place c.in-This.prepared c.in-Preparing.page c.in-Preparing.vpage g first now later k a))
 
 pub returns-in-Flushing-clause-next : goal.returns-in-Flushing-clause-next
 returns-in-Flushing-clause-next c = λ g first now later own known shown left over.
@@ -53,9 +53,9 @@ returns-in-Unmapping-clause-next c = λ g first now later own known shown left o
     after-batch old c.note_word.new.self c.step-in-Unmapping.new.self (Unmapping c.in-Unmapping.field-0) c.args.end c.args.end (txn_parts c.args._piece.now) c.unmap_stage-stage.result g first now later c.step-in-Unmapping.result
     c.in-Unmapping.is refl known left (ap (λ (s : Batch). s.geometry.now) c.note_word.ensures) (ap (λ (s : Batch). s.asked) c.note_word.ensures) c.step-in-Unmapping.ensures
     (λ k a. goes-as (batch_made old.asked) (place (txn_word_in c.args.end)) c.note_word.new.self.place (unmap_stage (place (txn_word_in c.args.end))) c.unmap_stage-stage.result _ g first later
-        (ap (λ (s : Batch). s.place) c.note_word.ensures ∙ ap place word)
-        (c.unmap_stage-stage.ensures ∙ (ap (λ (s : Batch). unmap_stage s.place) c.note_word.ensures ∙ ap (λ (w : ℕ). unmap_stage (place w)) word))
-        (goes-unmapped (batch_made old.asked) old.place c.in-Unmapping.field-0 c.args.end g first now later k a))
+    (ap (λ (s : Batch). s.place) c.note_word.ensures ∙ ap place word)
+    (c.unmap_stage-stage.ensures ∙ (ap (λ (s : Batch). unmap_stage s.place) c.note_word.ensures ∙ ap (λ (w : ℕ). unmap_stage (place w)) word))
+    (goes-unmapped (batch_made old.asked) old.place c.in-Unmapping.field-0 c.args.end g first now later k a))
 
 pub returns-in-FlushingAgain-clause-next : goal.returns-in-FlushingAgain-clause-next
 returns-in-FlushingAgain-clause-next c = λ g first now later own known shown left over.
@@ -72,6 +72,6 @@ returns-in-Deciding-clause-next c = λ g first now later own known shown left ov
     after-batch old c.note_decided.new.self c.step-in-Deciding.new.self (Deciding c.in-Deciding.field-0) c.args.end c.args.end (txn_parts c.args._piece.now) c.decide_stage-stage-in-Deciding.result g first now later c.step-in-Deciding.result
     c.in-Deciding.is refl known left (ap (λ (s : Batch). s.geometry.now) c.note_decided.ensures) (ap (λ (s : Batch). s.asked) c.note_decided.ensures) c.step-in-Deciding.ensures
     (λ k a. goes-as (batch_made old.asked) (place (decided_in c.args.end)) c.note_decided.new.self.place (decide_stage (place (decided_in c.args.end))) c.decide_stage-stage-in-Deciding.result _ g first later
-        (ap (λ (s : Batch). s.place) c.note_decided.ensures ∙ ap place end)
-        (c.decide_stage-stage-in-Deciding.ensures ∙ (ap (λ (s : Batch). decide_stage s.place) c.note_decided.ensures ∙ ap (λ (d : Decided). decide_stage (place d)) end))
-        (goes-decided (batch_made old.asked) old.place c.in-Deciding.field-0 c.args.end g first now later k a))
+    (ap (λ (s : Batch). s.place) c.note_decided.ensures ∙ ap place end)
+    (c.decide_stage-stage-in-Deciding.ensures ∙ (ap (λ (s : Batch). decide_stage s.place) c.note_decided.ensures ∙ ap (λ (d : Decided). decide_stage (place d)) end))
+    (goes-decided (batch_made old.asked) old.place c.in-Deciding.field-0 c.args.end g first now later k a))

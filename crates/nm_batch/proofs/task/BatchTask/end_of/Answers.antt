@@ -1,4 +1,4 @@
-use Rattle.std.proofs.Common.{◌≡◌, ◌≤◌, length, drop, sym, ap, ◌∙◌, arith}
+use Rattle.std.proofs.Common.{◌≤◌, length, drop, sym, ap, ◌∙◌, arith}
 use Rattle.nm_batch.proofs.Lists.{drop-over}
 use Rattle.nm_batch.proofs.task.BatchTask.end_of.Goals as goal
 
