@@ -3,4 +3,3 @@ pub mod Runs
 pub mod Steps
 pub mod Moving
 pub mod DemoteSteps
-pub mod Tasks

@@ -5,4 +5,3 @@ pub mod Demotions
 pub mod Leaving
 pub mod Pieces
 pub mod Places
-pub mod Tasks

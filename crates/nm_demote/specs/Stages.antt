@@ -1,8 +1,8 @@
 -- How far the steps of a demotion before the page is taken out of the table have come.
 use Rattle.std.specs.Prelude.{◌≡◌, ◌≢◌, ℕ, ◌+◌, ◌-◌, if◌then◌else◌, List, [], ◌∷◌, Option, Some, None, false}
-use Rattle.nm_base.specs.Geometry.{Geometry, tier_of}
+use Rattle.nm_base.specs.Geometry.{Geometry, IsGeometry, tier_of}
 use Rattle.nm_base.specs.HomeWord.{home_word}
-use Rattle.nm_base.specs.Ranges.{IsTier}
+use Rattle.nm_base.specs.Ranges.{IsFrame, IsTier}
 use Rattle.nm_action.specs.declared.action.Action.{Action}
 use Rattle.nm_action.specs.declared.action.Action.TheVariants.{Lock, Unlock, Read}
 use Rattle.nm_action.specs.declared.action.Cell.TheVariants as cells
@@ -130,10 +130,16 @@ select_piece g made (ReadingShadow home) = This (Read made.page (cells.Shadow ho
 select_piece g made (Looking home shadow) = Other (This (looks_made made.page (vpages_of g made.page)))
 select_piece g made (Obtaining home pages) = Other (Other (g, obtain_for g made home))
 
+-- a frame of the tier after that of this home may be sought
+pub record MaySeekFrom (g : Geometry) (home : ℕ) : Type 0 where
+  pub geometry : IsGeometry g
+  pub range : IsFrame g home
+  pub exists : IsTier g (tier_of g home + 1)
+
 -- the numbers of a stage's piece are in range
 abbrev pub MayGoToSelect : Geometry → DemoteMade → Stage → Type 0
 MayGoToSelect g made (Looking home shadow) = vpages_of g made.page ≢ []
-MayGoToSelect g made (Obtaining home pages) = IsTier g (obtain_for g made home).tier
+MayGoToSelect g made (Obtaining home pages) = MaySeekFrom g home
 MayGoToSelect g made _ = Unit {0}
 
 -- The next stage where there is a choice.

@@ -3,8 +3,6 @@
 
 pub mod demote;
 pub mod select;
-pub mod task;
 
 pub use demote::{Demote, DemoteEnd, DemoteOver, DemotePiece};
 pub use select::{DemoteMade, Early, Select, SelectPiece, Selected};
-pub use task::DemoteTask;

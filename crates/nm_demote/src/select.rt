@@ -2,14 +2,13 @@
 
 ghost use Rattle.std.specs.Prelude.{◌≡◌, ◌≢◌, [], length};
 ghost use Rattle.nm_base.specs.Geometry.{IsGeometry, tier_of};
-ghost use Rattle.nm_base.specs.Ranges.{IsTier};
 ghost use Rattle.nm_base.specs.HomeWord.{IsHomeWord};
 ghost use Rattle.nm_compose.specs.declared.or.Or.{Or};
 ghost use Rattle.nm_mappings.specs.Visiting.{IsNewVisits};
 ghost use Rattle.nm_obtain.specs.Searching.{IsNewObtain};
 ghost use Rattle.nm_demote.specs.Selecting.{has_slower, obtain_for};
 ghost use Rattle.nm_demote.specs.declared.select.Stage.{Stage};
-ghost use Rattle.nm_demote.specs.Stages.{select_piece, select_piece_made, IsNewSelectPiece, MayGoToSelect, demote_lock_stage, demote_home_stage, demote_look_stage, told_in_selecting, found_in_selecting};
+ghost use Rattle.nm_demote.specs.Stages.{select_piece, select_piece_made, IsNewSelectPiece, MaySeekFrom, MayGoToSelect, demote_lock_stage, demote_home_stage, demote_look_stage, told_in_selecting, found_in_selecting};
 
 use nm_base::Geometry;
 use nm_base::shadow_word::shadow_frame;
@@ -125,8 +124,8 @@ impl<'a> Select<'a> {
         requires word { IsHomeWord self.now.geometry.now word }
         ensures { result ≡ has_slower self.now.geometry.now word }
     {
-        word != 0
-            && self.geometry.tier_of((word - 1) as u32) as usize + 1 < self.geometry.tiers.len()
+        let g = self.geometry;
+        word != 0 && g.tier_of((word - 1) as u32) as usize + 1 < g.tiers.len()
     }
 
     /// The stage after the home word was read.
@@ -157,7 +156,7 @@ impl<'a> Select<'a> {
 
     /// The search for a frame of the tier after that of a home.
     fn obtain(&self, home: u32) -> Obtain<'a>
-        requires { IsTier self.now.geometry.now (obtain_for self.now.geometry.now self.now.made home).tier }
+        requires { MaySeekFrom self.now.geometry.now home }
         ensures geometry { result.geometry.now ≡ self.now.geometry.now }
         ensures made { result.made ≡ obtain_for self.now.geometry.now self.now.made home }
         ensures new { IsNewObtain result }
@@ -265,7 +264,7 @@ fn looks<'a>(plan: VisitPlan) -> SelectPiece<'a>
 /// The piece that seeks a frame.
 fn search<'a>(plan: Obtain<'a>) -> SelectPiece<'a>
     requires { IsNewObtain plan }
-    ensures made { select_piece_made result ≡ Or.Other (Or.Other (record { 0 = plan.geometry.now; 1 = plan.made })) }
+    ensures made { select_piece_made result ≡ Or.Other (Or.Other (record { 0 = plan.entry.geometry.now; 1 = plan.entry.made })) }
     ensures new { IsNewSelectPiece result }
 {
     Or::Other(Or::Other(Composite::new(plan)))

@@ -1,17 +1,13 @@
 //! The demotion as a part of an actor's work.
 
 ghost use Rattle.std.specs.Prelude.{◌≡◌, ◌-◌, ◌^◌, min, IfOk};
-ghost use Rattle.nm_base.specs.Geometry.{Geometry};
-ghost use Rattle.nm_action.specs.declared.action.Action.{Action};
 ghost use Rattle.nm_action.specs.Own.{Own};
-ghost use Rattle.nm_view.specs.Views.{View};
 ghost use Rattle.nm_obtain.specs.Freed.{freed_inside};
-ghost use Rattle.nm_demote.specs.Tasks.{demote_task_made, IsDemoteIdle, IsNewDemotion, IsDemotionAwaited, IsDemotionEnded};
+ghost use Rattle.nm_demote_task.specs.Tasks.{demote_task_made, IsDemoteIdle, IsNewDemotion, CountsFreed};
 
-use crate::demote::{Demote, DemoteEnd, DemotePiece};
-use crate::select::DemoteMade;
 use nm_base::Geometry;
 use nm_compose::Composite;
+use nm_demote::{Demote, DemoteEnd, DemoteMade, DemotePiece};
 use nm_event::{Action, Reply, Spent, Step};
 use nm_obtain::FreedCount;
 use nm_part::{Part, Piece};
@@ -65,20 +61,14 @@ impl<'a> DemoteTask<'a> {
         };
         self.made = DemoteMade { page, spent };
         self.freed = FreedCount::new(page);
-        self.run = Some(Composite::new(Demote::new(
-            self.geometry,
-            page,
-            spent,
-            taken,
-        )));
+        let plan = Demote::new(self.geometry, page, spent, taken);
+        self.run = Some(Composite::new(plan));
     }
 
-    /// How many shadows were reclaimed in the search for a frame so far; a count that has reached 2^64 - 1 stays there.
+    /// How many shadows were reclaimed in the search for a frame so far, by the own list since the work began; a count that
+    /// has reached 2^64 - 1 stays there.
     pub fn freed(&self) -> u64
-        ensures running { (g : Geometry) (view : View) (own : Own) (action : Action)
-            → IsDemotionAwaited ⟦<DemoteRun<'a> as Part>⟧.awaits ⟦<DemoteRun<'a> as Part>⟧.made self.now g view own action
-            → result ≡ min (freed_inside self.now.made.page own) (2 ^ 64 - 1) }
-        ensures over { (own : Own) → IsDemotionEnded self.now own → result ≡ min (freed_inside self.now.made.page own) (2 ^ 64 - 1) }
+        ensures { (own : Own) → CountsFreed self.now own → result ≡ min (freed_inside self.now.made.page own) (2 ^ 64 - 1) }
     {
         self.freed.freed()
     }
@@ -92,7 +82,7 @@ impl<'a> Part for DemoteTask<'a> {
     ghost use Rattle.nm_demote.specs.Selections.{MayDemote};
     ghost use Rattle.nm_demote.specs.Demotions.{IsDemotion};
     ghost use Rattle.nm_demote.specs.Leaving.{IsDemoteLeft};
-    ghost use Rattle.nm_demote.specs.Tasks.{demote_task_made, IsNewDemotion, IsDemotionAwaited, IsDemotionEnded};
+    ghost use Rattle.nm_demote_task.specs.Tasks.{demote_task_made, IsNewDemotion, IsDemotionAwaited, IsDemotionEnded};
 
     ghost made = { demote_task_made };
 
