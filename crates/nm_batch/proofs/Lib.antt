@@ -1,7 +1,6 @@
 pub mod Lists
 pub mod Pieces
 pub mod Opened
-pub mod Ends
 pub mod Ending
 pub mod Steps
 pub mod Copying

@@ -71,10 +71,6 @@ once-front key y [] ys h = refl
 once-front {A} key y (x ∷ xs) ys h =
     absent-more key (key y) x xs (λ e. let P : ℕ → Type 0 = λ n. find key n (xs ++ y ∷ ys) ≡ None in absent-head key (key y) y ys (absent-rest key (key y) xs (y ∷ ys) (subst P e h.0)) refl) (once-front key y xs ys h.1)
 
-pub once-rest : {A : Type 0} (key : A → ℕ) (xs ys : List A) → Once key (xs ++ ys) → Once key ys
-once-rest key [] ys h = h
-once-rest key (x ∷ xs) ys h = once-rest key xs ys h.1
-
 pub absent-swap : {A : Type 0} (key : A → ℕ) (k : ℕ) (y z : A) (xs ys : List A) → key z ≡ key y → find key k (xs ++ y ∷ ys) ≡ None → find key k (xs ++ z ∷ ys) ≡ None
 absent-swap key k y z [] ys same a = grind arith
 absent-swap key k y z (x ∷ xs) ys same a = grind (arith, absent-swap key k y z xs ys)

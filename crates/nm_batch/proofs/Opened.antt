@@ -10,28 +10,24 @@ use Rattle.nm_view.specs.Lists.{find, edit, erase}
 use Rattle.nm_view.specs.Views.{Op, View}
 use Rattle.nm_view.specs.Operations.{page_of, owned_frame}
 use Rattle.nm_view.proofs.Finds.{once_map, once_join, absent_map}
-use Rattle.nm_view.proofs.Items.{all_head, all_tail, more, none_left, all_join, all_map, all_same}
+use Rattle.nm_view.proofs.Items.{all_head, all_tail, all_join, all_map, all_same}
 use Rattle.nm_event.specs.After.{filled, spoiled, spoiled_frame, spoiled_fill}
 use Rattle.nm_txn.specs.declared.batch.ReadyPiece.{ReadyPiece}
 use Rattle.nm_txn.specs.Batches.{BatchMade}
 use Rattle.nm_batch.specs.Leaving.{spoiled_each}
 use Rattle.nm_batch.specs.Opened.{OpenPiece, open_ready, open_page, open_frame, open_op, open_word, open_owned, owned_with, with_open, IsOpenPiece, AreApart, HasOpen}
-use Rattle.nm_batch.proofs.Lists.{find-middle, edit-middle, erase-middle, absent-both, absent-front, absent-rest, absent-tail, absent-more, absent-made, absent-origin, once-front, once-swap, absent-swap, all-rest, all-swap, all-with}
+use Rattle.nm_batch.proofs.Lists.{find-middle, edit-middle, erase-middle, absent-both, absent-front, absent-rest, absent-tail, absent-more, absent-made, absent-origin, once-front, once-swap, absent-swap, all-front, all-rest, all-swap, all-with}
 
 -- The piece in the middle.
 
 pub all-middle : {A : Type 0} (P : A → Type 0) (xs ys : List A) (y : A) → All P (xs ++ y ∷ ys) → P y
 all-middle P xs ys y h = all_head P y ys (all-rest P xs (y ∷ ys) h)
 
-all-before : {A : Type 0} (P : A → Type 0) (xs ys : List A) → All P (xs ++ ys) → All P xs
-all-before P [] ys h = none_left P
-all-before P (x ∷ xs) ys h = more P x xs (all_head P x (xs ++ ys) h) (all-before P xs ys (all_tail P x (xs ++ ys) h))
-
 -- no operation before it is on its page
 page-free : (made : BatchMade) (g : Geometry) (base : List Owned) (done rest : List OpenPiece) (p : OpenPiece) → All (IsOpenPiece made g) (done ++ p ∷ rest) → AreApart base (done ++ p ∷ rest) → find page_of p.piece.page (map open_op done) ≡ None
 page-free made g base done rest p each apart =
     absent-made open_page page_of open_op p.piece.page done
-    (all_same (IsOpenPiece made g) (λ (x : OpenPiece). page_of (open_op x) ≡ open_page x) done (λ x h. h.of) (all-before (IsOpenPiece made g) done (p ∷ rest) each))
+    (all_same (IsOpenPiece made g) (λ (x : OpenPiece). page_of (open_op x) ≡ open_page x) done (λ x h. h.of) (all-front (IsOpenPiece made g) done (p ∷ rest) each))
     (once-front open_page p done rest apart.pages)
 
 -- its frame is not owned before it
