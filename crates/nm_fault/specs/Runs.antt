@@ -5,7 +5,6 @@ use Rattle.nm_action.specs.declared.action.Action.{Action}
 use Rattle.nm_action.specs.Own.{Own}
 use Rattle.nm_view.specs.Views.{View}
 use Rattle.nm_compose.specs.declared.act.Act.{Act}
-use Rattle.nm_compose.specs.declared.composite.Composite.{Composite}
 use Rattle.nm_compose.specs.Acts.{IsAct}
 use Rattle.nm_compose.specs.Choices.{AwaitsOr}
 use Rattle.nm_compose.specs.Composites.{HasFirst, IsRunning}
@@ -16,7 +15,7 @@ use Rattle.nm_copying.specs.Zeroing.{IsZeroing, zeroes_left, zeroes_stages}
 use Rattle.nm_shadow_fault.specs.declared.locks.Locks.{Locks}
 use Rattle.nm_shadow_fault.specs.Locking.{AwaitsLock}
 use Rattle.nm_shadow_fault.specs.ShadowFault.{IsShadowFault}
-use Rattle.nm_shadow_fault.specs.Granting.{FaultsMade, fault_made, MayFault, FaultPiece, fault_piece_made, IsNewFaultPiece, MayFaultPiece, IsFaultPiece, fault_left, shadow_stages}
+use Rattle.nm_shadow_fault.specs.Granting.{FaultsMade, fault_made, MayFault, fault_piece_made, IsNewFaultPiece, MayFaultPiece, IsFaultPiece, fault_left, shadow_stages}
 use Rattle.nm_missing_fault.specs.SearchTasks.{AwaitsSearch}
 use Rattle.nm_missing_fault.specs.MissingFault.{IsMissingFault}
 use Rattle.nm_missing_fault.specs.Pieces.{ZeroesPart, missing_piece_made, IsNewMissingPiece, MayMissingPiece, IsMissingPiece}

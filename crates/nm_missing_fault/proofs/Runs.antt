@@ -1,5 +1,5 @@
 -- The pieces of the fault on a virtual page that is not mapped, each at its stage.
-use Rattle.std.proofs.Common.{◌≡◌, ◌≢◌, ℕ, ◌-◌, ◌≤◌, ◌==◌, not, Bool, true, false, List, [], ◌∷◌, ◌++◌, Option, Some, None, IsSomeAnd, refl, sym, ap, ◌∙◌, subst, inl, arith}
+use Rattle.std.proofs.Common.{◌≡◌, ◌≢◌, ℕ, ◌-◌, ◌==◌, not, Bool, true, false, List, [], ◌∷◌, ◌++◌, Option, Some, None, IsSomeAnd, refl, sym, ap, subst, inl, arith}
 use Rattle.std.proofs.lemmas.List.Elements.{All-nil, All-cons}
 use Rattle.nm_base.specs.Geometry.{Geometry, IsGeometry}
 use Rattle.nm_base.specs.HomeWord.{home_word}
@@ -12,7 +12,7 @@ use Rattle.nm_view.specs.declared.view.Fill.{Fill}
 use Rattle.nm_view.specs.declared.view.Fill.TheVariants.{Raw, Zeroed}
 use Rattle.nm_view.specs.declared.view.Owned.{Owned}
 use Rattle.nm_view.specs.Lists.{find}
-use Rattle.nm_view.specs.Operations.{page_of, op_on, op_of, op_under, fill_of}
+use Rattle.nm_view.specs.Operations.{page_of, op_on, op_under, fill_of}
 use Rattle.nm_view.specs.Views.{Op, View}
 use Rattle.nm_permit.specs.Permitted.{MayUnlock, MayMap, MaySetHome}
 use Rattle.nm_part.specs.Patterns.{Ends, Follows, CanEnd}
@@ -38,7 +38,7 @@ use Rattle.nm_shadow_fault.specs.declared.fault.FaultEnd.{FaultEnd}
 use Rattle.nm_shadow_fault.specs.declared.fault.FaultEnd.TheVariants.{Demand, Alias, Ready}
 use Rattle.nm_shadow_fault.specs.declared.fault.FaultMade.{FaultMade}
 use Rattle.nm_shadow_fault.specs.Locking.{LocksPage}
-use Rattle.nm_shadow_fault.specs.Granting.{fault_made, MayFault, IsFaulted, fault_op, with_op, IsAtLook, IsFaultLooked}
+use Rattle.nm_shadow_fault.specs.Granting.{fault_made, MayFault, IsFaulted, fault_op, IsAtLook, IsFaultLooked}
 use Rattle.nm_shadow_fault.proofs.Locked.{some-lock}
 use Rattle.nm_shadow_fault.proofs.Granting.{same-number, known-there}
 use Rattle.nm_missing_fault.specs.declared.missing.MissingFault.{MissingFault}

@@ -1,16 +1,15 @@
 -- The steps of a search for a frame.
-use Rattle.std.proofs.Common.{◌≡◌, ℕ, suc, ◌+◌, ◌^◌, ◌<◌, ◌≤◌, nat_lt, if◌then◌else◌, Bool, true, false, List, [], ◌∷◌, ◌++◌, length, Option, Some, None, refl, sym, ap, ◌∙◌, subst, arith}
-use Rattle.nm_base.specs.Geometry.{Geometry, IsGeometry}
+use Rattle.std.proofs.Common.{◌≡◌, ℕ, ◌+◌, ◌^◌, ◌<◌, ◌≤◌, nat_lt, if◌then◌else◌, Bool, true, false, List, [], ◌∷◌, ◌++◌, length, Option, Some, None, refl, sym, ap, ◌∙◌, subst, arith}
+use Rattle.nm_base.specs.Geometry.{Geometry}
 use Rattle.nm_base.specs.Ranges.{IsTier}
 use Rattle.nm_base.proofs.Tiers.{IsInTier-lt}
 use Rattle.nm_action.specs.Own.{Own}
 use Rattle.nm_view.specs.declared.view.Fill.TheVariants.{Raw}
 use Rattle.nm_view.specs.declared.view.Owned.{Owned}
-use Rattle.nm_view.specs.declared.view.Scanned.{Scanned}
 use Rattle.nm_view.specs.Operations.{owned_frame}
 use Rattle.nm_view.specs.Opening.{unscanned}
 use Rattle.nm_view.specs.Views.{Op, View}
-use Rattle.nm_part.specs.Patterns.{Follows, Sometimes, CanEnd}
+use Rattle.nm_part.specs.Patterns.{Follows, Sometimes}
 use Rattle.nm_part.proofs.Patterns.{can-sometimes}
 use Rattle.nm_compose.specs.declared.or.Or.TheVariants.{This, Other}
 use Rattle.nm_compose.specs.Plans.{IsPieceRun, IsOver}

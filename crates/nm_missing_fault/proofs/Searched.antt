@@ -1,5 +1,5 @@
 -- Searches have finished lists.
-use Rattle.std.proofs.Common.{◌≡◌, ◌≢◌, ℕ, zero, suc, ◌+◌, ◌-◌, ◌<◌, ◌≤◌, nat_le, Bool, true, false, List, [], ◌∷◌, ◌++◌, All, Option, Some, None, length, replicate, slice_index, sum_by, count_ones, refl, sym, ap, ◌∙◌, append-nil, arith}
+use Rattle.std.proofs.Common.{◌≡◌, ◌≢◌, ℕ, zero, suc, ◌+◌, ◌-◌, ◌<◌, ◌≤◌, nat_le, Bool, true, false, List, [], ◌∷◌, ◌++◌, All, Option, Some, None, length, replicate, slice_index, sum_by, count_ones, refl, arith}
 use Rattle.std.specs.List.{range_with_len}
 use Rattle.std.proofs.lemmas.List.{length-replicate}
 use Rattle.std.proofs.lemmas.List.Elements.{All-nil, All-cons, All-head, All-tail}
@@ -16,7 +16,7 @@ use Rattle.nm_part.proofs.Patterns.{can-ends, can-follow, can-sometimes}
 use Rattle.nm_pool.specs.declared.job.PoolEnd.TheVariants as pools
 use Rattle.nm_pool.specs.declared.job.PoolJob.{PoolJob}
 use Rattle.nm_pool.specs.declared.job.PoolJob.TheVariants.{Take}
-use Rattle.nm_pool.specs.Pool.{IsPool, IsFree, IsLeastFree, tier_for, scanned, free_bits}
+use Rattle.nm_pool.specs.Pool.{IsPool, IsLeastFree, tier_for, scanned, free_bits}
 use Rattle.nm_pool.proofs.Begun.{some-pool}
 use Rattle.nm_missing_fault.specs.declared.search.SearchMade.{SearchMade}
 use Rattle.nm_obtain.specs.Obtains.{IsObtain}

@@ -1,5 +1,5 @@
 -- The steps of the fault on a virtual page that is not mapped, each at its stage, whatever its piece ends with.
-use Rattle.std.proofs.Common.{◌≡◌, ◌≢◌, ℕ, ◌-◌, ◌==◌, not, Bool, false, None, refl, sym, subst}
+use Rattle.std.proofs.Common.{◌≡◌, ◌≢◌, ℕ, ◌-◌, ◌==◌, not, Bool, false, refl, sym, subst}
 use Rattle.nm_base.specs.Geometry.{Geometry}
 use Rattle.nm_base.specs.Ranges.{IsFrame}
 use Rattle.nm_action.specs.declared.action.Action.{Action}

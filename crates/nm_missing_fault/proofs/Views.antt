@@ -9,9 +9,9 @@ use Rattle.nm_view.specs.declared.view.Fill.{Fill}
 use Rattle.nm_view.specs.declared.view.Fill.TheVariants.{Raw, Zeroed}
 use Rattle.nm_view.specs.declared.view.Owned.{Owned}
 use Rattle.nm_view.specs.declared.view.Scanned.{Scanned}
-use Rattle.nm_view.specs.Lists.{find, edit, erase}
+use Rattle.nm_view.specs.Lists.{edit, erase}
 use Rattle.nm_view.specs.Opening.{opened}
-use Rattle.nm_view.specs.Operations.{page_of, owned_frame, fill_of}
+use Rattle.nm_view.specs.Operations.{owned_frame, fill_of}
 use Rattle.nm_view.specs.Views.{Op, View}
 use Rattle.nm_view.proofs.Finds.{find_join}
 use Rattle.nm_event.specs.After.{after_of, filled, spoiled}
@@ -26,7 +26,7 @@ use Rattle.nm_reclaim.proofs.Views.{forgets-none, forgets-more}
 use Rattle.nm_missing_fault.specs.Found.{IsFound}
 use Rattle.nm_shadow_fault.specs.declared.fault.FaultMade.{FaultMade}
 use Rattle.nm_shadow_fault.specs.Locking.{LeavesLocked}
-use Rattle.nm_shadow_fault.specs.Granting.{FaultsMade, fault_made, MayFault, fault_op, with_op, IsAtLock, IsAtLook}
+use Rattle.nm_shadow_fault.specs.Granting.{fault_made, fault_op, with_op, IsAtLock, IsAtLook}
 use Rattle.nm_shadow_fault.proofs.Granting.{same-number, erases-it, told-there, looked-view, read-view, read-shadow}
 use Rattle.nm_missing_fault.specs.Stages.{IsMissing, IsAtShadowOf, with_scan, IsWithFrame, homed_op, IsAtMap, IsMapped}
 

@@ -2,9 +2,8 @@
 use Rattle.std.proofs.Common.{◌≡◌, ℕ, ◌^◌, ◌<◌, ◌≤◌, ◌==◌, ◌&&◌, not, Bool, true, false, Option, Some, None, IsTrue, refl, sym, ap, ◌∙◌, inr, arith}
 use Rattle.nm_base.specs.Geometry.{Geometry, IsWritable, tier_of, vpage_at, frame_count}
 use Rattle.nm_base.specs.HomeWord.{home_word}
-use Rattle.nm_base.specs.PageWord.{is_writable, is_saved, is_dirty, frame_of}
 use Rattle.nm_base.specs.declared.geometry.VPage.{VPage}
-use Rattle.nm_view.specs.Views.{Op, View}
+use Rattle.nm_view.specs.Views.{View}
 use Rattle.nm_permit.specs.Permitted.{MayMap, IsWordNew}
 use Rattle.nm_shadow_fault.specs.declared.fault.FaultMade.{FaultMade}
 use Rattle.nm_shadow_fault.proofs.Granting.{same-number}

@@ -28,7 +28,7 @@ use Rattle.nm_obtain.specs.Searching.{ObtainPiece, obtain_parts, IsNewObtainPiec
 use Rattle.nm_missing_fault.specs.declared.search.SearchMade.{SearchMade}
 use Rattle.nm_missing_fault.specs.declared.search.SearchStage.{SearchStage}
 use Rattle.nm_missing_fault.specs.declared.search.SearchStage.TheVariants.{New, TakingAboveLow, Obtaining, TakingLast}
-use Rattle.nm_missing_fault.specs.Searching.{low_mark, found_in, FoundOr, TakesLast, SeeksFrom, Rounds}
+use Rattle.nm_missing_fault.specs.Searching.{low_mark, found_in, FoundOr, SeeksFrom, Rounds}
 use Rattle.nm_missing_fault.specs.Found.{MaySearch}
 
 -- Pieces: a task on the free frames, or a frame of a tier is sought.

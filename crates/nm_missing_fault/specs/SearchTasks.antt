@@ -12,12 +12,12 @@ use Rattle.nm_prepare.specs.Placing.{IsPlanPlaced}
 use Rattle.nm_pool.specs.Stages.{AwaitsPool}
 use Rattle.nm_reclaim.specs.Sweeping.{IsSweep, IsSweepPiece, sweep_piece_made, sweep_left, sweep_stages}
 use Rattle.nm_obtain.specs.Obtains.{IsObtain}
-use Rattle.nm_obtain.specs.Searching.{SweepPart, sweep_part_made, ObtainPiece, obtain_parts, IsObtainPiece, obtain_left, obtain_stages}
+use Rattle.nm_obtain.specs.Searching.{SweepPart, sweep_part_made, obtain_parts, IsObtainPiece, obtain_left, obtain_stages}
 use Rattle.nm_missing_fault.specs.declared.search.SearchMade.{SearchMade}
 use Rattle.nm_missing_fault.specs.declared.search.SearchTask.{SearchTask}
 use Rattle.nm_missing_fault.specs.Searching.{IsSearch}
 use Rattle.nm_missing_fault.specs.Found.{MaySearch}
-use Rattle.nm_missing_fault.specs.SearchStages.{ObtainPart, obtain_part_made, SearchPiece, search_piece_made, IsNewSearchPiece, MaySearchPiece, IsSearchPiece, search_piece_of, search_left, KnownInSearch}
+use Rattle.nm_missing_fault.specs.SearchStages.{ObtainPart, obtain_part_made, search_piece_made, IsNewSearchPiece, MaySearchPiece, IsSearchPiece, search_piece_of, search_left, KnownInSearch}
 
 -- what it was begun with, in which geometry
 abbrev pub search_of : SearchTask → Geometry × SearchMade

@@ -1,7 +1,7 @@
-use Rattle.std.proofs.Common.{◌≡◌, ℕ, ◌-◌, ◌==◌, ◌∙◌, not, Bool, false, refl, sym, ap, subst}
+use Rattle.std.proofs.Common.{ℕ, ◌-◌, ◌==◌, ◌∙◌, not, false, sym, subst}
 use Rattle.nm_shadow_fault.specs.declared.fault.FaultEnd.TheVariants.{Demand, Alias, Ready}
 use Rattle.nm_missing_fault.specs.declared.missing.MissingStage.TheVariants.{Locking, Looking, Leaving, ReadingHome, ReadingShadow, Searching, Zeroing, SettingHome, Mapping, Unlocking}
-use Rattle.nm_missing_fault.specs.Pieces.{missing_piece_made, missing_told, missing_found}
+use Rattle.nm_missing_fault.specs.Pieces.{missing_piece_made}
 use Rattle.nm_missing_fault.specs.Stages.{missing_left}
 use Rattle.nm_missing_fault.proofs.Runs.{RunsMissing, step-missing, over-missing}
 use Rattle.nm_missing_fault.proofs.Steps.{after-locking, after-looking, after-looking-mapped, after-leaving, after-home, after-home-known, after-shadow, after-search, after-zeroes, after-set, after-map, after-unlock, shadow-frame, set-frame}
