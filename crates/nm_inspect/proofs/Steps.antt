@@ -1,5 +1,5 @@
 -- The steps of an inspection, each at its stage.
-use Rattle.std.proofs.Common.{◌≡◌, ◌≢◌, ℕ, ◌&&◌, ◌||◌, if◌then◌else◌, Bool, true, false, List, [], ◌∷◌, map, All, Some, refl, sym, ap, ◌∙◌, subst}
+use Rattle.std.proofs.Common.{◌≡◌, ℕ, ◌&&◌, ◌||◌, if◌then◌else◌, Bool, true, false, List, [], ◌∷◌, map, All, Some, refl, sym, ap, ◌∙◌, subst}
 use Rattle.std.specs.List.{filter, list_any}
 use Rattle.nm_base.specs.Geometry.{Geometry, backing_page}
 use Rattle.nm_base.specs.Ranges.{IsVPage}
@@ -30,7 +30,7 @@ use Rattle.nm_inspect.specs.declared.inspect.InspectStage.TheVariants.{Looking, 
 use Rattle.nm_inspect.specs.declared.inspect.Inspected.{Inspected}
 use Rattle.nm_inspect.specs.declared.inspect.Inspected.TheVariants.{Elsewhere, InUse, Idle}
 use Rattle.nm_inspect.specs.Inspecting.{InspectData, SoftensInUse, AfterInspectLooks, IsInspection, MayInspect}
-use Rattle.nm_inspect.specs.Stages.{inspect_data, InspectPieceMade, InspectPieceEnd, MayInspectPiece, IsInspectPiece, InspectPieceLeaves, InspectPiece, inspect_piece_made, IsNewInspectPiece, seen_in, inspect_piece, inspect_left, IsInspecting, KnownInInspect, inspect_stages}
+use Rattle.nm_inspect.specs.Stages.{inspect_data, InspectPieceMade, InspectPieceEnd, MayInspectPiece, IsInspectPiece, InspectPieceLeaves, InspectPiece, inspect_piece_made, IsNewInspectPiece, seen_in, inspect_piece, inspect_left, IsInspecting, inspect_stages}
 
 -- What is left.
 

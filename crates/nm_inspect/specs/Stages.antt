@@ -1,7 +1,6 @@
 -- How far an inspection has come.
-use Rattle.std.specs.Prelude.{◌≡◌, ◌≢◌, ℕ, List, [], All}
+use Rattle.std.specs.Prelude.{◌≡◌, ◌≢◌, ℕ, List, []}
 use Rattle.nm_base.specs.Geometry.{Geometry}
-use Rattle.nm_base.specs.Ranges.{IsVPage}
 use Rattle.nm_action.specs.Own.{Own}
 use Rattle.nm_view.specs.Views.{View}
 use Rattle.nm_part.specs.Patterns.{Ends}
