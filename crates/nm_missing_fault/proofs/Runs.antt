@@ -44,9 +44,9 @@ use Rattle.nm_shadow_fault.proofs.Granting.{same-number, known-there}
 use Rattle.nm_missing_fault.specs.declared.missing.MissingFault.{MissingFault}
 use Rattle.nm_missing_fault.specs.declared.missing.MissingStage.{MissingStage}
 use Rattle.nm_missing_fault.specs.declared.missing.MissingStage.TheVariants.{Locking, Looking, Leaving, ReadingHome, ReadingShadow, Searching, Zeroing, SettingHome, Mapping, Unlocking}
-use Rattle.nm_missing_fault.specs.MissingFault.{missing_word, Maps, SetsHome, Zeroes, Demands, Aliases, MissingAfterHome, MissingAfterLook, IsMissingFault}
+use Rattle.nm_missing_fault.specs.MissingFault.{missing_word, MapsVPage, SetsFirstHome, ZeroesFrame, Demands, Aliases, MissingAfterHome, MissingAfterLook, IsMissingFault}
 use Rattle.nm_missing_fault.specs.Pieces.{MissingPieceMade, MissingPieceEnd, MayMissingPiece, IsMissingPiece, LeavesMissingPiece, missing_told, missing_found}
-use Rattle.nm_missing_fault.specs.Stages.{missing_piece_of, missing_left, IsMissing, IsAtShadowOf, with_scan, IsWithFrame, homed_op, IsAtMap, IsMapped, KnownInMissing}
+use Rattle.nm_missing_fault.specs.Stages.{missing_piece_of, missing_left, IsMissing, IsAtShadowOf, with_scan, IsWithFrame, homed_op, IsAtMap, IsFaultMapped, KnownInMissing}
 use Rattle.nm_missing_fault.proofs.Views.{fill-there}
 use Rattle.nm_missing_fault.proofs.Written.{may-map}
 
@@ -69,25 +69,25 @@ OtherShapes = IsOr IsAct FrameShapes
 can-unlock : (g : Geometry) (made : FaultMade) (end : FaultEnd) → CanEnd (Follows (IsAct (Unlock made.page) g) (λ unlocked. Ends end))
 can-unlock g made end = can-follow (IsAct (Unlock made.page) g) (λ unlocked. Ends end) (some-act (Unlock made.page) g) (can-ends end)
 
-can-maps : (g : Geometry) (made : FaultMade) (frame : ℕ) (shadowed : Bool) (end : FaultEnd) → CanEnd (Maps g made frame shadowed end)
+can-maps : (g : Geometry) (made : FaultMade) (frame : ℕ) (shadowed : Bool) (end : FaultEnd) → CanEnd (MapsVPage g made frame shadowed end)
 can-maps g made frame shadowed end =
     can-follow (IsAct (Map made.vpage (missing_word g made.vpage frame shadowed)) g) (λ mapped. Follows (IsAct (Unlock made.page) g) (λ unlocked. Ends end))
     (some-act (Map made.vpage (missing_word g made.vpage frame shadowed)) g) (can-unlock g made end)
 
-can-sets : (g : Geometry) (made : FaultMade) (frame : ℕ) → CanEnd (SetsHome g made frame)
-can-sets g made frame = can-follow (IsAct (SetHome made.page frame) g) (λ set. Maps g made frame false Demand) (some-act (SetHome made.page frame) g) (can-maps g made frame false Demand)
+can-sets : (g : Geometry) (made : FaultMade) (frame : ℕ) → CanEnd (SetsFirstHome g made frame)
+can-sets g made frame = can-follow (IsAct (SetHome made.page frame) g) (λ set. MapsVPage g made frame false Demand) (some-act (SetHome made.page frame) g) (can-maps g made frame false Demand)
 
-can-zeroes : (g : Geometry) (made : FaultMade) (frame : ℕ) → CanEnd (Zeroes g made frame)
+can-zeroes : (g : Geometry) (made : FaultMade) (frame : ℕ) → CanEnd (ZeroesFrame g made frame)
 can-zeroes g made frame =
-    can-follow (IsZeroing (record { frame = frame; words = g.words }) g) (λ zeroed. SetsHome g made frame) (some-zeroes (record { frame = frame; words = g.words }) g) (can-sets g made frame)
+    can-follow (IsZeroing (record { frame = frame; words = g.words }) g) (λ zeroed. SetsFirstHome g made frame) (some-zeroes (record { frame = frame; words = g.words }) g) (can-sets g made frame)
 
 can-demands : (g : Geometry) (made : FaultMade) → IsGeometry g → CanEnd (Demands g made)
 can-demands g made fine =
-    can-follow (IsSearch (record { page = made.page }) g) (λ frame. Zeroes g made frame) (some-search (record { page = made.page }) g fine) (can-zeroes g made (some-search (record { page = made.page }) g fine).outcome)
+    can-follow (IsSearch (record { page = made.page }) g) (λ frame. ZeroesFrame g made frame) (some-search (record { page = made.page }) g fine) (can-zeroes g made (some-search (record { page = made.page }) g fine).outcome)
 
 can-aliases : (g : Geometry) (made : FaultMade) (home : ℕ) → CanEnd (Aliases g made home)
 can-aliases g made home =
-    can-follow (IsAct (Read made.page (Shadow home)) g) (λ reply. Maps g made home (not (word_in reply == 0)) Alias) (some-act (Read made.page (Shadow home)) g)
+    can-follow (IsAct (Read made.page (Shadow home)) g) (λ reply. MapsVPage g made home (not (word_in reply == 0)) Alias) (some-act (Read made.page (Shadow home)) g)
     (can-maps g made home (not (word_in (some-act (Read made.page (Shadow home)) g).outcome == 0)) Alias)
 
 can-after-home : (g : Geometry) (made : FaultMade) (word : ℕ) → IsGeometry g → CanEnd (MissingAfterHome g made word)
@@ -208,7 +208,7 @@ runs-search made word g first now none at =
     }
 
 -- Its words are set to 0.
-pub runs-zeroes : (made : FaultMade) (frame : ℕ) (g : Geometry) (first now : View) → IsWithFrame made frame Raw g first now → RunsMissing made (Zeroing frame) (Zeroes g made frame) g first now
+pub runs-zeroes : (made : FaultMade) (frame : ℕ) (g : Geometry) (first now : View) → IsWithFrame made frame Raw g first now → RunsMissing made (Zeroing frame) (ZeroesFrame g made frame) g first now
 runs-zeroes made frame g first now at = record {
   begin = record { geometry = at.may.geometry; words = refl; frame = at.exists; fill = fill-there made frame Raw g first now at };
   known = record { geometry = refl; is = refl; holds = at };
@@ -228,11 +228,11 @@ op-there first o owned now page Said is of said =
     subst L (sym ops) (subst N of (rw (same-number o.page) said))
 
 -- The frame is the home.
-pub runs-set : (made : FaultMade) (frame : ℕ) (g : Geometry) (first now : View) → IsWithFrame made frame (Zeroed g.words) g first now → RunsMissing made (SettingHome frame) (SetsHome g made frame) g first now
+pub runs-set : (made : FaultMade) (frame : ℕ) (g : Geometry) (first now : View) → IsWithFrame made frame (Zeroed g.words) g first now → RunsMissing made (SettingHome frame) (SetsFirstHome g made frame) g first now
 runs-set made frame g first now at =
     let o : Op = fault_op made first 0 (Some 0) None in
     let F : Option Fill → Type 0 = λ f. MaySetHome g f o in
-    runs-act made (SettingHome frame) (SetHome made.page frame) (SetsHome g made frame) g first now refl
+    runs-act made (SettingHome frame) (SetHome made.page frame) (SetsFirstHome g made frame) g first now refl
     (record {
       quiet = tt;
       allowed = record {
@@ -245,12 +245,12 @@ runs-set made frame g first now at =
 
 -- v is mapped.
 pub runs-map : (made : FaultMade) (frame : ℕ) (shadowed : Bool) (end : FaultEnd) (g : Geometry) (first now : View) → IsAtMap made frame shadowed g first now
-    → RunsMissing made (Mapping frame shadowed end) (Maps g made frame shadowed end) g first now
+    → RunsMissing made (Mapping frame shadowed end) (MapsVPage g made frame shadowed end) g first now
 runs-map made frame shadowed end g first now at =
     let word : ℕ = missing_word g made.vpage frame shadowed in
     let o : Op = homed_op made first 0 frame (Some at.shadow) at.moved in
     let B : Option ℕ → Type 0 = λ b. IsSomeAnd (op_under now b) (MayMap g made.vpage word) in
-    runs-act made (Mapping frame shadowed end) (Map made.vpage word) (Maps g made frame shadowed end) g first now refl
+    runs-act made (Mapping frame shadowed end) (Map made.vpage word) (MapsVPage g made frame shadowed end) g first now refl
     (record {
       quiet = tt;
       allowed = record {
@@ -261,7 +261,7 @@ runs-map made frame shadowed end g first now at =
     (λ e. can-unlock g made end) (λ own outcome f. f)
 
 -- The page is unlocked.
-pub runs-unlock : (made : FaultMade) (frame : ℕ) (shadowed : Bool) (outcome : FaultEnd) (end : MissingPieceEnd) (g : Geometry) (first now : View) → IsMapped made g first now
+pub runs-unlock : (made : FaultMade) (frame : ℕ) (shadowed : Bool) (outcome : FaultEnd) (end : MissingPieceEnd) (g : Geometry) (first now : View) → IsFaultMapped made g first now
     → RunsMissing made (Unlocking outcome) (missing_left made (Mapping frame shadowed outcome) g end) g first now
 runs-unlock made frame shadowed outcome end g first now at =
     let o : Op = homed_op made first at.look at.frame at.shadow at.moved in

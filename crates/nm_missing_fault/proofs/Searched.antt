@@ -21,7 +21,7 @@ use Rattle.nm_pool.proofs.Begun.{some-pool}
 use Rattle.nm_missing_fault.specs.declared.search.SearchMade.{SearchMade}
 use Rattle.nm_obtain.specs.Obtains.{IsObtain}
 use Rattle.nm_obtain.proofs.Searching.{some-obtain}
-use Rattle.nm_missing_fault.specs.Searching.{low_mark, taken_in, obtained_in, FoundOr, TakesLast, SeeksIn, SeeksFrom, Round, Rounds, IsSearch}
+use Rattle.nm_missing_fault.specs.Searching.{low_mark, frame_taken, frame_obtained, FoundOr, TakesLast, SeeksIn, SeeksFrom, Round, Rounds, IsSearch}
 
 -- A frame of tier 0 can be had.
 
@@ -62,7 +62,7 @@ can-take g fine = record {
 
 pub can-last : (g : Geometry) (again : Own → ℕ → Type 0) → IsGeometry g → CanEnd (TakesLast g again)
 can-last g again fine =
-    can-follow (IsPool g (Take 0 0)) (λ end. FoundOr again (taken_in end))
+    can-follow (IsPool g (Take 0 0)) (λ end. FoundOr again (frame_taken end))
     (record { rest = (TakeTurn 0, Done) ∷ (scanned 0 0 (one_free g) ++ (GiveFrame (first_frame g 0), Word 0) ∷ []) ++ (ReleaseTurn 0, Done) ∷ []; outcome = pools.Got (first_frame g 0); shown = can-take g fine })
     (can-ends (first_frame g 0))
 
@@ -84,8 +84,8 @@ can-seeks : (made : SearchMade) (g : Geometry) (tiers : List ℕ) (again : Own �
 can-seeks made g [] again fine are = can-last g again fine
 can-seeks made g (tier ∷ tiers) again fine are =
     let some : CanEnd (IsObtain (record { page = made.page; tier = tier }) g) = some-obtain (record { page = made.page; tier = tier }) g (All-head (IsTier g) tier tiers are) in
-    can-follow (IsObtain (record { page = made.page; tier = tier }) g) (λ end. FoundOr (Each (SeeksIn made g) tiers tt (λ kept. TakesLast g again)) (obtained_in end)) some
-    (can-found (Each (SeeksIn made g) tiers tt (λ kept. TakesLast g again)) (obtained_in some.outcome) (can-seeks made g tiers again fine (All-tail (IsTier g) tier tiers are)))
+    can-follow (IsObtain (record { page = made.page; tier = tier }) g) (λ end. FoundOr (Each (SeeksIn made g) tiers tt (λ kept. TakesLast g again)) (frame_obtained end)) some
+    (can-found (Each (SeeksIn made g) tiers tt (λ kept. TakesLast g again)) (frame_obtained some.outcome) (can-seeks made g tiers again fine (All-tail (IsTier g) tier tiers are)))
 
 range-tiers : (g : Geometry) (tier count : ℕ) → tier + count ≤ length g.tiers → AreTiersOf g (range_with_len tier count)
 range-tiers g tier zero le = All-nil (IsTier g)
@@ -101,7 +101,7 @@ can-from made g tier again fine = can-seeks made g (range_with_len tier (length 
 pub can-round : (made : SearchMade) (g : Geometry) (again : Own → ℕ → Type 0) → IsGeometry g → CanEnd (Round made g again)
 can-round made g again fine =
     let some : CanEnd (IsPool g (Take 0 (low_mark g))) = can-pool g (Take 0 (low_mark g)) (omega (arith, fine.ranges.1.0)) in
-    can-follow (IsPool g (Take 0 (low_mark g))) (λ end. FoundOr (SeeksFrom made g 1 again) (taken_in end)) some (can-found (SeeksFrom made g 1 again) (taken_in some.outcome) (can-from made g 1 again fine))
+    can-follow (IsPool g (Take 0 (low_mark g))) (λ end. FoundOr (SeeksFrom made g 1 again) (frame_taken end)) some (can-found (SeeksFrom made g 1 again) (frame_taken some.outcome) (can-from made g 1 again fine))
 
 pub can-rounds : (made : SearchMade) (g : Geometry) (n : ℕ) → IsGeometry g → CanEnd (Rounds made g (suc n))
 can-rounds made g n fine = can-round made g (Rounds made g n) fine

@@ -28,7 +28,7 @@ use Rattle.nm_shadow_fault.specs.declared.fault.FaultMade.{FaultMade}
 use Rattle.nm_shadow_fault.specs.Locking.{LeavesLocked}
 use Rattle.nm_shadow_fault.specs.Granting.{fault_made, fault_op, with_op, IsAtLock, IsAtLook}
 use Rattle.nm_shadow_fault.proofs.Granting.{same-number, erases-it, told-there, looked-view, read-view, read-shadow}
-use Rattle.nm_missing_fault.specs.Stages.{IsMissing, IsAtShadowOf, with_scan, IsWithFrame, homed_op, IsAtMap, IsMapped}
+use Rattle.nm_missing_fault.specs.Stages.{IsMissing, IsAtShadowOf, with_scan, IsWithFrame, homed_op, IsAtMap, IsFaultMapped}
 
 -- Steps.
 
@@ -138,12 +138,12 @@ home-set made frame g first now later at acted =
 
 -- v was mapped
 pub mapped-view : (made : FaultMade) (frame : ℕ) (shadowed : Bool) (word : ℕ) (g : Geometry) (first now later : View) → IsAtMap made frame shadowed g first now → IsActed g now (Map made.vpage word) Done later
-    → IsMapped made g first later
+    → IsFaultMapped made g first later
 mapped-view made frame shadowed word g first now later at acted =
     let is : later ≡ with_scan first (homed_op made first word frame (Some at.shadow) at.moved) (spoiled made.page now.owned) now.scan =
     acted.is ∙ (ap (λ (v : View). after_of g v (Map made.vpage word) Done) at.is
     ∙ rw (at.may.mapped, same-number made.page, same-number made.vpage) refl) in
-    let V : View → Type 0 = λ v. IsMapped made g first v in
+    let V : View → Type 0 = λ v. IsFaultMapped made g first v in
     subst V (sym is) (record {
       may = at.may;
       look = word;
@@ -155,7 +155,7 @@ mapped-view made frame shadowed word g first now later at acted =
     })
 
 -- the page was unlocked
-pub unlocked-end : (made : FaultMade) (g : Geometry) (first now later : View) → IsMapped made g first now → IsActed g now (Unlock made.page) Done later → IsSwept None first later
+pub unlocked-end : (made : FaultMade) (g : Geometry) (first now later : View) → IsFaultMapped made g first now → IsActed g now (Unlock made.page) Done later → IsSwept None first later
 unlocked-end made g first now later at acted =
     let o : Op = homed_op made first at.look at.frame at.shadow at.moved in
     let is : later ≡ record first { owned = spoiled made.page now.owned; scan = now.scan } =

@@ -8,7 +8,7 @@ use Rattle.nm_permit.specs.Permitted.{MayMap, IsWordNew}
 use Rattle.nm_shadow_fault.specs.declared.fault.FaultMade.{FaultMade}
 use Rattle.nm_shadow_fault.proofs.Granting.{same-number}
 use Rattle.nm_transfer.proofs.Written.{written-frame, written-writable, written-dirty, written-saved, written-present}
-use Rattle.nm_missing_fault.specs.MissingFault.{may_write, missing_word}
+use Rattle.nm_missing_fault.specs.MissingFault.{vpage_writable, missing_word}
 use Rattle.nm_missing_fault.specs.Stages.{homed_op, IsAtMap}
 
 left-true : (a b : Bool) → IsTrue (a && b) → IsTrue a
@@ -20,7 +20,7 @@ right-true true b h = h
 right-true false b h = cc h
 
 -- what is decided is what is meant
-right-there : (p : Option VPage) (g : Geometry) (v : ℕ) → vpage_at g v ≡ p → IsTrue (may_write g v) → IsWritable g v
+right-there : (p : Option VPage) (g : Geometry) (v : ℕ) → vpage_at g v ≡ p → IsTrue (vpage_writable g v) → IsWritable g v
 right-there None g v is h = let none : false ≡ true = rw is at h in cc
 right-there (Some p) g v is h = rw is (rw is at h)
 
@@ -35,7 +35,7 @@ may-map made frame shadowed g first now at =
     let few : frame_count g ≤ 4096 = at.may.geometry.ranges.1.3 in
     let narrow : frame < 2 ^ 32 = omega (arith, few, at.frame_is) in
     let h : Bool = not (tier_of g frame == 0) in
-    let r : Bool = may_write g made.vpage in
+    let r : Bool = vpage_writable g made.vpage in
     let w : Bool = r && not shadowed in
     let s : Bool = r && shadowed in
     let word : ℕ = missing_word g made.vpage frame shadowed in

@@ -25,33 +25,33 @@ has_right None = false
 has_right (Some p) = p.writable
 
 -- whether v may be written
-abbrev pub may_write : Geometry → ℕ → Bool
-may_write g v = has_right (vpage_at g v)
+abbrev pub vpage_writable : Geometry → ℕ → Bool
+vpage_writable g v = has_right (vpage_at g v)
 
 -- v is mapped to a frame, which may have a shadow: with a hint where the frame is not in tier 0; writable where v may be
 -- written and there is no shadow; with the right to write kept for later where v may be written and there is one
 abbrev pub missing_word : Geometry → ℕ → ℕ → Bool → ℕ
-missing_word g v frame shadowed = word_of (Present frame (not (tier_of g frame == 0)) (may_write g v && not shadowed) false false (may_write g v && shadowed))
+missing_word g v frame shadowed = word_of (Present frame (not (tier_of g frame == 0)) (vpage_writable g v && not shadowed) false false (vpage_writable g v && shadowed))
 
 -- The steps, the last first.
 
 -- v is mapped, and the page unlocked
-abbrev pub Maps : Geometry → FaultMade → ℕ → Bool → FaultEnd → Own → FaultEnd → Type 0
-Maps g made frame shadowed end = Follows (IsAct (Map made.vpage (missing_word g made.vpage frame shadowed)) g) (λ mapped. Follows (IsAct (Unlock made.page) g) (λ unlocked. Ends end))
+abbrev pub MapsVPage : Geometry → FaultMade → ℕ → Bool → FaultEnd → Own → FaultEnd → Type 0
+MapsVPage g made frame shadowed end = Follows (IsAct (Map made.vpage (missing_word g made.vpage frame shadowed)) g) (λ mapped. Follows (IsAct (Unlock made.page) g) (λ unlocked. Ends end))
 
 -- 5. There is no home. A frame is sought, its words are set to 0, and it is the home, to which v is mapped.
-abbrev pub SetsHome : Geometry → FaultMade → ℕ → Own → FaultEnd → Type 0
-SetsHome g made frame = Follows (IsAct (SetHome made.page frame) g) (λ set. Maps g made frame false Demand)
+abbrev pub SetsFirstHome : Geometry → FaultMade → ℕ → Own → FaultEnd → Type 0
+SetsFirstHome g made frame = Follows (IsAct (SetHome made.page frame) g) (λ set. MapsVPage g made frame false Demand)
 
-abbrev pub Zeroes : Geometry → FaultMade → ℕ → Own → FaultEnd → Type 0
-Zeroes g made frame = Follows (IsZeroing (record { frame = frame; words = g.words }) g) (λ zeroed. SetsHome g made frame)
+abbrev pub ZeroesFrame : Geometry → FaultMade → ℕ → Own → FaultEnd → Type 0
+ZeroesFrame g made frame = Follows (IsZeroing (record { frame = frame; words = g.words }) g) (λ zeroed. SetsFirstHome g made frame)
 
 abbrev pub Demands : Geometry → FaultMade → Own → FaultEnd → Type 0
-Demands g made = Follows (IsSearch (record { page = made.page }) g) (λ frame. Zeroes g made frame)
+Demands g made = Follows (IsSearch (record { page = made.page }) g) (λ frame. ZeroesFrame g made frame)
 
 -- 4. There is a home, whose shadow word is read, and to which v is mapped.
 abbrev pub Aliases : Geometry → FaultMade → ℕ → Own → FaultEnd → Type 0
-Aliases g made home = Follows (IsAct (Read made.page (Shadow home)) g) (λ reply. Maps g made home (not (word_in reply == 0)) Alias)
+Aliases g made home = Follows (IsAct (Read made.page (Shadow home)) g) (λ reply. MapsVPage g made home (not (word_in reply == 0)) Alias)
 
 -- 3. The home is read.
 abbrev pub MissingAfterHome : Geometry → FaultMade → ℕ → Own → FaultEnd → Type 0

@@ -28,7 +28,7 @@ use Rattle.nm_obtain.specs.Searching.{ObtainPiece, obtain_parts, IsNewObtainPiec
 use Rattle.nm_missing_fault.specs.declared.search.SearchMade.{SearchMade}
 use Rattle.nm_missing_fault.specs.declared.search.SearchStage.{SearchStage}
 use Rattle.nm_missing_fault.specs.declared.search.SearchStage.TheVariants.{New, TakingAboveLow, Obtaining, TakingLast}
-use Rattle.nm_missing_fault.specs.Searching.{low_mark, found_in, FoundOr, SeeksFrom, Rounds}
+use Rattle.nm_missing_fault.specs.Searching.{low_mark, frame_found, FoundOr, SeeksFrom, Rounds}
 use Rattle.nm_missing_fault.specs.Found.{MaySearch}
 
 -- Pieces: a task on the free frames, or a frame of a tier is sought.
@@ -92,24 +92,24 @@ search_piece_of g made TakingLast = This (pool_made g (Take 0 0))
 -- what is left after the piece of a stage, by how that ends, with at most so many rounds to come
 abbrev pub search_left_in : SearchMade → SearchStage → Geometry → SearchPieceEnd → ℕ → Own → ℕ → Type 0
 search_left_in made New g end n = Rounds made g n
-search_left_in made TakingAboveLow g end n = FoundOr (SeeksFrom made g 1 (Rounds made g n)) (found_in end)
-search_left_in made (Obtaining tier) g end n = FoundOr (SeeksFrom made g (tier + 1) (Rounds made g n)) (found_in end)
-search_left_in made TakingLast g end n = FoundOr (Rounds made g n) (found_in end)
+search_left_in made TakingAboveLow g end n = FoundOr (SeeksFrom made g 1 (Rounds made g n)) (frame_found end)
+search_left_in made (Obtaining tier) g end n = FoundOr (SeeksFrom made g (tier + 1) (Rounds made g n)) (frame_found end)
+search_left_in made TakingLast g end n = FoundOr (Rounds made g n) (frame_found end)
 
 abbrev pub search_left : SearchMade → SearchStage → Geometry → SearchPieceEnd → Own → ℕ → Type 0
 search_left made stage g end = Sometimes (search_left_in made stage g end)
 
 -- no frame was had so far
-pub record IsWithout (made : SearchMade) (g : Geometry) (first now : View) : Type 0 where
+pub record IsWithoutFrame (made : SearchMade) (g : Geometry) (first now : View) : Type 0 where
   pub may : MaySearch g made g first
   pub swept : IsSwept (Some made.page) first now
 
-pub record IsSeeking (made : SearchMade) (tier : ℕ) (g : Geometry) (first now : View) : Type 0 where
-  pub without : IsWithout made g first now
+pub record IsSeekingFrame (made : SearchMade) (tier : ℕ) (g : Geometry) (first now : View) : Type 0 where
+  pub without : IsWithoutFrame made g first now
   pub tier_is : IsTier g tier
 
 abbrev pub KnownInSearch : SearchMade → SearchStage → Geometry → View → View → Type 0
 KnownInSearch made New g first now = ⊥
-KnownInSearch made TakingAboveLow g first now = IsWithout made g first now
-KnownInSearch made (Obtaining tier) g first now = IsSeeking made tier g first now
-KnownInSearch made TakingLast g first now = IsWithout made g first now
+KnownInSearch made TakingAboveLow g first now = IsWithoutFrame made g first now
+KnownInSearch made (Obtaining tier) g first now = IsSeekingFrame made tier g first now
+KnownInSearch made TakingLast g first now = IsWithoutFrame made g first now

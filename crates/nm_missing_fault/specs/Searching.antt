@@ -21,19 +21,19 @@ abbrev pub low_mark : Geometry → ℕ
 low_mark g = (watermarks_of (slice_index g.tiers 0)).low
 
 -- the frame that a step had, if it had one
-abbrev pub taken_in : PoolEnd → Option ℕ
-taken_in (pools.Got frame) = Some frame
-taken_in (pools.AtFloor n) = None
-taken_in (pools.Level n) = None
-taken_in pools.Back = None
+abbrev pub frame_taken : PoolEnd → Option ℕ
+frame_taken (pools.Got frame) = Some frame
+frame_taken (pools.AtFloor n) = None
+frame_taken (pools.Level n) = None
+frame_taken pools.Back = None
 
-abbrev pub obtained_in : Obtained → Option ℕ
-obtained_in (obtained.Got frame) = Some frame
-obtained_in (obtained.AtFloor n) = None
+abbrev pub frame_obtained : Obtained → Option ℕ
+frame_obtained (obtained.Got frame) = Some frame
+frame_obtained (obtained.AtFloor n) = None
 
-abbrev pub found_in : Or PoolEnd Obtained → Option ℕ
-found_in (This end) = taken_in end
-found_in (Other end) = obtained_in end
+abbrev pub frame_found : Or PoolEnd Obtained → Option ℕ
+frame_found (This end) = frame_taken end
+frame_found (Other end) = frame_obtained end
 
 -- the first frame that is had ends the search; else this comes next
 abbrev pub FoundOr : (Own → ℕ → Type 0) → Option ℕ → Own → ℕ → Type 0
@@ -42,18 +42,18 @@ FoundOr next None = next
 
 -- Last, a frame of tier 0, down to the last one; where there is none, all this is made again.
 abbrev pub TakesLast : Geometry → (Own → ℕ → Type 0) → Own → ℕ → Type 0
-TakesLast g again = Follows (IsPool g (Take 0 0)) (λ end. FoundOr again (taken_in end))
+TakesLast g again = Follows (IsPool g (Take 0 0)) (λ end. FoundOr again (frame_taken end))
 
 -- Before that, a frame of each slower tier, from this one on.
 abbrev pub SeeksIn : SearchMade → Geometry → ℕ → Unit {0} → (Unit {0} → Own → ℕ → Type 0) → Own → ℕ → Type 0
-SeeksIn made g tier kept after = Follows (IsObtain (record { page = made.page; tier = tier }) g) (λ end. FoundOr (after kept) (obtained_in end))
+SeeksIn made g tier kept after = Follows (IsObtain (record { page = made.page; tier = tier }) g) (λ end. FoundOr (after kept) (frame_obtained end))
 
 abbrev pub SeeksFrom : SearchMade → Geometry → ℕ → (Own → ℕ → Type 0) → Own → ℕ → Type 0
 SeeksFrom made g tier again = Each (SeeksIn made g) (range_with_len tier (length g.tiers - tier)) tt (λ kept. TakesLast g again)
 
 -- First, a frame of tier 0 above its watermark `low`.
 abbrev pub Round : SearchMade → Geometry → (Own → ℕ → Type 0) → Own → ℕ → Type 0
-Round made g again = Follows (IsPool g (Take 0 (low_mark g))) (λ end. FoundOr (SeeksFrom made g 1 again) (taken_in end))
+Round made g again = Follows (IsPool g (Take 0 (low_mark g))) (λ end. FoundOr (SeeksFrom made g 1 again) (frame_taken end))
 
 -- at most so many times
 abbrev pub Rounds : SearchMade → Geometry → ℕ → Own → ℕ → Type 0

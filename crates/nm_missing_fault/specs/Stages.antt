@@ -24,7 +24,7 @@ use Rattle.nm_shadow_fault.specs.declared.fault.FaultMade.{FaultMade}
 use Rattle.nm_shadow_fault.specs.Granting.{fault_made, MayFault, fault_op, with_op, IsAtLock, IsAtLook, IsFaultLooked}
 use Rattle.nm_missing_fault.specs.declared.missing.MissingStage.{MissingStage}
 use Rattle.nm_missing_fault.specs.declared.missing.MissingStage.TheVariants.{New, Locking, Looking, Leaving, ReadingHome, ReadingShadow, Searching, Zeroing, SettingHome, Mapping, Unlocking}
-use Rattle.nm_missing_fault.specs.MissingFault.{missing_word, Maps, SetsHome, Zeroes, MissingAfterHome, MissingAfterLook}
+use Rattle.nm_missing_fault.specs.MissingFault.{missing_word, MapsVPage, SetsFirstHome, ZeroesFrame, MissingAfterHome, MissingAfterLook}
 use Rattle.nm_missing_fault.specs.Pieces.{MissingPieceMade, MissingPieceEnd, missing_told, missing_found}
 
 -- the frame to which a stage maps is there
@@ -53,10 +53,10 @@ missing_left made Locking g end = Follows (IsAct (Look made.vpage) g) (λ reply.
 missing_left made Looking g end = MissingAfterLook g made (missing_told end)
 missing_left made Leaving g end = Ends Ready
 missing_left made ReadingHome g end = MissingAfterHome g made (missing_told end)
-missing_left made (ReadingShadow home) g end = Maps g made home (not (missing_told end == 0)) Alias
-missing_left made Searching g end = Zeroes g made (missing_found end)
-missing_left made (Zeroing frame) g end = SetsHome g made frame
-missing_left made (SettingHome frame) g end = Maps g made frame false Demand
+missing_left made (ReadingShadow home) g end = MapsVPage g made home (not (missing_told end == 0)) Alias
+missing_left made Searching g end = ZeroesFrame g made (missing_found end)
+missing_left made (Zeroing frame) g end = SetsFirstHome g made frame
+missing_left made (SettingHome frame) g end = MapsVPage g made frame false Demand
 missing_left made (Mapping frame shadowed outcome) g end = Follows (IsAct (Unlock made.page) g) (λ unlocked. Ends outcome)
 missing_left made (Unlocking outcome) g end = Ends outcome
 
@@ -100,7 +100,7 @@ pub record IsAtMap (made : FaultMade) (frame : ℕ) (shadowed : Bool) (g : Geome
   pub is : now ≡ with_scan first (homed_op made first 0 frame (Some shadow) moved) now.owned now.scan
 
 -- v is mapped
-pub record IsMapped (made : FaultMade) (g : Geometry) (first now : View) : Type 0 where
+pub record IsFaultMapped (made : FaultMade) (g : Geometry) (first now : View) : Type 0 where
   pub may : MayFault (fault_made g made) g first
   pub look : ℕ
   pub frame : ℕ
@@ -120,4 +120,4 @@ KnownInMissing made Searching g first now = IsMissing made (Some 0) None g first
 KnownInMissing made (Zeroing frame) g first now = IsWithFrame made frame Raw g first now
 KnownInMissing made (SettingHome frame) g first now = IsWithFrame made frame (Zeroed g.words) g first now
 KnownInMissing made (Mapping frame shadowed end) g first now = IsAtMap made frame shadowed g first now
-KnownInMissing made (Unlocking end) g first now = IsMapped made g first now
+KnownInMissing made (Unlocking end) g first now = IsFaultMapped made g first now

@@ -2,7 +2,7 @@
 
 ghost use Rattle.std.specs.Prelude.{◌≡◌, ◌+◌, ◌^◌, ◌<◌, length};
 ghost use Rattle.nm_missing_fault.specs.declared.search.SearchStage.TheVariants.{New};
-ghost use Rattle.nm_missing_fault.specs.Searching.{found_in};
+ghost use Rattle.nm_missing_fault.specs.Searching.{frame_found};
 ghost use Rattle.nm_missing_fault.specs.SearchTasks.{search_of, IsNewSearch};
 ghost use Rattle.nm_missing_fault.specs.SearchStages.{search_piece_made, search_piece_of, IsNewSearchPiece, HasTier, stage_from};
 
@@ -49,8 +49,8 @@ pub struct FrameSearch<'a> {
 }
 
 /// The frame that a piece had, if it had one.
-fn found_in(end: SearchPieceEnd) -> Option<u32>
-    ensures { result ≡ found_in end }
+fn frame_found(end: SearchPieceEnd) -> Option<u32>
+    ensures { result ≡ frame_found end }
 {
     match end {
         Or::This(end) => match end {
@@ -158,7 +158,7 @@ impl<'a> Plan<SearchPiece<'a>> for FrameSearch<'a> {
         _piece: &SearchPiece<'a>,
         end: SearchPieceEnd,
     ) -> Next<SearchPiece<'a>, u32> {
-        if let Some(frame) = found_in(end) {
+        if let Some(frame) = frame_found(end) {
             return Next::Over(frame);
         }
         match self.stage {
