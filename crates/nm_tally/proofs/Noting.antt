@@ -1,10 +1,8 @@
 -- One event more is counted.
-use Rattle.std.proofs.Common.{◌≡◌, ℕ, ◌<◌, ◌==◌, ◌&&◌, ◌||◌, not, if◌then◌else◌, Bool, true, false, List, [], ◌∷◌, ◌++◌, length, slice_index_or, slice_set, refl, sym, ap, subst, ◌∙◌}
-use Rattle.nm_base.specs.Geometry.{Geometry, page_count}
+use Rattle.std.proofs.Common.{◌≡◌, ℕ, ◌<◌, Bool, false, List, [], ◌∷◌, ◌++◌, length, slice_index_or, refl, sym, ap, subst, ◌∙◌}
 use Rattle.nm_action.specs.declared.action.Action.{Action}
-use Rattle.nm_action.specs.declared.action.Action.TheVariants.{Lock, Unlock, Mark}
+use Rattle.nm_action.specs.declared.action.Action.TheVariants.{Lock, Unlock}
 use Rattle.nm_action.specs.declared.action.Reply.{Reply}
-use Rattle.nm_action.specs.declared.action.Reply.TheVariants.{Done}
 use Rattle.nm_action.specs.declared.tally.Tally.{Tally}
 use Rattle.nm_action.specs.Own.{Own}
 use Rattle.nm_action.specs.Tally.{sum_of}

@@ -6,3 +6,4 @@ pub mod Drawing
 pub mod Turning
 pub mod Lanes
 pub mod Routing
+pub mod Starting

@@ -1,37 +1,29 @@
 -- The turns of the actor: what it gives after Start, a reply, a put and a take.
-use Rattle.std.proofs.Common.{◌≡◌, ℕ, Bool, true, false, [], ◌∷◌, ◌++◌, length, Option, Some, None, refl, sym, ap, subst, ◌∙◌}
-use Rattle.std.proofs.lemmas.List.{append-nil}
+use Rattle.std.proofs.Common.{◌≡◌, ℕ, [], ◌∷◌, ◌++◌, length, Option, Some, None, sym, ap, subst, ◌∙◌}
 use Rattle.nm_base.specs.Geometry.{Geometry}
 use Rattle.nm_action.specs.declared.action.Action.{Action}
 use Rattle.nm_action.specs.declared.action.Reply.{Reply}
 use Rattle.nm_action.specs.declared.spent.Spent.{Spent}
 use Rattle.nm_action.specs.declared.tally.Tally.{Tally}
-use Rattle.nm_action.specs.declared.turn.Lane.{Lane}
 use Rattle.nm_action.specs.declared.turn.Turn.{Turn}
 use Rattle.nm_action.specs.declared.turn.Turn.TheVariants as turn
 use Rattle.nm_action.specs.declared.turn.Heard.{Heard}
-use Rattle.nm_action.specs.declared.turn.Heard.TheVariants.{Start, Answer, PutDone, PutFull, Took, TookNone}
-use Rattle.nm_action.specs.declared.turn.Step.{Step}
-use Rattle.nm_action.specs.declared.turn.Step.TheVariants.{Do, Over}
+use Rattle.nm_action.specs.declared.turn.Heard.TheVariants.{Start, Answer}
 use Rattle.nm_action.specs.Own.{Own}
 use Rattle.nm_view.specs.Views.{View}
 use Rattle.nm_view.specs.Opening.{opening}
 use Rattle.nm_event.specs.Fitting.{Fits}
 use Rattle.nm_event.specs.After.{after_of, view_after}
-use Rattle.nm_part.specs.Parts.{IsAsked, IsEnded, IsPartStep, IsHeard}
-use Rattle.nm_part.specs.Patterns.{Follows, IsLeft, CanEnd}
-use Rattle.nm_part.proofs.Patterns.{left-after}
-use Rattle.nm_actor.specs.Turns.{Turns, own_list, own_turn, turns_view}
+use Rattle.nm_actor.specs.Turns.{Turns, own_list, turns_view}
 use Rattle.nm_actor.specs.Actors.{answered, IsAnswerTo, HasHeard, IsPermittedTurn, IsTurn}
 use Rattle.nm_actor.proofs.TurnLists.{own-push}
 use Rattle.nm_tally.specs.declared.counter.Counter.{Counter}
 use Rattle.nm_worker.specs.declared.routine.Task.{Task}
 use Rattle.nm_worker.specs.declared.routine.Task.TheVariants.{Run, Put, Take, Stop}
 use Rattle.nm_worker.specs.declared.routine.Ended.{Ended}
-use Rattle.nm_worker.specs.declared.routine.Ended.TheVariants as ended
-use Rattle.nm_worker.specs.Notes.{Noted, Notes, noted_turns, uncounted, worked, put_heard, take_heard, tally_with, notes_tally, IsTask}
-use Rattle.nm_worker.specs.Routines.{task_data, IsTaskRun, IsWorkRun, IsNextTask, IsWorkOver, IsTaskOver, IsDrawn, HasTaskOver, CanBeginTask}
-use Rattle.nm_worker.specs.Workers.{IsAtTask, IsAtWork, IsAtLane, AwaitsTurn, IsTurnGiven, IsFewDrawn, FollowsRoutine, IsAnswerNoted, IsWorkHeard}
+use Rattle.nm_worker.specs.Notes.{Noted, Notes, noted_turns, tally_with, notes_tally}
+use Rattle.nm_worker.specs.Routines.{IsNextTask, IsDrawn}
+use Rattle.nm_worker.specs.Workers.{AwaitsTurn, IsTurnGiven, IsFewDrawn, FollowsRoutine, IsAnswerNoted, IsWorkHeard}
 use Rattle.nm_base.specs.Geometry.{page_count}
 use Rattle.nm_tally.specs.Counts.{zero_tally}
 use Rattle.nm_permit.specs.Permitted.{InRange}
@@ -39,8 +31,7 @@ use Rattle.nm_tally.specs.Counting.{IsCountable, CountsEvents}
 use Rattle.nm_tally.proofs.Countable.{countable}
 use Rattle.nm_action.specs.Spent.{counted}
 use Rattle.nm_part.proofs.OwnLemmas.{view-push}
-use Rattle.nm_worker.proofs.NoteLists.{turns-append, view-more, tally-append}
-use Rattle.nm_worker.proofs.Working.{IsTaskEnded, ended-over}
+use Rattle.nm_worker.proofs.NoteLists.{turns-append, tally-append}
 use Rattle.nm_worker.proofs.Drawing.{IsKept, drawn-after, few-after}
 
 -- after an answered turn the actor agrees with it, and its next turn is permitted

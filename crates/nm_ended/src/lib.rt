@@ -1,0 +1,6 @@
+//! Whether every processor has ended, as a part of an actor's work.
+#![tactic(auto)]
+
+pub mod ask;
+
+pub use ask::AskEnded;
