@@ -92,10 +92,7 @@ impl<'a> Obtain<'a> {
     {
         self.stage = Stage::Reclaiming(first);
         let asked = reclaim_for(self.made);
-        Or::Other(Composite::new(Sweep::new(
-            self.geometry,
-            SweepMade { asked, first },
-        )))
+        Or::Other(Composite::new(Sweep::new(self.geometry, SweepMade { asked, first })))
     }
 }
 
@@ -148,9 +145,7 @@ impl<'a> Plan<ObtainPiece<'a>> for Obtain<'a> {
         match self.stage {
             Stage::New => unreachable!(),
             Stage::Trying => {
-                let Or::This(taken) = end else {
-                    unreachable!()
-                };
+                let Or::This(taken) = end else { unreachable!() };
                 match taken {
                     PoolEnd::Got(frame) => Next::Over(Obtained::Got(frame)),
                     PoolEnd::AtFloor(_) => {
@@ -164,9 +159,7 @@ impl<'a> Plan<ObtainPiece<'a>> for Obtain<'a> {
             }
             Stage::Reclaiming(_) => Next::Run(self.take(Stage::TryingAgain)),
             Stage::TryingAgain => {
-                let Or::This(taken) = end else {
-                    unreachable!()
-                };
+                let Or::This(taken) = end else { unreachable!() };
                 match taken {
                     PoolEnd::Got(frame) => Next::Over(Obtained::Got(frame)),
                     PoolEnd::AtFloor(free) => Next::Over(Obtained::AtFloor(free)),
