@@ -51,7 +51,8 @@ use Rattle.nm_demote.specs.Selecting.{IsSelecting}
 use Rattle.nm_demote.specs.Selections.{MayDemote, IsReadyToDemote, HasClosedToDemote}
 use Rattle.nm_demote.specs.Demotions.{demoted_end, GivesBackDemoted, UnlocksDemoted, demote_transfer, MovesDown, demote_early_end, AfterSelecting, IsDemotion}
 use Rattle.nm_demote.specs.Leaving.{HasDemoted, IsDemoteLeft}
-use Rattle.nm_demote.specs.Pieces.{DemoteParts, DemotePieceEnd, IsSelectingOf, MayDemotePiece, IsDemotePiece, DemotePieceLeaves, DemotePiece, demote_parts, IsNewDemotePiece}
+use Rattle.nm_demote.specs.SelectTasks.{IsSelectingOf}
+use Rattle.nm_demote.specs.Pieces.{DemoteParts, DemotePieceEnd, MayDemotePiece, IsDemotePiece, DemotePieceLeaves, DemotePiece, demote_parts, IsNewDemotePiece}
 use Rattle.nm_demote.specs.Places.{DemotePlace, demote_at, IsDemoteOverWith, demote_stage_piece, demote_piece, selected_in, demote_stage_left, demote_left, IsDemotedNow, IsUnlockedDown, DemoteKnown}
 use Rattle.nm_demote.proofs.Ending.{some-selecting}
 use Rattle.nm_demote.proofs.Steps.{may-here}

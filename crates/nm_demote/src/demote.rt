@@ -14,7 +14,8 @@ ghost use Rattle.nm_demote.specs.Demotions.{demoted_end, demote_early_end};
 ghost use Rattle.nm_demote.specs.Pieces.{demote_parts, IsNewDemotePiece};
 ghost use Rattle.nm_demote.specs.Places.{IsDemoteOverWith};
 
-use crate::select::{DemoteMade, Early, Select, SelectPiece, Selected};
+use crate::select::{DemoteMade, Early, Selected};
+use crate::select_task::SelectTask;
 use nm_base::Geometry;
 use nm_compose::{Act, Composite, Next, Or, Plan};
 use nm_event::{Action, Reply, Spent};
@@ -64,15 +65,21 @@ pub(crate) enum DemoteStage {
         pages: VPageSet,
     },
     /// 11. The page is unlocked.
-    Unlocking { home: u32, source: Source },
+    Unlocking {
+        home: u32,
+        source: Source,
+    },
     /// The frame of the old home is put back.
-    GivingBack { home: u32, source: Source },
+    GivingBack {
+        home: u32,
+        source: Source,
+    },
 }
 
 /// A piece of a demotion: the steps before the page is taken out of the table, its transfer to the new home, an action, or a
 /// task on the free frames.
 pub type DemotePiece<'a> = Or<
-    Composite<Select<'a>, SelectPiece<'a>>,
+    SelectTask<'a>,
     Or<Composite<Transfer, TransferPiece>, Or<Act, PoolTask>>,
 >;
 
@@ -230,11 +237,7 @@ impl<'a> Plan<DemotePiece<'a>> for Demote<'a> {
 
     fn begin(&mut self) -> DemotePiece<'a> {
         self.stage = DemoteStage::Selecting;
-        Or::This(Composite::new(Select::new(
-            self.geometry,
-            self.made.page,
-            self.made.spent,
-        )))
+        Or::This(SelectTask::new(self.geometry, self.made.page, self.made.spent))
     }
 
     fn go_on(

@@ -3,6 +3,8 @@
 
 pub mod demote;
 pub mod select;
+pub mod select_task;
 
 pub use demote::{Demote, DemoteEnd, DemoteOver, DemotePiece};
 pub use select::{DemoteMade, Early, Select, SelectPiece, Selected};
+pub use select_task::SelectTask;

@@ -73,19 +73,11 @@ pub(crate) enum Stage {
     /// 3. The home is read.
     ReadingHome,
     /// 4. The shadow word of the home is read.
-    ReadingShadow {
-        home: u32,
-    },
+    ReadingShadow { home: u32 },
     /// 5. The virtual pages of the page are looked at.
-    Looking {
-        home: u32,
-        shadow: u64,
-    },
+    Looking { home: u32, shadow: u64 },
     /// 6. A frame of the next slower tier is sought.
-    Obtaining {
-        home: u32,
-        pages: VPageSet,
-    },
+    Obtaining { home: u32, pages: VPageSet },
 }
 
 /// A piece of the steps: an action, visits of the page's virtual pages, or the search for a frame.

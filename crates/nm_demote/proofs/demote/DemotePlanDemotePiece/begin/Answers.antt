@@ -1,7 +1,5 @@
-use Rattle.std.proofs.Common.{ap, ◌∙◌, refl}
-use Rattle.nm_base.specs.Geometry.{Geometry}
+use Rattle.std.proofs.Common.{ap, refl}
 use Rattle.nm_compose.specs.declared.or.Or.TheVariants.{This}
-use Rattle.nm_demote.specs.declared.select.DemoteMade.{DemoteMade}
 use Rattle.nm_demote.specs.declared.demote.DemoteStage.TheVariants.{Selecting}
 use Rattle.nm_demote.specs.Pieces.{demote_parts}
 use Rattle.nm_demote.proofs.DemoteSteps.{begins}
@@ -10,5 +8,4 @@ use Rattle.nm_demote.proofs.demote.DemotePlanDemotePiece.begin.Goals as goal
 pub returns-clause-run : goal.returns-clause-run
 returns-clause-run c = λ g view may.
     let old = c.args.self.now in
-    let parts = c.new-2.ensures.made ∙ (ap (λ (h : Geometry). (h, c.new.result.made)) c.new.ensures.geometry ∙ ap (λ (m : DemoteMade). (old.geometry.now, m)) c.new.ensures.made) in
-    begins old (record old { stage = Selecting }) (demote_parts (This c.new-2.result)) g view may.same refl (ap This parts) may c.requires.words
+    begins old (record old { stage = Selecting }) (demote_parts (This c.new.result)) g view may.same refl (ap This c.new.ensures.made) may c.requires.words

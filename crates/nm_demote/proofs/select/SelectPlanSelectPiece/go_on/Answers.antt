@@ -1,4 +1,4 @@
-use Rattle.std.proofs.Common.{◌≡◌, ◌≢◌, ℕ, List, [], sym, ap, ◌∙◌, subst, refl}
+use Rattle.std.proofs.Common.{◌≡◌, ◌≢◌, ℕ, Bool, true, false, List, [], sym, ap, ◌∙◌, subst, refl}
 use Rattle.nm_base.specs.Geometry.{Geometry}
 use Rattle.nm_base.specs.ShadowWord.{shadow_frame}
 use Rattle.nm_action.specs.declared.action.Reply.TheVariants.{Done}
@@ -16,6 +16,9 @@ use Rattle.nm_demote.specs.Stages.{select_piece_made, told_in_selecting, found_i
 use Rattle.nm_demote.proofs.Runs.{RunsSelect, IsSelectOver, step-select, over-select}
 use Rattle.nm_demote.proofs.Steps.{HasLookedToDemote, after-unlocking, after-locking, after-busy, after-reading-home, after-reading-shadow, has-looked, after-looking-none, after-looking-plain, after-looking-shadow, after-got, after-floor}
 use Rattle.nm_demote.proofs.select.SelectPlanSelectPiece.go_on.Goals as goal
+
+not-empty : (empty : Bool) → empty ≡ true → empty ≡ false → ⊥
+not-empty empty is other = cc
 
 pub returns-in-Done-clause-next : goal.returns-in-Done-clause-next
 returns-in-Done-clause-next c = λ g first now later own known shown left over. record {
@@ -65,7 +68,6 @@ returns-in-ReadingShadow-clause-next c = λ g first now later own known shown le
       subst (λ (s : Stage). RunsSelect old.made s (select_left old.made (ReadingShadow home) g c.args.end) g first later) (sym e) (after-reading-shadow old.made home g first now later own c.args.end k a));
 }
 
--- what was seen by the Looks, and the virtual pages that were found
 pub returns-then-is_empty-clause-next : goal.returns-then-is_empty-clause-next
 returns-then-is_empty-clause-next c = λ g first now later own known shown left over. record {
   new = c.go-then-is_empty.ensures.new;
@@ -73,7 +75,7 @@ returns-then-is_empty-clause-next c = λ g first now later own known shown left 
       let home = c.in-Looking.home in
       let shadow = c.in-Looking.shadow in
       let at = sym c.replace.ensures.value ∙ c.in-Looking.is in
-      let none : found_in_selecting c.args.end ≡ [] = ? in
+      let none : found_in_selecting c.args.end ≡ [] = sym c.found_in_selecting-pages.ensures ∙ c.is_empty.ensures.0 c.if-is_empty.true in
       step-select old c.go-then-is_empty.new.self (Looking home shadow) (Unlocking Gone) c.args.end c.args.end _ (select_piece_made c.go-then-is_empty.result) g first now later own at refl known left shown c.go-then-is_empty.ensures.stage c.go-then-is_empty.ensures.made
       (λ k a. after-looking-none old.made home shadow (found_in_selecting c.args.end) g first later (has-looked old.made home shadow g first now later own c.args.end k a) none);
 }
@@ -87,7 +89,7 @@ returns-then-shadow-eq0-clause-next c = λ g first now later own known shown lef
       let pages = c.found_in_selecting-pages.result in
       let found = c.found_in_selecting-pages.ensures in
       let at = sym c.replace.ensures.value ∙ c.in-Looking.is in
-      let some : found_in_selecting c.args.end ≢ [] = ? in
+      let some : found_in_selecting c.args.end ≢ [] = λ e. not-empty c.is_empty.result (c.is_empty.ensures.1 (c.found_in_selecting-pages.ensures ∙ e)) c.if-is_empty.false in
       step-select old c.go-then-shadow-eq0.new.self (Looking home shadow) (Obtaining home pages) c.args.end c.args.end _ (select_piece_made c.go-then-shadow-eq0.result) g first now later own at refl known left shown c.go-then-shadow-eq0.ensures.stage c.go-then-shadow-eq0.ensures.made
       (λ k a. subst (λ (l : List ℕ). RunsSelect old.made (Obtaining home l) (select_left old.made (Looking home shadow) g c.args.end) g first later) (sym found)
       (after-looking-plain old.made home shadow (found_in_selecting c.args.end) g first later (has-looked old.made home shadow g first now later own c.args.end k a) some c.if-shadow-eq0.true));
@@ -101,7 +103,7 @@ returns-else-shadow-eq0-clause-next c = λ g first now later own known shown lef
     let pages = c.found_in_selecting-pages.result in
     let found = c.found_in_selecting-pages.ensures in
     let at = sym c.replace.ensures.value ∙ c.in-Looking.is in
-    let some : found_in_selecting c.args.end ≢ [] = ? in
+    let some : found_in_selecting c.args.end ≢ [] = λ e. not-empty c.is_empty.result (c.is_empty.ensures.1 (c.found_in_selecting-pages.ensures ∙ e)) c.if-is_empty.false in
     over-select old (Looking home shadow) c.args.end c.args.end _ (ends.Ready home c.shadow_frame.result sources.Shadow pages) g first now later own at refl known left shown
     (λ k a. subst (λ (l : List ℕ). IsSelectOver old (AfterLooksToDemote g old.made home shadow (found_in_selecting c.args.end)) g first later (ends.Ready home c.shadow_frame.result sources.Shadow l)) (sym found)
     (after-looking-shadow old home shadow c.shadow_frame.result (found_in_selecting c.args.end) g first later (has-looked old.made home shadow g first now later own c.args.end k a) some c.if-shadow-eq0.false c.shadow_frame.ensures))
