@@ -109,3 +109,9 @@ by-turn {F} {M} {X} kinds made_of awaits_of a stage heard told g was view turns 
       due = tries-heard g (IsAccess kinds g a.made was) turns (access_turn a.made stage) told (access_left kinds g a.made stage (held_of a h.ends) a.hinted) here.due (answer-kind g (view_then g view turns) (access_turn a.made stage) told fits);
       then = then-push g view turns (access_turn a.made stage) told;
     })))) answer
+
+-- the same of what the code has come to
+pub gone : {F M X : Type 0} (kinds : FaultKinds M X) (made_of : F → M) (awaits_of : F → Geometry → View → Own → Action → Type 0) (now a : Access F) (result step : AccessStep) (g : Geometry) (was : Held X) (view : View) (turns : Turns)
+    → now ≡ a → result ≡ step → IsStepOf kinds made_of awaits_of a g was view turns step → IsStepOf kinds made_of awaits_of now g was view turns result
+gone {F} kinds made_of awaits_of now a result step g was view turns same is h =
+    subst (λ (b : Access F). IsStepOf kinds made_of awaits_of b g was view turns result) (sym same) (subst (λ (s : AccessStep). IsStepOf kinds made_of awaits_of a g was view turns s) (sym is) h)

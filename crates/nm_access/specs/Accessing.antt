@@ -208,6 +208,21 @@ pub record IsAtWait {M X : Type 0} (kinds : FaultKinds M X) (made : AccessMade) 
   pub is : turns ≡ before ++ turns_of own
   pub awaited : AwaitsCatch cache middle g (view_then g view before) own action
 
+-- the processor catches up at a stage
+abbrev pub IsCatchingStage : AccessStage → Type 0
+IsCatchingStage CatchingUp = Unit {0}
+IsCatchingStage (Waiting action) = Unit {0}
+IsCatchingStage stage = ⊥
+
+-- the answer decides what comes after a stage
+abbrev pub IsToldStage : AccessStage → Type 0
+IsToldStage Peeking = Unit {0}
+IsToldStage (Looking stamp) = Unit {0}
+IsToldStage (Walking stamp word) = Unit {0}
+IsToldStage Marking = Unit {0}
+IsToldStage Touching = Unit {0}
+IsToldStage stage = ⊥
+
 -- what an access awaits at a stage
 abbrev pub IsAtStage : {M X : Type 0} → FaultKinds M X → AccessMade → AccessStage → Bool → M → (Geometry → View → Own → Action → Type 0) → TranslationCache → List X → Geometry → Held X → View → Turns → Turn → Type 0
 IsAtStage kinds made Resting hinted fault awaits cache ends g was view turns turn = ⊥

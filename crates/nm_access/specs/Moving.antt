@@ -50,13 +50,6 @@ pub record IsLooked {F M X : Type 0} (kinds : FaultKinds M X) (a : Access F) (st
   pub known : IsPeeked g a.made stamp (kept_of a.cache) (view_then g view turns)
   pub layout : IsPageWord word
 
--- there is an access whose virtual page was looked at
-pub record HasLooked {F M X : Type 0} (kinds : FaultKinds M X) (a : Access F) (stamp word : ℕ) : Type 0 where
-  pub geometry : Geometry
-  pub was : Held X
-  pub view : View
-  pub turns : Turns
-  pub looked : IsLooked kinds a stamp word geometry was view turns
 
 -- a fault with this data is left
 pub record IsFaulting {F M X : Type 0} (kinds : FaultKinds M X) (a : Access F) (fault : M) (g : Geometry) (was : Held X) (view : View) (turns : Turns) : Type 0 where
@@ -73,20 +66,12 @@ pub record IsGiving {F M X : Type 0} (kinds : FaultKinds M X) (made_of : F → M
   pub run : IsInFault kinds a.made a.hinted (made_of a.fault) (kept_of a.cache) ends g was view inner turns
   pub gives : IsFaultGiven kinds (made_of a.fault) (awaits_of a.fault) g run.first inner action
 
--- there is an access whose fault gives an action
-pub record HasGiven {F M X : Type 0} (kinds : FaultKinds M X) (made_of : F → M) (awaits_of : F → Geometry → View → Own → Action → Type 0) (a : Access F) (action : Action) : Type 0 where
-  pub geometry : Geometry
-  pub was : Held X
-  pub view : View
-  pub turns : Turns
-  pub gives : IsGiving kinds made_of awaits_of a action geometry was view turns
 
--- there is an access of which a fault with this data is left, and it may begin
-pub record HasFaultBegun {F M X : Type 0} (kinds : FaultKinds M X) (may_begin : M → Geometry → View → Type 0) (awaits_of : F → Geometry → View → Own → Action → Type 0) (a : Access F) (fault : M) : Type 0 where
-  pub geometry : Geometry
-  pub was : Held X
-  pub view : View
-  pub turns : Turns
-  pub faulting : IsFaulting kinds a fault geometry was view turns
-  pub begin : may_begin fault geometry (desk geometry (view_then geometry view turns))
-  pub frees : (now left : View) (end : X) → kinds.leaves fault geometry now end left → IsFree left
+
+-- an access with this may be begun
+pub record IsOpening {F M X : Type 0} (kinds : FaultKinds M X) (a : Access F) (made : AccessMade) (g : Geometry) (was : Held X) (view : View) : Type 0 where
+  pub same : a.geometry.now ≡ g
+  pub may : IsAccessMade g made
+  pub kept : was.kept ≡ kept_of a.cache
+  pub counted : a.tally ≡ ends_tally kinds.counts was.ends
+  pub ready : IsReady g (kept_of a.cache) view
