@@ -1,28 +1,27 @@
 -- What is given after the turn of a stage was answered.
-use Rattle.std.proofs.Common.{◌≡◌, ◌≢◌, ℕ, suc, ◌==◌, ◌&&◌, ◌||◌, not, Bool, true, false, IsTrue, List, [], ◌∷◌, ◌++◌, Option, Some, None, refl, sym, ap, ◌∙◌, subst}
+use Rattle.std.proofs.Common.{◌≡◌, ◌≢◌, ℕ, suc, ◌&&◌, ◌||◌, Bool, true, false, IsTrue, List, [], ◌∷◌, ◌++◌, refl, sym, ap, ◌∙◌, subst}
 use Rattle.std.proofs.lemmas.List.{append-nil}
 use Rattle.nm_base.specs.Geometry.{Geometry}
 use Rattle.nm_base.specs.PageWord.{is_present, is_writable, is_dirty, frame_of}
 use Rattle.nm_base.specs.Ranges.{IsFrame}
 use Rattle.nm_action.specs.declared.action.Action.{Action}
-use Rattle.nm_action.specs.declared.action.Action.TheVariants.{Look, Walk, Peek, Soften, Mark}
+use Rattle.nm_action.specs.declared.action.Action.TheVariants.{Peek, Soften, Mark}
 use Rattle.nm_action.specs.declared.action.Bit.TheVariants.{Hint}
 use Rattle.nm_action.specs.declared.action.Reply.{Reply}
-use Rattle.nm_action.specs.declared.action.Reply.TheVariants.{Done, Word, Busy, Lost}
+use Rattle.nm_action.specs.declared.action.Reply.TheVariants.{Done, Word, Lost}
 use Rattle.nm_action.specs.declared.turn.Lane.TheVariants.{Candidates}
 use Rattle.nm_action.specs.declared.turn.Turn.{Turn}
-use Rattle.nm_action.specs.declared.turn.Turn.TheVariants.{Do, Put, End}
+use Rattle.nm_action.specs.declared.turn.Turn.TheVariants.{Do, Put}
 use Rattle.nm_action.specs.declared.turn.Heard.{Heard}
 use Rattle.nm_action.specs.declared.turn.Heard.TheVariants.{Answer, PutDone, PutFull}
 use Rattle.nm_action.specs.Own.{Own}
 use Rattle.nm_view.specs.Views.{View}
-use Rattle.nm_event.specs.After.{after_of, view_after}
-use Rattle.nm_part.specs.Patterns.{Ends, Follows, Either, Sometimes, IsLeft}
+use Rattle.nm_part.specs.Patterns.{Follows, Sometimes, IsLeft}
 use Rattle.nm_part.proofs.Patterns.{either-yes, either-other, ends-now}
 use Rattle.nm_actor.specs.Turns.{Turns}
 use Rattle.nm_actor.specs.Actors.{IsAnswer}
 use Rattle.nm_setcache.specs.SetAssociative.{put_in_set}
-use Rattle.nm_catchup.specs.CatchUp.{Kept, entry_of}
+use Rattle.nm_catchup.specs.CatchUp.{Kept}
 use Rattle.nm_catchup.specs.Catching.{kept_of}
 use Rattle.nm_catchup.specs.declared.cache.TranslationCache.{TranslationCache}
 use Rattle.nm_access.specs.declared.made.AccessMade.{AccessMade}
@@ -30,15 +29,15 @@ use Rattle.nm_access.specs.declared.access.Access.{Access}
 use Rattle.nm_access.specs.declared.access.AccessStage.{AccessStage}
 use Rattle.nm_access.specs.declared.access.AccessStage.TheVariants.{Resting, CatchingUp, Peeking, Looking, Faulting, Waiting, Softening, Walking, Marking, Putting, Unmarking, Touching}
 use Rattle.nm_access.specs.declared.access.AccessStep.{AccessStep}
-use Rattle.nm_access.specs.declared.access.AccessStep.TheVariants.{Give, Over}
-use Rattle.nm_access.specs.Turning.{Hears, word_heard}
+use Rattle.nm_access.specs.declared.access.AccessStep.TheVariants.{Give}
+use Rattle.nm_access.specs.Turning.{Hears}
 use Rattle.nm_access.specs.Faults.{FaultKinds}
-use Rattle.nm_access.specs.Accesses.{Held, Accessed, is_write, touch_action, serves, is_marked, held_walked, Touches, AfterPut, AfterMark, Marks, AfterWalk, Translates, IsAccess}
-use Rattle.nm_access.specs.Accessing.{IsReady, IsPeeked, MayBeWalked, IsServed, KnownInAccess, access_turn, access_left, tried_stage, marked_stage, view_then, IsAccessOver, IsAtStage}
+use Rattle.nm_access.specs.Accesses.{Held, Accessed, is_write, touch_action, is_marked, Touches, AfterMark, Marks, Translates, IsAccess}
+use Rattle.nm_access.specs.Accessing.{IsReady, IsPeeked, IsServed, access_turn, access_left, marked_stage, view_then, IsAccessOver, IsAtStage}
 use Rattle.nm_access.specs.Moving.{AwaitsOf, IsStepOf, held_of, IsBegunWell, IsLooked}
 use Rattle.nm_access.proofs.TurnSteps.{tries-as}
 use Rattle.nm_access.proofs.Views.{peeked-then, looked-then, kept_walked, walked-then, touched-then}
-use Rattle.nm_access.proofs.Going.{goes, Answered, by-turn}
+use Rattle.nm_access.proofs.Going.{goes, by-turn}
 
 -- In all of these the names are those of `goes` and `by-turn`.
 
@@ -48,7 +47,6 @@ absent h = cc
 -- a word that is present is not 0
 present-some : (word : ℕ) → IsTrue (is_present word) → word ≢ 0
 present-some word present is = absent (subst (λ n. IsTrue (is_present n)) is present)
-
 
 pub after-peek : {F M X : Type 0} (kinds : FaultKinds M X) (made_of : F → M) (awaits_of : F → Geometry → View → Own → Action → Type 0) (a : Access F) (heard : Heard) (stamp : ℕ) (g : Geometry) (was : Held X) (view : View) (turns : Turns) (turn : Turn)
     → a.stage ≡ Peeking → heard ≡ Answer (Word stamp) → AwaitsOf kinds made_of awaits_of a g was view turns turn → IsAnswer g (view_then g view turns) turn heard

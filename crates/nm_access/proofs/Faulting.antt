@@ -18,8 +18,8 @@ use Rattle.nm_view.specs.Views.{View}
 use Rattle.nm_permit.specs.Permitted.{Allowed}
 use Rattle.nm_event.specs.Fitting.{Fits}
 use Rattle.nm_event.specs.After.{after_of, view_after}
-use Rattle.nm_part.specs.Parts.{IsQuiet, IsBegun, IsBegunWith, IsHeard, IsAsked, IsEnded, IsPartStep}
-use Rattle.nm_part.specs.Patterns.{Ends, Follows, Sometimes, IsLeft, CanEnd}
+use Rattle.nm_part.specs.Parts.{IsQuiet, IsBegunWith, IsHeard, IsAsked, IsEnded, IsPartStep}
+use Rattle.nm_part.specs.Patterns.{Ends, Sometimes, IsLeft, CanEnd}
 use Rattle.nm_part.proofs.OwnLemmas.{view-push}
 use Rattle.nm_actor.specs.Turns.{Turns}
 use Rattle.nm_actor.specs.Actors.{IsAnswer}
@@ -28,7 +28,7 @@ use Rattle.nm_desk.specs.Woven.{CatchesWhere, Weaves, WeavesPart}
 use Rattle.nm_desk.proofs.AtDesk.{desk-allows, desk-fits, desk-follows, quiet-keeps}
 use Rattle.nm_desk.proofs.Weaving.{weaves-next, part-can}
 use Rattle.nm_catchup.specs.CatchUp.{Kept, CatchesUp}
-use Rattle.nm_catchup.specs.Catching.{kept_of, IsKept, AwaitsCatch, IsCatchAsked, IsCaughtUp, IsCatchStep, IsCatchHeard}
+use Rattle.nm_catchup.specs.Catching.{kept_of, IsKept, IsCatchAsked, IsCaughtUp, IsCatchStep, IsCatchHeard}
 use Rattle.nm_catchup.specs.declared.cache.CatchStage.TheVariants.{Polling}
 use Rattle.nm_catchup.specs.declared.cache.TranslationCache.{TranslationCache}
 use Rattle.nm_catchup.proofs.Entries.{kept-as}
@@ -39,11 +39,11 @@ use Rattle.nm_access.specs.declared.access.AccessStage.{AccessStage}
 use Rattle.nm_access.specs.declared.access.AccessStage.TheVariants.{CatchingUp, Faulting, Waiting}
 use Rattle.nm_access.specs.declared.access.AccessStep.TheVariants.{Give}
 use Rattle.nm_access.specs.Turning.{Acts, turns_of, IsTurnBegun}
-use Rattle.nm_access.specs.Faults.{FaultKinds, IsFree, ends_after, ends_tally}
+use Rattle.nm_access.specs.Faults.{FaultKinds, IsFree, ends_after}
 use Rattle.nm_access.specs.Accesses.{Held, Accessed, held_faulted, Tries, Translates, IsAccess}
-use Rattle.nm_access.specs.Accessing.{IsReady, view_then, IsInFault, IsFaultGiven, IsAtFault, IsAtWait, IsAtStage, IsCatchingStage, IsAccessHeard}
-use Rattle.nm_access.specs.Moving.{AwaitsOf, IsStepOf, held_of, IsBegunWell, IsTrying, IsFaulting, IsGiving}
-use Rattle.nm_access.proofs.TurnSteps.{tries-after, turns-append, turns-push, then-own, then-push}
+use Rattle.nm_access.specs.Accessing.{view_then, IsInFault, IsFaultGiven, IsAtFault, IsAtWait, IsAtStage, IsCatchingStage, IsAccessHeard}
+use Rattle.nm_access.specs.Moving.{AwaitsOf, IsStepOf, IsBegunWell, IsTrying, IsFaulting, IsGiving}
+use Rattle.nm_access.proofs.TurnSteps.{tries-after, turns-append, then-own}
 use Rattle.nm_access.proofs.Ends.{tries-can}
 use Rattle.nm_access.proofs.Trying.{at-catch, catch-more, piece-begun, answer-fits, list-more, poll-awaits, poll-begun, Catches}
 
@@ -281,7 +281,7 @@ fault-heard {F} {M} {X} kinds made_of awaits_of later ended a heard reply result
     let inside : Fits g (view_after g run.first x.inner) x.action reply = subst (λ (v : View). Fits g v x.action reply) seat (desk-fits g now x.action reply x.gives.quiet fits) in
     let list = list-more x.before turns x.caught turn x.action heard reply x.is x.given told in
     let later_view : view_then g view (turns ++ (turn, heard) ∷ []) ≡ after_of g now x.action reply =
-        ap (λ (l : Turns). view_then g view l) list ∙ (then-own g view x.before (x.caught ++ (x.action, reply) ∷ []) ∙ view-push g (view_then g view x.before) x.caught x.action reply) in
+    ap (λ (l : Turns). view_then g view l) list ∙ (then-own g view x.before (x.caught ++ (x.action, reply) ∷ []) ∙ view-push g (view_then g view x.before) x.caught x.action reply) in
     let all : IsKept g (kept_of a.cache) now = subst (λ (v : View). IsKept g (kept_of a.cache) v) here (subst (λ (l : Turns). IsKept g (kept_of a.cache) (view_then g view l)) x.is x.all) in
     record {
       inner = x.inner ++ (x.action, reply) ∷ [];

@@ -1,29 +1,27 @@
 -- What comes after a look, and how an access begins.
-use Rattle.std.proofs.Common.{◌≡◌, ◌≢◌, inl, inr, ℕ, ◌==◌, ◌&&◌, not, Bool, true, false, IsTrue, List, [], ◌∷◌, ◌++◌, refl, sym, ap, ◌∙◌, subst}
+use Rattle.std.proofs.Common.{◌≡◌, ◌≢◌, inl, inr, ℕ, ◌==◌, ◌&&◌, not, Bool, true, false, IsTrue, [], refl, sym, ap, ◌∙◌, subst}
 use Rattle.std.proofs.lemmas.Bool.{eq-eqb}
 use Rattle.nm_base.specs.Geometry.{Geometry}
-use Rattle.nm_base.specs.PageWord.{IsPageWord, IsPresentWord, is_present, has_hint, is_writable}
+use Rattle.nm_base.specs.PageWord.{IsPageWord, is_present, has_hint, is_writable}
 use Rattle.nm_action.specs.declared.action.Action.{Action}
 use Rattle.nm_action.specs.declared.action.Action.TheVariants.{Soften, Walk}
 use Rattle.nm_action.specs.declared.action.Bit.TheVariants.{Hint}
-use Rattle.nm_action.specs.declared.turn.Turn.{Turn}
 use Rattle.nm_action.specs.declared.turn.Turn.TheVariants.{Do}
 use Rattle.nm_action.specs.Own.{Own}
 use Rattle.nm_view.specs.Views.{View}
 use Rattle.nm_part.specs.Parts.{HasBegin}
-use Rattle.nm_part.specs.Patterns.{Follows, Either, Sometimes, IsLeft}
+use Rattle.nm_part.specs.Patterns.{Follows, Sometimes, IsLeft}
 use Rattle.nm_part.proofs.Patterns.{left-start, either-yes, either-other}
 use Rattle.nm_actor.specs.Turns.{Turns}
 use Rattle.nm_desk.specs.Desk.{desk}
 use Rattle.nm_catchup.specs.CatchUp.{Kept}
-use Rattle.nm_catchup.specs.Catching.{kept_of}
 use Rattle.nm_access.specs.declared.made.AccessMade.{AccessMade}
 use Rattle.nm_access.specs.declared.access.Access.{Access}
 use Rattle.nm_access.specs.declared.access.AccessStage.TheVariants.{Softening, Walking}
 use Rattle.nm_access.specs.declared.access.AccessStep.TheVariants.{Give}
 use Rattle.nm_access.specs.Turning.{Hears}
 use Rattle.nm_access.specs.Faults.{FaultKinds, IsFree, MayFaultOn}
-use Rattle.nm_access.specs.Accesses.{Held, Accessed, is_write, AfterWalk, AfterLook, Faults, Tries, Translates, IsAccess}
+use Rattle.nm_access.specs.Accesses.{Held, is_write, AfterLook, Faults, Tries, Translates, IsAccess}
 use Rattle.nm_access.specs.Accessing.{access_turn, access_left, view_then}
 use Rattle.nm_access.specs.Moving.{IsStepOf, held_of, IsTrying, IsOpening, IsLooked, IsFaulting}
 use Rattle.nm_access.proofs.TurnSteps.{tries-as}

@@ -190,7 +190,7 @@ pub catch-over : {F M X : Type 0} (kinds : FaultKinds M X) (made_of : F → M) (
     → a.stage ≡ CatchingUp → heard ≡ Answer reply → result ≡ steps.Over tt → Catches a.cache later reply result
     → AwaitsOf kinds made_of awaits_of a g was view turns turn → IsAnswer g (view_then g view turns) turn heard
     → IsStepOf kinds made_of awaits_of (record a { cache = later; stage = tried_stage (serves a.made.touch (entry_of (kept_of later) a.made.vpage)) }) g was view (turns ++ (turn, heard) ∷ [])
-      (Give (access_turn a.made (tried_stage (serves a.made.touch (entry_of (kept_of later) a.made.vpage)))))
+    (Give (access_turn a.made (tried_stage (serves a.made.touch (entry_of (kept_of later) a.made.vpage)))))
 catch-over {F} {M} {X} kinds made_of awaits_of a later heard reply result g was view turns turn at told is catches h answer =
     let x = at-catch kinds made_of awaits_of a g was view turns turn at h in
     let fits = answer-fits g view x.front turns x.own turn x.action heard reply x.is x.given told answer in

@@ -1,5 +1,5 @@
 -- What is known of an access between two turns.
-use Rattle.std.specs.Prelude.{◌≡◌, ◌≢◌, ℕ, List, []}
+use Rattle.std.specs.Prelude.{◌≡◌, ℕ, List, [], None}
 use Rattle.nm_base.specs.Geometry.{Geometry}
 use Rattle.nm_base.specs.PageWord.{IsPageWord}
 use Rattle.nm_action.specs.declared.action.Action.{Action}
@@ -8,12 +8,11 @@ use Rattle.nm_action.specs.Own.{Own}
 use Rattle.nm_view.specs.Views.{View}
 use Rattle.nm_part.specs.Patterns.{Sometimes, IsLeft}
 use Rattle.nm_actor.specs.Turns.{Turns}
-use Rattle.nm_desk.specs.Desk.{desk}
 use Rattle.nm_catchup.specs.Catching.{kept_of}
 use Rattle.nm_access.specs.declared.access.Access.{Access}
 use Rattle.nm_access.specs.declared.access.AccessStep.{AccessStep}
 use Rattle.nm_access.specs.declared.made.AccessMade.{AccessMade}
-use Rattle.nm_access.specs.Faults.{FaultKinds, IsFree, ends_tally}
+use Rattle.nm_access.specs.Faults.{FaultKinds, no_counts, ends_tally}
 use Rattle.nm_access.specs.Accesses.{Held, Tries, AfterLook, Faults, Translates, IsAccess}
 use Rattle.nm_access.specs.Accessing.{IsAccessMade, IsReady, IsPeeked, IsInFault, IsFaultGiven, AwaitsAccess, IsAccessStep, view_then}
 
@@ -50,7 +49,6 @@ pub record IsLooked {F M X : Type 0} (kinds : FaultKinds M X) (a : Access F) (st
   pub known : IsPeeked g a.made stamp (kept_of a.cache) (view_then g view turns)
   pub layout : IsPageWord word
 
-
 -- a fault with this data is left
 pub record IsFaulting {F M X : Type 0} (kinds : FaultKinds M X) (a : Access F) (fault : M) (g : Geometry) (was : Held X) (view : View) (turns : Turns) : Type 0 where
   pub ends : List X
@@ -66,8 +64,6 @@ pub record IsGiving {F M X : Type 0} (kinds : FaultKinds M X) (made_of : F → M
   pub run : IsInFault kinds a.made a.hinted (made_of a.fault) (kept_of a.cache) ends g was view inner turns
   pub gives : IsFaultGiven kinds (made_of a.fault) (awaits_of a.fault) g run.first inner action
 
-
-
 -- an access with this may be begun
 pub record IsOpening {F M X : Type 0} (kinds : FaultKinds M X) (a : Access F) (made : AccessMade) (g : Geometry) (was : Held X) (view : View) : Type 0 where
   pub same : a.geometry.now ≡ g
@@ -75,3 +71,9 @@ pub record IsOpening {F M X : Type 0} (kinds : FaultKinds M X) (a : Access F) (m
   pub kept : was.kept ≡ kept_of a.cache
   pub counted : a.tally ≡ ends_tally kinds.counts was.ends
   pub ready : IsReady g (kept_of a.cache) view
+
+-- it has no translations, has acknowledged nothing, and no fault of it has ended
+pub record IsFresh {F : Type 0} (g : Geometry) (a : Access F) : Type 0 where
+  pub same : a.geometry.now ≡ g
+  pub kept : kept_of a.cache ≡ record { cache = record { sets = 16; ways = 4; entries = [] }; acked = None }
+  pub counted : a.tally ≡ no_counts

@@ -1,6 +1,6 @@
 //! An access, one turn at a time.
 
-ghost use Rattle.std.specs.Prelude.{◌≡◌, ℕ, ◌<◌, ◌&&◌, ◌||◌, not, ◌∷◌, ◌++◌, [], Option};
+ghost use Rattle.std.specs.Prelude.{◌≡◌, ℕ, ◌<◌, ◌&&◌, ◌||◌, not, ◌∷◌, ◌++◌, [], Option, IfOk};
 ghost use Rattle.std.specs.Option.{option_map};
 ghost use Rattle.nm_base.specs.Geometry.{Geometry, frame_count};
 ghost use Rattle.nm_base.specs.PageWord.{frame_of, is_writable, is_dirty};
@@ -16,7 +16,7 @@ ghost use Rattle.nm_access.specs.declared.access.AccessStage.TheVariants.{Lookin
 ghost use Rattle.nm_access.specs.Faults.{fault_kinds};
 ghost use Rattle.nm_access.specs.Accesses.{Held, is_write, touch_action, serves, is_marked};
 ghost use Rattle.nm_access.specs.Accessing.{access_turn, tried_stage, marked_stage, IsAccessHeard, IsCatchingStage, IsToldStage, view_then};
-ghost use Rattle.nm_access.specs.Moving.{AwaitsOf, IsStepOf, IsTrying, IsOpening, IsGiving};
+ghost use Rattle.nm_access.specs.Moving.{AwaitsOf, IsStepOf, IsTrying, IsOpening, IsGiving, IsFresh};
 ghost use Rattle.nm_xlat.specs.declared.translations.Entry.{Entry};
 ghost use Rattle.nm_xlat.specs.Translations.{translation_of};
 ghost use Rattle.nm_catchup.specs.CatchUp.{entry_of};
@@ -29,6 +29,7 @@ use nm_base::table_word::{frame_of, has_hint, is_dirty, is_writable};
 use nm_catchup::TranslationCache;
 use nm_event::{Action, Bit, Heard, Lane, Reply, Step, Tally, Turn};
 use nm_part::{Part, Piece};
+use std::alloc::{AllocError, Global};
 
 /// How far an access has come.
 #[derive(Clone, Copy, Debug, PartialEq, Eq)]
@@ -94,7 +95,12 @@ fn is_write(touch: Touch) -> bool
 fn touch_action(made: AccessMade) -> Action
     ensures { result ≡ touch_action made made.touch }
 {
-    let AccessMade { vpage, word, touch, .. } = made;
+    let AccessMade {
+        vpage,
+        word,
+        touch,
+        ..
+    } = made;
     match touch {
         Touch::Load => Action::Load { vpage, word },
         Touch::Store(value) => Action::Store { vpage, word, value },
@@ -106,7 +112,12 @@ fn touch_action(made: AccessMade) -> Action
 fn access_turn(made: AccessMade, stage: AccessStage) -> Turn
     ensures { result ≡ access_turn made stage }
 {
-    let AccessMade { vpage, page, touch, .. } = made;
+    let AccessMade {
+        vpage,
+        page,
+        touch,
+        ..
+    } = made;
     match stage {
         AccessStage::Peeking => Turn::Do(Action::Peek { vpage }),
         AccessStage::Looking(_) => Turn::Do(Action::Look { vpage }),
@@ -119,9 +130,17 @@ fn access_turn(made: AccessMade, stage: AccessStage) -> Turn
             expect: word,
             write: is_write(touch),
         }),
-        AccessStage::Marking => Turn::Do(Action::Mark { page, from: 0, to: 1 }),
+        AccessStage::Marking => Turn::Do(Action::Mark {
+            page,
+            from: 0,
+            to: 1,
+        }),
         AccessStage::Putting => Turn::Put(Lane::Candidates, page),
-        AccessStage::Unmarking => Turn::Do(Action::Mark { page, from: 1, to: 0 }),
+        AccessStage::Unmarking => Turn::Do(Action::Mark {
+            page,
+            from: 1,
+            to: 0,
+        }),
         AccessStage::Touching => Turn::Do(touch_action(made)),
         AccessStage::Resting
         | AccessStage::CatchingUp
@@ -163,6 +182,33 @@ fn walked_dirty(touch: Touch, word: u64) -> bool
 }
 
 impl<'a, F: Faults<'a> + Drop> Access<'a, F> {
+    /// No translations, and no access yet. The memory of the translations is taken here, and the only error is its want.
+    pub fn new(alloc: Global, geometry: &'a Geometry) -> Result<Access<'a, F>, AllocError>
+        ensures { IfOk result (λ a. IsFresh geometry.now a) }
+    {
+        Ok(Access {
+            geometry,
+            cache: TranslationCache::new(alloc)?,
+            fault: F::on_missing(geometry, 0),
+            made: AccessMade {
+                vpage: 0,
+                page: 0,
+                word: 0,
+                touch: Touch::Load,
+            },
+            hinted: false,
+            stage: AccessStage::Resting,
+            tally: Tally::default(),
+        })
+    }
+
+    /// What the ends of its faults count so far.
+    pub fn tally(&self) -> Tally
+        ensures { result ≡ self.now.tally }
+    {
+        self.tally
+    }
+
     /// Comes to a stage of one turn, and gives its turn.
     fn go(&mut self, stage: AccessStage) -> AccessStep
         ensures stage { self.new ≡ record self.old { stage = stage } }
