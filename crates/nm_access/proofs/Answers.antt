@@ -1,43 +1,43 @@
 -- What is given after the turn of a stage was answered.
-use Rattle.std.proofs.Common.{◌≡◌, ◌≢◌, ℕ, suc, ◌==◌, ◌&&◌, ◌||◌, not, Bool, true, false, IsTrue, List, [], ◌∷◌, ◌++◌, Option, Some, None, refl, sym, ap, ◌∙◌, subst}
+use Rattle.std.proofs.Common.{◌≡◌, ◌≢◌, ℕ, suc, ◌&&◌, ◌||◌, Bool, true, false, IsTrue, List, [], ◌∷◌, ◌++◌, refl, sym, ap, ◌∙◌, subst}
 use Rattle.std.proofs.lemmas.List.{append-nil}
 use Rattle.nm_base.specs.Geometry.{Geometry}
-use Rattle.nm_base.specs.PageWord.{is_present, frame_of}
+use Rattle.nm_base.specs.PageWord.{is_present, is_writable, is_dirty, frame_of}
 use Rattle.nm_base.specs.Ranges.{IsFrame}
 use Rattle.nm_action.specs.declared.action.Action.{Action}
-use Rattle.nm_action.specs.declared.action.Action.TheVariants.{Look, Walk, Peek, Soften, Mark}
+use Rattle.nm_action.specs.declared.action.Action.TheVariants.{Peek, Soften, Mark}
 use Rattle.nm_action.specs.declared.action.Bit.TheVariants.{Hint}
 use Rattle.nm_action.specs.declared.action.Reply.{Reply}
-use Rattle.nm_action.specs.declared.action.Reply.TheVariants.{Done, Word, Busy, Lost}
+use Rattle.nm_action.specs.declared.action.Reply.TheVariants.{Done, Word, Lost}
 use Rattle.nm_action.specs.declared.turn.Lane.TheVariants.{Candidates}
 use Rattle.nm_action.specs.declared.turn.Turn.{Turn}
-use Rattle.nm_action.specs.declared.turn.Turn.TheVariants.{Do, Put, End}
+use Rattle.nm_action.specs.declared.turn.Turn.TheVariants.{Do, Put}
 use Rattle.nm_action.specs.declared.turn.Heard.{Heard}
 use Rattle.nm_action.specs.declared.turn.Heard.TheVariants.{Answer, PutDone, PutFull}
 use Rattle.nm_action.specs.Own.{Own}
 use Rattle.nm_view.specs.Views.{View}
-use Rattle.nm_event.specs.After.{after_of, view_after}
-use Rattle.nm_part.specs.Patterns.{Ends, Follows, Either, Sometimes, IsLeft}
+use Rattle.nm_part.specs.Patterns.{Follows, Sometimes, IsLeft}
 use Rattle.nm_part.proofs.Patterns.{either-yes, either-other, ends-now}
 use Rattle.nm_actor.specs.Turns.{Turns}
 use Rattle.nm_actor.specs.Actors.{IsAnswer}
-use Rattle.nm_catchup.specs.CatchUp.{Kept, entry_of}
+use Rattle.nm_setcache.specs.SetAssociative.{put_in_set}
+use Rattle.nm_catchup.specs.CatchUp.{Kept}
 use Rattle.nm_catchup.specs.Catching.{kept_of}
 use Rattle.nm_catchup.specs.declared.cache.TranslationCache.{TranslationCache}
 use Rattle.nm_access.specs.declared.made.AccessMade.{AccessMade}
 use Rattle.nm_access.specs.declared.access.Access.{Access}
 use Rattle.nm_access.specs.declared.access.AccessStage.{AccessStage}
-use Rattle.nm_access.specs.declared.access.AccessStage.TheVariants.{Peeking, Looking, Softening, Walking, Marking, Putting, Unmarking, Touching}
+use Rattle.nm_access.specs.declared.access.AccessStage.TheVariants.{Resting, CatchingUp, Peeking, Looking, Faulting, Waiting, Softening, Walking, Marking, Putting, Unmarking, Touching}
 use Rattle.nm_access.specs.declared.access.AccessStep.{AccessStep}
-use Rattle.nm_access.specs.declared.access.AccessStep.TheVariants.{Give, Over}
-use Rattle.nm_access.specs.Turning.{Hears, word_heard}
+use Rattle.nm_access.specs.declared.access.AccessStep.TheVariants.{Give}
+use Rattle.nm_access.specs.Turning.{Hears}
 use Rattle.nm_access.specs.Faults.{FaultKinds}
-use Rattle.nm_access.specs.Accesses.{Held, Accessed, is_write, touch_action, serves, is_marked, held_walked, Touches, AfterPut, AfterMark, Marks, AfterWalk, Translates, IsAccess}
-use Rattle.nm_access.specs.Accessing.{IsReady, IsPeeked, MayBeWalked, IsServed, KnownInAccess, access_turn, access_left, tried_stage, marked_stage, view_then, IsAccessOver}
+use Rattle.nm_access.specs.Accesses.{Held, Accessed, is_write, touch_action, is_marked, Touches, AfterMark, Marks, Translates, IsAccess}
+use Rattle.nm_access.specs.Accessing.{IsReady, IsPeeked, IsServed, access_turn, access_left, marked_stage, view_then, IsAccessOver, IsAtStage}
 use Rattle.nm_access.specs.Moving.{AwaitsOf, IsStepOf, held_of, IsBegunWell, IsLooked}
 use Rattle.nm_access.proofs.TurnSteps.{tries-as}
 use Rattle.nm_access.proofs.Views.{peeked-then, looked-then, kept_walked, walked-then, touched-then}
-use Rattle.nm_access.proofs.Going.{goes, Answered, by-turn}
+use Rattle.nm_access.proofs.Going.{goes, by-turn}
 
 -- In all of these the names are those of `goes` and `by-turn`.
 
@@ -47,7 +47,6 @@ absent h = cc
 -- a word that is present is not 0
 present-some : (word : ℕ) → IsTrue (is_present word) → word ≢ 0
 present-some word present is = absent (subst (λ n. IsTrue (is_present n)) is present)
-
 
 pub after-peek : {F M X : Type 0} (kinds : FaultKinds M X) (made_of : F → M) (awaits_of : F → Geometry → View → Own → Action → Type 0) (a : Access F) (heard : Heard) (stamp : ℕ) (g : Geometry) (was : Held X) (view : View) (turns : Turns) (turn : Turn)
     → a.stage ≡ Peeking → heard ≡ Answer (Word stamp) → AwaitsOf kinds made_of awaits_of a g was view turns turn → IsAnswer g (view_then g view turns) turn heard
@@ -181,3 +180,49 @@ after-touch kinds made_of awaits_of a heard word g was view turns turn at is h a
       shown = subst (λ (t : Turns). IsAccess kinds g a.made was t o) (append-nil l) (x.due.carry [] o (record { tries = 0; is = ends-now o }));
       ready = subst (λ (v : View). IsReady g (kept_of a.cache) v) (sym (x.then ∙ touched-then g a.made a.made.touch (view_then g view turns) (Word word))) x.known.ready;
     })
+
+-- the translations after the put of a page that was walked
+pub walked-put : (made : AccessMade) (word stamp frame : ℕ) (dirty : Bool) (kept later : Kept) → later ≡ record kept { cache = put_in_set (record { page = made.vpage; entry = record { frame = frame; dirty = dirty; stamp = stamp } }) kept.cache }
+    → frame ≡ frame_of word → dirty ≡ (is_writable word && (is_write made.touch || is_dirty word)) → later ≡ kept_walked made word stamp kept
+walked-put made word stamp frame dirty kept later is frame_is dirty_is =
+    let P : ℕ → Bool → Type 0 = λ f d. later ≡ record kept { cache = put_in_set (record { page = made.vpage; entry = record { frame = f; dirty = d; stamp = stamp } }) kept.cache } in
+    subst (λ d. P (frame_of word) d) dirty_is (subst (λ f. P f dirty) frame_is is)
+
+-- What is heard.
+
+-- what holds of what was told holds of what was heard
+pub heard-as : {F M X : Type 0} (kinds : FaultKinds M X) (made_of : F → M) (awaits_of : F → Geometry → View → Own → Action → Type 0) (later : Access F) (step : AccessStep) (heard told : Heard) (g : Geometry) (was : Held X) (view : View) (turns : Turns) (turn : Turn)
+    → heard ≡ told → IsAnswer g (view_then g view turns) turn heard → (IsAnswer g (view_then g view turns) turn told → IsStepOf kinds made_of awaits_of later g was view (turns ++ (turn, told) ∷ []) step)
+    → IsStepOf kinds made_of awaits_of later g was view (turns ++ (turn, heard) ∷ []) step
+heard-as kinds made_of awaits_of later step heard told g was view turns turn is answer h =
+    let R : Heard → Type 0 = λ x. IsAnswer g (view_then g view turns) turn x → IsStepOf kinds made_of awaits_of later g was view (turns ++ (turn, x) ∷ []) step in
+    (subst R (sym is) h) answer
+
+-- only a Put is answered by what is no reply
+no-do : (g : Geometry) (view : View) (turn : Turn) (action : Action) (told : Heard) → ((action : Action) → IsAnswer g view (Do action) told → ⊥) → turn ≡ Do action → IsAnswer g view turn told → ⊥
+no-do g view turn action told none is answer = none action (subst (λ t. IsAnswer g view t told) is answer)
+
+put-stage : {M X : Type 0} (kinds : FaultKinds M X) (made : AccessMade) (stage : AccessStage) (hinted : Bool) (fault : M) (awaits : Geometry → View → Own → Action → Type 0) (cache : TranslationCache) (ends : List X) (g : Geometry) (was : Held X) (view : View) (turns : Turns) (turn : Turn) (now : View) (told : Heard)
+    → ((action : Action) → IsAnswer g now (Do action) told → ⊥) → IsAtStage kinds made stage hinted fault awaits cache ends g was view turns turn → IsAnswer g now turn told → stage ≡ Putting
+put-stage kinds made Resting hinted fault awaits cache ends g was view turns turn now told none h answer = absurd h
+put-stage kinds made CatchingUp hinted fault awaits cache ends g was view turns turn now told none h answer = absurd (no-do g now turn h.action told none h.given answer)
+put-stage kinds made Faulting hinted fault awaits cache ends g was view turns turn now told none h answer = absurd (no-do g now turn h.action told none h.given answer)
+put-stage kinds made (Waiting waiting) hinted fault awaits cache ends g was view turns turn now told none h answer = absurd (no-do g now turn h.action told none h.given answer)
+put-stage kinds made Putting hinted fault awaits cache ends g was view turns turn now told none h answer = refl
+put-stage kinds made Peeking hinted fault awaits cache ends g was view turns turn now told none h answer = absurd (no-do g now turn _ told none h.is answer)
+put-stage kinds made (Looking stamp) hinted fault awaits cache ends g was view turns turn now told none h answer = absurd (no-do g now turn _ told none h.is answer)
+put-stage kinds made Softening hinted fault awaits cache ends g was view turns turn now told none h answer = absurd (no-do g now turn _ told none h.is answer)
+put-stage kinds made (Walking stamp word) hinted fault awaits cache ends g was view turns turn now told none h answer = absurd (no-do g now turn _ told none h.is answer)
+put-stage kinds made Marking hinted fault awaits cache ends g was view turns turn now told none h answer = absurd (no-do g now turn _ told none h.is answer)
+put-stage kinds made Unmarking hinted fault awaits cache ends g was view turns turn now told none h answer = absurd (no-do g now turn _ told none h.is answer)
+put-stage kinds made Touching hinted fault awaits cache ends g was view turns turn now told none h answer = absurd (no-do g now turn _ told none h.is answer)
+
+pub at-put : {F M X : Type 0} (kinds : FaultKinds M X) (made_of : F → M) (awaits_of : F → Geometry → View → Own → Action → Type 0) (a : Access F) (heard : Heard) (g : Geometry) (was : Held X) (view : View) (turns : Turns) (turn : Turn)
+    → heard ≡ PutDone → AwaitsOf kinds made_of awaits_of a g was view turns turn → IsAnswer g (view_then g view turns) turn heard → a.stage ≡ Putting
+at-put kinds made_of awaits_of a heard g was view turns turn is h answer = put-stage kinds a.made a.stage a.hinted (made_of a.fault) (awaits_of a.fault) a.cache h.ends g was view turns turn (view_then g view turns) PutDone (λ action x. x) h.at
+    (subst (λ x. IsAnswer g (view_then g view turns) turn x) is answer)
+
+pub at-full : {F M X : Type 0} (kinds : FaultKinds M X) (made_of : F → M) (awaits_of : F → Geometry → View → Own → Action → Type 0) (a : Access F) (heard : Heard) (g : Geometry) (was : Held X) (view : View) (turns : Turns) (turn : Turn)
+    → heard ≡ PutFull → AwaitsOf kinds made_of awaits_of a g was view turns turn → IsAnswer g (view_then g view turns) turn heard → a.stage ≡ Putting
+at-full kinds made_of awaits_of a heard g was view turns turn is h answer = put-stage kinds a.made a.stage a.hinted (made_of a.fault) (awaits_of a.fault) a.cache h.ends g was view turns turn (view_then g view turns) PutFull (λ action x. x) h.at
+    (subst (λ x. IsAnswer g (view_then g view turns) turn x) is answer)

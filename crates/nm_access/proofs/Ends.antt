@@ -1,29 +1,25 @@
 -- Each pattern of an access has a list.
-use Rattle.std.proofs.Common.{◌≡◌, ℕ, zero, suc, ◌∷◌, [], ◌++◌, ◌==◌, ◌&&◌, not, Bool, true, false, List, refl, subst, sym}
+use Rattle.std.proofs.Common.{◌≡◌, ℕ, ◌∷◌, [], ◌&&◌, not, Bool, false, refl, subst, sym}
 use Rattle.nm_base.specs.Geometry.{Geometry}
-use Rattle.nm_base.specs.PageWord.{has_hint, is_writable}
-use Rattle.nm_action.specs.declared.action.Action.{Action}
-use Rattle.nm_action.specs.declared.action.Action.TheVariants.{Load, Store, Add, Look, Walk, Peek, Soften, Mark}
-use Rattle.nm_action.specs.declared.action.Bit.TheVariants.{Hint}
-use Rattle.nm_action.specs.declared.action.Reply.{Reply}
+use Rattle.nm_base.specs.PageWord.{is_writable}
+use Rattle.nm_action.specs.declared.action.Action.TheVariants.{Look, Walk, Peek, Mark}
 use Rattle.nm_action.specs.declared.action.Reply.TheVariants.{Done, Word, Lost}
-use Rattle.nm_action.specs.declared.turn.Lane.TheVariants.{Candidates}
 use Rattle.nm_action.specs.declared.turn.Turn.{Turn}
-use Rattle.nm_action.specs.declared.turn.Turn.TheVariants.{Do, Put}
+use Rattle.nm_action.specs.declared.turn.Turn.TheVariants.{Do}
 use Rattle.nm_action.specs.declared.turn.Heard.{Heard}
-use Rattle.nm_action.specs.declared.turn.Heard.TheVariants.{Answer, PutDone, PutFull}
+use Rattle.nm_action.specs.declared.turn.Heard.TheVariants.{Answer, PutDone}
 use Rattle.nm_action.specs.Own.{Own}
-use Rattle.nm_part.specs.Patterns.{Ends, Follows, Either, CanEnd}
+use Rattle.nm_part.specs.Patterns.{Follows, Either, CanEnd}
 use Rattle.nm_part.proofs.Patterns.{can-ends, can-follow, can-either}
 use Rattle.nm_actor.specs.Turns.{Turns}
-use Rattle.nm_catchup.specs.CatchUp.{Kept, entry_of, CatchesUp}
+use Rattle.nm_catchup.specs.CatchUp.{entry_of, CatchesUp}
 use Rattle.nm_catchup.proofs.Loops.{catches-up-can}
 use Rattle.nm_access.specs.declared.made.Touch.{Touch}
 use Rattle.nm_access.specs.declared.made.Touch.TheVariants as touches
 use Rattle.nm_access.specs.declared.made.AccessMade.{AccessMade}
-use Rattle.nm_access.specs.Turning.{IsHeardOf, Hears, Acts, turns_of, reply_in, word_heard, is_done}
+use Rattle.nm_access.specs.Turning.{IsHeardOf, Hears, Acts, turns_of, word_heard}
 use Rattle.nm_access.specs.Faults.{FaultKinds}
-use Rattle.nm_access.specs.Accesses.{Held, Accessed, is_write, touch_action, serves, is_marked, walked_entry, held_walked, held_faulted, held_caught, Touches, AfterPut, AfterMark, Marks, AfterWalk, Tries, Faults, AfterLook, Translates}
+use Rattle.nm_access.specs.Accesses.{Held, Accessed, is_write, touch_action, serves, is_marked, held_walked, held_caught, Touches, AfterPut, AfterMark, Marks, AfterWalk, Tries, Faults, AfterLook, Translates}
 
 -- a turn and something of its kind
 abbrev pub some-heard : (g : Geometry) (turn : Turn) (heard : Heard) → IsHeardOf g turn heard → CanEnd (Hears g turn)
@@ -73,8 +69,8 @@ pub translates-can : {M X : Type 0} (kinds : FaultKinds M X) (g : Geometry) (mad
 translates-can {M} {X} kinds g made held hinted =
     let again : Held X → Bool → Turns → Accessed X → Type 0 = Translates kinds g made 0 in
     let can = can-follow (Hears g (Do (Peek made.vpage))) (λ peek. Follows (Hears g (Do (Look made.vpage))) (λ look. AfterLook kinds g made (word_heard peek) again held hinted (word_heard look)))
-        (some-heard g (Do (Peek made.vpage)) (Answer (Word 0)) (λ view. tt))
-        (can-follow (Hears g (Do (Look made.vpage))) (λ look. AfterLook kinds g made 0 again held hinted (word_heard look)) (some-heard g (Do (Look made.vpage)) (Answer (Word plain)) (λ view. tt)) (look-can kinds g made 0 again held hinted)) in
+    (some-heard g (Do (Peek made.vpage)) (Answer (Word 0)) (λ view. tt))
+    (can-follow (Hears g (Do (Look made.vpage))) (λ look. AfterLook kinds g made 0 again held hinted (word_heard look)) (some-heard g (Do (Look made.vpage)) (Answer (Word plain)) (λ view. tt)) (look-can kinds g made 0 again held hinted)) in
     record { rest = can.rest; outcome = can.outcome; shown = can.shown }
 
 pub tries-can : {M X : Type 0} (kinds : FaultKinds M X) (g : Geometry) (made : AccessMade) (held : Held X) (hinted : Bool) → CanEnd (Tries g made (Translates kinds g made 1) held hinted)

@@ -1,26 +1,23 @@
 -- The stages of one turn.
-use Rattle.std.proofs.Common.{◌≡◌, ◌≢◌, ℕ, zero, suc, ◌==◌, ◌&&◌, ◌||◌, not, Bool, true, false, IsTrue, List, [], ◌∷◌, ◌++◌, Option, Some, None, refl, sym, ap, ◌∙◌, subst}
-use Rattle.std.proofs.lemmas.List.{append-nil}
+use Rattle.std.proofs.Common.{◌≡◌, Bool, true, List, [], ◌∷◌, ◌++◌, refl, sym, subst}
 use Rattle.nm_base.specs.Geometry.{Geometry}
-use Rattle.nm_base.specs.PageWord.{has_hint, is_writable}
 use Rattle.nm_action.specs.declared.action.Action.{Action}
 use Rattle.nm_action.specs.declared.action.Action.TheVariants.{Look, Walk, Peek, Soften, Mark}
 use Rattle.nm_action.specs.declared.action.Bit.TheVariants.{Hint}
-use Rattle.nm_action.specs.declared.action.Reply.{Reply}
-use Rattle.nm_action.specs.declared.action.Reply.TheVariants.{Done, Word, Busy, Lost}
+use Rattle.nm_action.specs.declared.action.Reply.TheVariants.{Done, Word, Lost}
 use Rattle.nm_action.specs.declared.turn.Lane.TheVariants.{Candidates}
 use Rattle.nm_action.specs.declared.turn.Turn.{Turn}
-use Rattle.nm_action.specs.declared.turn.Turn.TheVariants.{Do, Put, End}
+use Rattle.nm_action.specs.declared.turn.Turn.TheVariants.{Do, Put}
 use Rattle.nm_action.specs.declared.turn.Heard.{Heard}
-use Rattle.nm_action.specs.declared.turn.Heard.TheVariants.{Answer, PutDone, PutFull}
+use Rattle.nm_action.specs.declared.turn.Heard.TheVariants.{Answer, PutDone}
 use Rattle.nm_action.specs.Own.{Own}
 use Rattle.nm_view.specs.Views.{View}
-use Rattle.nm_event.specs.After.{after_of, view_after}
-use Rattle.nm_part.specs.Patterns.{Ends, Follows, Either, Sometimes, IsLeft, CanEnd}
-use Rattle.nm_part.proofs.Patterns.{can-ends, can-follow, either-yes, either-other, ends-now}
-use Rattle.nm_actor.specs.Turns.{Turns, own_turn, own_list}
+use Rattle.nm_event.specs.After.{view_after}
+use Rattle.nm_part.specs.Patterns.{Follows, Sometimes, IsLeft}
+use Rattle.nm_part.proofs.Patterns.{can-ends, can-follow}
+use Rattle.nm_actor.specs.Turns.{Turns, own_turn}
 use Rattle.nm_actor.specs.Actors.{IsAnswer}
-use Rattle.nm_catchup.specs.CatchUp.{Kept, entry_of}
+use Rattle.nm_catchup.specs.CatchUp.{Kept}
 use Rattle.nm_catchup.specs.Catching.{kept_of}
 use Rattle.nm_catchup.specs.declared.cache.TranslationCache.{TranslationCache}
 use Rattle.nm_access.specs.declared.made.AccessMade.{AccessMade}
@@ -28,15 +25,15 @@ use Rattle.nm_access.specs.declared.access.Access.{Access}
 use Rattle.nm_access.specs.declared.access.AccessStage.{AccessStage}
 use Rattle.nm_access.specs.declared.access.AccessStage.TheVariants.{Resting, CatchingUp, Peeking, Looking, Faulting, Waiting, Softening, Walking, Marking, Putting, Unmarking, Touching}
 use Rattle.nm_access.specs.declared.access.AccessStep.{AccessStep}
-use Rattle.nm_access.specs.declared.access.AccessStep.TheVariants.{Give, Over}
-use Rattle.nm_access.specs.Turning.{IsHeardOf, Hears, word_heard, IsTurnBegun}
+use Rattle.nm_access.specs.declared.access.AccessStep.TheVariants.{Give}
+use Rattle.nm_access.specs.Turning.{Hears, word_heard, IsTurnBegun}
 use Rattle.nm_access.specs.Faults.{FaultKinds}
-use Rattle.nm_access.specs.Accesses.{Held, Accessed, is_write, touch_action, serves, is_marked, held_walked, Touches, AfterPut, AfterMark, Marks, AfterWalk, AfterLook, Translates, IsAccess}
-use Rattle.nm_access.specs.Accessing.{IsReady, IsPeeked, MayBeWalked, IsServed, KnownInAccess, access_turn, access_left, tried_stage, marked_stage, view_then, IsAtTurn, IsAtStage, IsAccessOver}
-use Rattle.nm_access.specs.Moving.{AwaitsOf, IsStepOf, held_of, IsBegunWell, IsLooked}
-use Rattle.nm_access.proofs.TurnSteps.{answer-kind, tries-as, tries-heard, begun-heard, then-push}
+use Rattle.nm_access.specs.Accesses.{Held, is_write, touch_action, AfterLook, Translates, IsAccess}
+use Rattle.nm_access.specs.Accessing.{KnownInAccess, access_turn, access_left, view_then, IsAtTurn, IsAtStage}
+use Rattle.nm_access.specs.Moving.{AwaitsOf, IsStepOf, held_of, IsBegunWell}
+use Rattle.nm_access.proofs.TurnSteps.{answer-kind, tries-heard, begun-heard, then-push}
 use Rattle.nm_access.proofs.Ends.{some-heard, touch-heard, touches-can, put-can, mark-can, walk-can, plain, look-can, translates-can}
-use Rattle.nm_access.proofs.Views.{permitted-turn, peeked-then, looked-then, kept_walked, walked-then, touched-then}
+use Rattle.nm_access.proofs.Views.{permitted-turn}
 
 -- A turn is given.
 
@@ -109,3 +106,9 @@ by-turn {F} {M} {X} kinds made_of awaits_of a stage heard told g was view turns 
       due = tries-heard g (IsAccess kinds g a.made was) turns (access_turn a.made stage) told (access_left kinds g a.made stage (held_of a h.ends) a.hinted) here.due (answer-kind g (view_then g view turns) (access_turn a.made stage) told fits);
       then = then-push g view turns (access_turn a.made stage) told;
     })))) answer
+
+-- the same of what the code has come to
+pub gone : {F M X : Type 0} (kinds : FaultKinds M X) (made_of : F → M) (awaits_of : F → Geometry → View → Own → Action → Type 0) (now a : Access F) (result step : AccessStep) (g : Geometry) (was : Held X) (view : View) (turns : Turns)
+    → now ≡ a → result ≡ step → IsStepOf kinds made_of awaits_of a g was view turns step → IsStepOf kinds made_of awaits_of now g was view turns result
+gone {F} kinds made_of awaits_of now a result step g was view turns same is h =
+    subst (λ (b : Access F). IsStepOf kinds made_of awaits_of b g was view turns result) (sym same) (subst (λ (s : AccessStep). IsStepOf kinds made_of awaits_of a g was view turns s) (sym is) h)

@@ -3,3 +3,6 @@ pub mod Ends
 pub mod Views
 pub mod Going
 pub mod Answers
+pub mod Trying
+pub mod Faulting
+pub mod Looking

@@ -1,5 +1,5 @@
 -- Turns along patterns, and the view after them.
-use Rattle.std.proofs.Common.{◌≡◌, ℕ, zero, suc, ◌++◌, ◌∷◌, [], List, refl, sym, ap, ◌∙◌, subst, append_assoc}
+use Rattle.std.proofs.Common.{◌≡◌, ℕ, ◌++◌, ◌∷◌, [], List, refl, sym, ap, ◌∙◌, subst, append_assoc}
 use Rattle.nm_base.specs.Geometry.{Geometry}
 use Rattle.nm_action.specs.declared.action.Action.{Action}
 use Rattle.nm_action.specs.declared.action.Reply.{Reply}
@@ -9,14 +9,14 @@ use Rattle.nm_action.specs.declared.turn.Heard.{Heard}
 use Rattle.nm_action.specs.declared.turn.Heard.TheVariants.{Start, Answer, PutDone, PutFull, Took, TookNone}
 use Rattle.nm_action.specs.Own.{Own}
 use Rattle.nm_view.specs.Views.{View}
-use Rattle.nm_event.specs.After.{after_of, view_after}
+use Rattle.nm_event.specs.After.{view_after}
 use Rattle.nm_part.specs.Patterns.{Follows, Sometimes, IsLeft, CanEnd}
 use Rattle.nm_part.proofs.OwnLemmas.{view-append}
-use Rattle.nm_compose.proofs.Acting.{some-act, reply-kind}
+use Rattle.nm_compose.proofs.Acting.{reply-kind}
 use Rattle.nm_actor.specs.Turns.{Turns, own_turn, own_list}
 use Rattle.nm_actor.specs.Actors.{IsAnswer}
 use Rattle.nm_actor.proofs.TurnLists.{own-append, own-push}
-use Rattle.nm_access.specs.Turning.{IsHeardOf, Hears, Acts, turns_of, IsTurnBegun}
+use Rattle.nm_access.specs.Turning.{IsHeardOf, Hears, turns_of, IsTurnBegun}
 use Rattle.nm_access.specs.Accessing.{view_then}
 
 -- what answers a turn is of its kind

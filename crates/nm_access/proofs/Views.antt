@@ -1,16 +1,13 @@
 -- The view at each stage of an access.
-use Rattle.std.proofs.Common.{◌≡◌, ◌≢◌, ◌⊎◌, inl, inr, ℕ, ◌<◌, ◌≤◌, ◌&&◌, ◌||◌, not, Bool, true, false, IsTrue, List, [], ◌∷◌, Option, Some, None, IsSome, IfSome, IsSomeAnd, refl, sym, ap, ◌∙◌, subst, arith}
+use Rattle.std.proofs.Common.{◌≡◌, ◌≢◌, ◌⊎◌, inl, inr, ℕ, ◌&&◌, ◌||◌, not, Bool, true, false, IsTrue, List, [], Option, Some, None, IsSome, IfSome, IsSomeAnd, refl, sym, ◌∙◌, subst, arith}
 use Rattle.std.proofs.lemmas.Bool.{cases_eq}
 use Rattle.nm_base.specs.Geometry.{Geometry, backing_page}
-use Rattle.nm_base.specs.PageWord.{is_present, has_hint, is_writable, is_dirty, frame_of}
-use Rattle.nm_base.specs.Ranges.{IsVPage, IsIndex, IsWord}
-use Rattle.nm_action.specs.declared.action.Action.{Action}
-use Rattle.nm_action.specs.declared.action.Action.TheVariants.{Load, Store, Add, Look, Walk, Peek, Soften, Mark}
-use Rattle.nm_action.specs.declared.action.Bit.TheVariants.{Hint}
+use Rattle.nm_base.specs.PageWord.{is_writable, is_dirty}
+use Rattle.nm_base.specs.Ranges.{IsVPage, IsIndex}
+use Rattle.nm_action.specs.declared.action.Action.TheVariants.{Look, Walk, Peek}
 use Rattle.nm_action.specs.declared.action.Reply.{Reply}
 use Rattle.nm_action.specs.declared.action.Reply.TheVariants.{Done, Word}
 use Rattle.nm_view.specs.declared.view.CacheEntry.{CacheEntry}
-use Rattle.nm_view.specs.declared.view.Peeked.{Peeked}
 use Rattle.nm_view.specs.Lists.{find, put}
 use Rattle.nm_view.specs.Views.{Op, View, off_word, end_word}
 use Rattle.nm_view.specs.Operations.{cached_page, peeked_page}
@@ -31,7 +28,6 @@ use Rattle.nm_access.specs.declared.made.Touch.TheVariants as touches
 use Rattle.nm_access.specs.declared.made.AccessMade.{AccessMade}
 use Rattle.nm_access.specs.declared.access.AccessStage.{AccessStage}
 use Rattle.nm_access.specs.declared.access.AccessStage.TheVariants.{Resting, CatchingUp, Peeking, Looking, Faulting, Waiting, Softening, Walking, Marking, Putting, Unmarking, Touching}
-use Rattle.nm_access.specs.Faults.{IsFree}
 use Rattle.nm_access.specs.Accesses.{is_write, touch_action, serves, walked_entry}
 use Rattle.nm_access.specs.Accessing.{IsTouchWord, IsAccessMade, IsReady, IsPeeked, MayBeWalked, IsServed, KnownInAccess, access_turn}
 
@@ -86,15 +82,18 @@ permitted-turn g made Softening kept view may known = record { range = may.vpage
 permitted-turn g made (Walking stamp word) kept view may known =
     let ready = known.peeked.ready in
     let on = running view kept.acked ready.on ready.all.acked in
-    record { range = may.vpage; permitted = record {
-      processor = ready.all.processor;
-      on = on.0;
-      running = on.1;
-      peek = is-some (find peeked_page made.vpage view.peeked) (fresh_peek made.vpage stamp) known.peeked.peek;
-      present = known.present;
-      hint = known.hint;
-      writable = known.writable;
-    } }
+    record {
+      range = may.vpage;
+      permitted = record {
+        processor = ready.all.processor;
+        on = on.0;
+        running = on.1;
+        peek = is-some (find peeked_page made.vpage view.peeked) (fresh_peek made.vpage stamp) known.peeked.peek;
+        present = known.present;
+        hint = known.hint;
+        writable = known.writable;
+      };
+    }
 permitted-turn g made Marking kept view may known = record { range = may.page; permitted = inl (inl (record { old_is = refl; new_is = refl })) }
 permitted-turn g made Putting kept view may known = tt
 permitted-turn g made Unmarking kept view may known = record { range = may.page; permitted = inl (inr (inl (record { old_is = refl; new_is = refl }))) }
@@ -141,9 +140,9 @@ put-entry x c page e there = elim (cases_eq page x.page) [
   | inl same ↦ let P : ℕ → Type 0 = λ p. entry_at p (put_in_set x c).entries ≡ Some e in
       inl (same, some-same e x.entry (sym (subst P same there) ∙ this_page_at-put x _))
   | inr other ↦ elim (other_pages_at-put x c.ways (entries_of_set c.sets x.page c.entries) c.entries page other) [
-      | inl stays ↦ inr (other, sym stays ∙ there)
-      | inr gone ↦ absurd (none-some e (entry_at page (put_in_set x c).entries) gone there)
-    ]
+    | inl stays ↦ inr (other, sym stays ∙ there)
+    | inr gone ↦ absurd (none-some e (entry_at page (put_in_set x c).entries) gone there)
+  ]
 ]
 
 walked-cached : (made : AccessMade) (word stamp : ℕ) (kept : Kept) (view : View) (page : ℕ) (e : Entry) → find peeked_page made.vpage view.peeked ≡ Some (fresh_peek made.vpage stamp) → AreCached kept view

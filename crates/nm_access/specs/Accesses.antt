@@ -1,5 +1,5 @@
 -- An access of a processor, as a finished list of turns; the last step first.
-use Rattle.std.specs.Prelude.{◌≡◌, ℕ, zero, suc, ◌==◌, ◌&&◌, ◌||◌, not, Bool, true, false, List, [], ◌∷◌, ◌++◌, Option, Some, None}
+use Rattle.std.specs.Prelude.{ℕ, zero, suc, ◌==◌, ◌&&◌, ◌||◌, not, Bool, true, false, List, [], ◌∷◌, ◌++◌, Option, Some, None}
 use Rattle.nm_base.specs.Geometry.{Geometry, tier_of}
 use Rattle.nm_base.specs.PageWord.{has_hint, is_writable, is_dirty, frame_of}
 use Rattle.nm_action.specs.declared.action.Action.{Action}

@@ -1,12 +1,11 @@
 -- How far an access has come.
-use Rattle.std.specs.Prelude.{◌≡◌, ◌≢◌, ℕ, ◌<◌, ◌^◌, ◌&&◌, not, Bool, true, false, if◌then◌else◌, IsTrue, List, [], ◌∷◌, ◌++◌, Option, Some, None, IsSome}
+use Rattle.std.specs.Prelude.{◌≡◌, ℕ, Bool, true, false, if◌then◌else◌, IsTrue, List, [], ◌++◌, Some, IsSome}
 use Rattle.nm_base.specs.Geometry.{Geometry, IsGeometry, backing_page}
 use Rattle.nm_base.specs.PageWord.{is_present, has_hint, is_writable}
 use Rattle.nm_base.specs.Ranges.{IsVPage, IsPage, IsIndex, IsWord}
 use Rattle.nm_action.specs.declared.action.Action.{Action}
 use Rattle.nm_action.specs.declared.action.Action.TheVariants.{Look, Walk, Peek, Soften, Mark}
 use Rattle.nm_action.specs.declared.action.Bit.TheVariants.{Hint}
-use Rattle.nm_action.specs.declared.action.Reply.{Reply}
 use Rattle.nm_action.specs.declared.tally.Tally.{Tally}
 use Rattle.nm_action.specs.declared.turn.Lane.TheVariants.{Candidates}
 use Rattle.nm_action.specs.declared.turn.Turn.{Turn}
@@ -19,11 +18,11 @@ use Rattle.nm_view.specs.Operations.{peeked_page}
 use Rattle.nm_permit.specs.Permitted.{Allowed}
 use Rattle.nm_event.specs.After.{view_after}
 use Rattle.nm_part.specs.Parts.{IsQuiet, IsBegunWith}
-use Rattle.nm_part.specs.Patterns.{Ends, Follows, Either, Sometimes, IsLeft}
+use Rattle.nm_part.specs.Patterns.{Ends, Follows, Sometimes, IsLeft}
 use Rattle.nm_actor.specs.Turns.{Turns, own_list}
 use Rattle.nm_actor.specs.Actors.{IsAnswer, IsPermittedTurn}
 use Rattle.nm_desk.specs.Desk.{desk}
-use Rattle.nm_desk.specs.Woven.{CatchesWhere, Weaves, WeavesPart}
+use Rattle.nm_desk.specs.Woven.{CatchesWhere, Weaves}
 use Rattle.nm_catchup.specs.declared.cache.TranslationCache.{TranslationCache}
 use Rattle.nm_catchup.specs.CatchUp.{Kept, entry_of, CatchesUp}
 use Rattle.nm_catchup.specs.Catching.{kept_of, fresh_peek, IsKept, AwaitsCatch}
@@ -34,9 +33,9 @@ use Rattle.nm_access.specs.declared.access.AccessStage.{AccessStage}
 use Rattle.nm_access.specs.declared.access.AccessStage.TheVariants.{Resting, CatchingUp, Peeking, Looking, Faulting, Waiting, Softening, Walking, Marking, Putting, Unmarking, Touching}
 use Rattle.nm_access.specs.declared.access.AccessStep.{AccessStep}
 use Rattle.nm_access.specs.declared.access.AccessStep.TheVariants.{Give, Over}
-use Rattle.nm_access.specs.Turning.{Hears, Acts, turns_of, word_heard, IsTurnBegun}
+use Rattle.nm_access.specs.Turning.{Hears, turns_of, word_heard, IsTurnBegun}
 use Rattle.nm_access.specs.Faults.{FaultKinds, IsFree, ends_tally}
-use Rattle.nm_access.specs.Accesses.{Held, Accessed, is_write, touch_action, serves, is_marked, Touches, AfterPut, AfterMark, AfterWalk, Tries, Faults, AfterLook, Translates, IsAccess}
+use Rattle.nm_access.specs.Accesses.{Held, Accessed, is_write, touch_action, serves, Touches, AfterPut, AfterMark, AfterWalk, Tries, Faults, AfterLook, Translates, IsAccess}
 
 -- What an access is made with.
 
@@ -207,6 +206,21 @@ pub record IsAtWait {M X : Type 0} (kinds : FaultKinds M X) (made : AccessMade) 
   pub given : turn ≡ Do action
   pub is : turns ≡ before ++ turns_of own
   pub awaited : AwaitsCatch cache middle g (view_then g view before) own action
+
+-- the processor catches up at a stage
+abbrev pub IsCatchingStage : AccessStage → Type 0
+IsCatchingStage CatchingUp = Unit {0}
+IsCatchingStage (Waiting action) = Unit {0}
+IsCatchingStage stage = ⊥
+
+-- the answer decides what comes after a stage
+abbrev pub IsToldStage : AccessStage → Type 0
+IsToldStage Peeking = Unit {0}
+IsToldStage (Looking stamp) = Unit {0}
+IsToldStage (Walking stamp word) = Unit {0}
+IsToldStage Marking = Unit {0}
+IsToldStage Touching = Unit {0}
+IsToldStage stage = ⊥
 
 -- what an access awaits at a stage
 abbrev pub IsAtStage : {M X : Type 0} → FaultKinds M X → AccessMade → AccessStage → Bool → M → (Geometry → View → Own → Action → Type 0) → TranslationCache → List X → Geometry → Held X → View → Turns → Turn → Type 0

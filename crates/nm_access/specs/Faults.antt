@@ -1,5 +1,5 @@
 -- The faults of a processor, as one that runs them sees them.
-use Rattle.std.specs.Prelude.{◌≡◌, ℕ, Bool, List, [], ◌∷◌, Option, Some, None}
+use Rattle.std.specs.Prelude.{◌≡◌, ℕ, Bool, List, [], ◌∷◌, Some, None}
 use Rattle.nm_base.specs.Geometry.{Geometry, IsGeometry, backing_page}
 use Rattle.nm_base.specs.Ranges.{IsVPage, IsPage}
 use Rattle.nm_action.specs.declared.action.Action.{Action}

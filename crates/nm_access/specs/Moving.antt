@@ -1,5 +1,5 @@
 -- What is known of an access between two turns.
-use Rattle.std.specs.Prelude.{◌≡◌, ◌≢◌, ℕ, List, []}
+use Rattle.std.specs.Prelude.{◌≡◌, ℕ, List, [], None}
 use Rattle.nm_base.specs.Geometry.{Geometry}
 use Rattle.nm_base.specs.PageWord.{IsPageWord}
 use Rattle.nm_action.specs.declared.action.Action.{Action}
@@ -8,12 +8,11 @@ use Rattle.nm_action.specs.Own.{Own}
 use Rattle.nm_view.specs.Views.{View}
 use Rattle.nm_part.specs.Patterns.{Sometimes, IsLeft}
 use Rattle.nm_actor.specs.Turns.{Turns}
-use Rattle.nm_desk.specs.Desk.{desk}
 use Rattle.nm_catchup.specs.Catching.{kept_of}
 use Rattle.nm_access.specs.declared.access.Access.{Access}
 use Rattle.nm_access.specs.declared.access.AccessStep.{AccessStep}
 use Rattle.nm_access.specs.declared.made.AccessMade.{AccessMade}
-use Rattle.nm_access.specs.Faults.{FaultKinds, IsFree, ends_tally}
+use Rattle.nm_access.specs.Faults.{FaultKinds, no_counts, ends_tally}
 use Rattle.nm_access.specs.Accesses.{Held, Tries, AfterLook, Faults, Translates, IsAccess}
 use Rattle.nm_access.specs.Accessing.{IsAccessMade, IsReady, IsPeeked, IsInFault, IsFaultGiven, AwaitsAccess, IsAccessStep, view_then}
 
@@ -50,14 +49,6 @@ pub record IsLooked {F M X : Type 0} (kinds : FaultKinds M X) (a : Access F) (st
   pub known : IsPeeked g a.made stamp (kept_of a.cache) (view_then g view turns)
   pub layout : IsPageWord word
 
--- there is an access whose virtual page was looked at
-pub record HasLooked {F M X : Type 0} (kinds : FaultKinds M X) (a : Access F) (stamp word : ℕ) : Type 0 where
-  pub geometry : Geometry
-  pub was : Held X
-  pub view : View
-  pub turns : Turns
-  pub looked : IsLooked kinds a stamp word geometry was view turns
-
 -- a fault with this data is left
 pub record IsFaulting {F M X : Type 0} (kinds : FaultKinds M X) (a : Access F) (fault : M) (g : Geometry) (was : Held X) (view : View) (turns : Turns) : Type 0 where
   pub ends : List X
@@ -73,20 +64,16 @@ pub record IsGiving {F M X : Type 0} (kinds : FaultKinds M X) (made_of : F → M
   pub run : IsInFault kinds a.made a.hinted (made_of a.fault) (kept_of a.cache) ends g was view inner turns
   pub gives : IsFaultGiven kinds (made_of a.fault) (awaits_of a.fault) g run.first inner action
 
--- there is an access whose fault gives an action
-pub record HasGiven {F M X : Type 0} (kinds : FaultKinds M X) (made_of : F → M) (awaits_of : F → Geometry → View → Own → Action → Type 0) (a : Access F) (action : Action) : Type 0 where
-  pub geometry : Geometry
-  pub was : Held X
-  pub view : View
-  pub turns : Turns
-  pub gives : IsGiving kinds made_of awaits_of a action geometry was view turns
+-- an access with this may be begun
+pub record IsOpening {F M X : Type 0} (kinds : FaultKinds M X) (a : Access F) (made : AccessMade) (g : Geometry) (was : Held X) (view : View) : Type 0 where
+  pub same : a.geometry.now ≡ g
+  pub may : IsAccessMade g made
+  pub kept : was.kept ≡ kept_of a.cache
+  pub counted : a.tally ≡ ends_tally kinds.counts was.ends
+  pub ready : IsReady g (kept_of a.cache) view
 
--- there is an access of which a fault with this data is left, and it may begin
-pub record HasFaultBegun {F M X : Type 0} (kinds : FaultKinds M X) (may_begin : M → Geometry → View → Type 0) (awaits_of : F → Geometry → View → Own → Action → Type 0) (a : Access F) (fault : M) : Type 0 where
-  pub geometry : Geometry
-  pub was : Held X
-  pub view : View
-  pub turns : Turns
-  pub faulting : IsFaulting kinds a fault geometry was view turns
-  pub begin : may_begin fault geometry (desk geometry (view_then geometry view turns))
-  pub frees : (now left : View) (end : X) → kinds.leaves fault geometry now end left → IsFree left
+-- it has no translations, has acknowledged nothing, and no fault of it has ended
+pub record IsFresh {F : Type 0} (g : Geometry) (a : Access F) : Type 0 where
+  pub same : a.geometry.now ≡ g
+  pub kept : kept_of a.cache ≡ record { cache = record { sets = 16; ways = 4; entries = [] }; acked = None }
+  pub counted : a.tally ≡ no_counts

@@ -1,20 +1,22 @@
 //! An access, one turn at a time.
 
-ghost use Rattle.std.specs.Prelude.{◌≡◌, ℕ, ◌<◌, ◌∷◌, ◌++◌, [], Option};
+ghost use Rattle.std.specs.Prelude.{◌≡◌, ℕ, ◌<◌, ◌&&◌, ◌||◌, not, ◌∷◌, ◌++◌, [], Option, IfOk};
 ghost use Rattle.std.specs.Option.{option_map};
 ghost use Rattle.nm_base.specs.Geometry.{Geometry, frame_count};
-ghost use Rattle.nm_base.specs.PageWord.{frame_of};
+ghost use Rattle.nm_base.specs.PageWord.{frame_of, is_writable, is_dirty};
 ghost use Rattle.nm_action.specs.declared.turn.Turn.{Turn};
 ghost use Rattle.nm_action.specs.declared.turn.Heard.{Heard};
 ghost use Rattle.nm_view.specs.Views.{View};
 ghost use Rattle.nm_actor.specs.Turns.{Turns};
 ghost use Rattle.nm_actor.specs.Actors.{IsAnswer};
+ghost use Rattle.nm_action.specs.declared.turn.Heard.TheVariants.{Answer};
+ghost use Rattle.nm_action.specs.declared.action.Reply.TheVariants.{Done, Word};
 ghost use Rattle.nm_access.specs.declared.access.AccessStep.TheVariants.{Give};
-ghost use Rattle.nm_access.specs.Faults.{fault_kinds, IsFree};
+ghost use Rattle.nm_access.specs.declared.access.AccessStage.TheVariants.{Looking, Faulting, Walking};
+ghost use Rattle.nm_access.specs.Faults.{fault_kinds};
 ghost use Rattle.nm_access.specs.Accesses.{Held, is_write, touch_action, serves, is_marked};
-ghost use Rattle.nm_access.specs.Accessing.{access_turn, tried_stage, marked_stage, IsAccessHeard, view_then};
-ghost use Rattle.nm_access.specs.Moving.{AwaitsOf, IsStepOf, IsTrying, IsLooked, HasLooked, IsFaulting, HasFaultBegun, IsGiving, HasGiven};
-ghost use Rattle.nm_desk.specs.Desk.{desk};
+ghost use Rattle.nm_access.specs.Accessing.{access_turn, tried_stage, marked_stage, IsAccessHeard, IsCatchingStage, IsToldStage, view_then};
+ghost use Rattle.nm_access.specs.Moving.{AwaitsOf, IsStepOf, IsTrying, IsOpening, IsGiving, IsFresh};
 ghost use Rattle.nm_xlat.specs.declared.translations.Entry.{Entry};
 ghost use Rattle.nm_xlat.specs.Translations.{translation_of};
 ghost use Rattle.nm_catchup.specs.CatchUp.{entry_of};
@@ -27,6 +29,7 @@ use nm_base::table_word::{frame_of, has_hint, is_dirty, is_writable};
 use nm_catchup::TranslationCache;
 use nm_event::{Action, Bit, Heard, Lane, Reply, Step, Tally, Turn};
 use nm_part::{Part, Piece};
+use std::alloc::{AllocError, Global};
 
 /// How far an access has come.
 #[derive(Clone, Copy, Debug, PartialEq, Eq)]
@@ -92,7 +95,12 @@ fn is_write(touch: Touch) -> bool
 fn touch_action(made: AccessMade) -> Action
     ensures { result ≡ touch_action made made.touch }
 {
-    let AccessMade { vpage, word, touch, .. } = made;
+    let AccessMade {
+        vpage,
+        word,
+        touch,
+        ..
+    } = made;
     match touch {
         Touch::Load => Action::Load { vpage, word },
         Touch::Store(value) => Action::Store { vpage, word, value },
@@ -104,7 +112,12 @@ fn touch_action(made: AccessMade) -> Action
 fn access_turn(made: AccessMade, stage: AccessStage) -> Turn
     ensures { result ≡ access_turn made stage }
 {
-    let AccessMade { vpage, page, touch, .. } = made;
+    let AccessMade {
+        vpage,
+        page,
+        touch,
+        ..
+    } = made;
     match stage {
         AccessStage::Peeking => Turn::Do(Action::Peek { vpage }),
         AccessStage::Looking(_) => Turn::Do(Action::Look { vpage }),
@@ -117,9 +130,17 @@ fn access_turn(made: AccessMade, stage: AccessStage) -> Turn
             expect: word,
             write: is_write(touch),
         }),
-        AccessStage::Marking => Turn::Do(Action::Mark { page, from: 0, to: 1 }),
+        AccessStage::Marking => Turn::Do(Action::Mark {
+            page,
+            from: 0,
+            to: 1,
+        }),
         AccessStage::Putting => Turn::Put(Lane::Candidates, page),
-        AccessStage::Unmarking => Turn::Do(Action::Mark { page, from: 1, to: 0 }),
+        AccessStage::Unmarking => Turn::Do(Action::Mark {
+            page,
+            from: 1,
+            to: 0,
+        }),
         AccessStage::Touching => Turn::Do(touch_action(made)),
         AccessStage::Resting
         | AccessStage::CatchingUp
@@ -146,7 +167,48 @@ fn is_marked(geometry: &Geometry, hinted: bool, word: u64) -> bool
     hinted && geometry.tier_of(frame_of(word)) != 0
 }
 
+/// Whether something is written and the word is not writable.
+fn needs_right(touch: Touch, word: u64) -> bool
+    ensures { result ≡ (is_write touch && not (is_writable word)) }
+{
+    is_write(touch) && !is_writable(word)
+}
+
+/// Whether a write may go through the translation of a word that was walked.
+fn walked_dirty(touch: Touch, word: u64) -> bool
+    ensures { result ≡ (is_writable word && (is_write touch || is_dirty word)) }
+{
+    is_writable(word) && (is_write(touch) || is_dirty(word))
+}
+
 impl<'a, F: Faults<'a> + Drop> Access<'a, F> {
+    /// No translations, and no access yet. The memory of the translations is taken here, and the only error is its want.
+    pub fn new(alloc: Global, geometry: &'a Geometry) -> Result<Access<'a, F>, AllocError>
+        ensures { IfOk result (λ a. IsFresh geometry.now a) }
+    {
+        Ok(Access {
+            geometry,
+            cache: TranslationCache::new(alloc)?,
+            fault: F::on_missing(geometry, 0),
+            made: AccessMade {
+                vpage: 0,
+                page: 0,
+                word: 0,
+                touch: Touch::Load,
+            },
+            hinted: false,
+            stage: AccessStage::Resting,
+            tally: Tally::default(),
+        })
+    }
+
+    /// What the ends of its faults count so far.
+    pub fn tally(&self) -> Tally
+        ensures { result ≡ self.now.tally }
+    {
+        self.tally
+    }
+
     /// Comes to a stage of one turn, and gives its turn.
     fn go(&mut self, stage: AccessStage) -> AccessStep
         ensures stage { self.new ≡ record self.old { stage = stage } }
@@ -192,7 +254,6 @@ impl<'a, F: Faults<'a> + Drop> Access<'a, F> {
 
     /// Gives an action of the fault; where the fault waits, the processor catches up before it.
     fn give(&mut self, action: Action) -> AccessStep
-        requires { HasGiven (fault_kinds F.shape F.leaves F.waits_at F.missing F.shadowed F.counted) F.made F.awaits self.old action }
         ensures { (g : Geometry) (was : Held F.Outcome) (view : View) (turns : Turns) → IsGiving (fault_kinds F.shape F.leaves F.waits_at F.missing F.shadowed F.counted) F.made F.awaits self.old action g was view turns
             → IsStepOf (fault_kinds F.shape F.leaves F.waits_at F.missing F.shadowed F.counted) F.made F.awaits self.new g was view turns result }
     {
@@ -205,35 +266,144 @@ impl<'a, F: Faults<'a> + Drop> Access<'a, F> {
         }
     }
 
-    /// Begins a fault, by its first action.
-    fn start_fault(&mut self, fault: F) -> AccessStep
-        requires new { F.is_new fault }
-        requires begins { HasFaultBegun (fault_kinds F.shape F.leaves F.waits_at F.missing F.shadowed F.counted) F.may_begin F.awaits self.old (F.made fault) }
-        ensures { (g : Geometry) (was : Held F.Outcome) (view : View) (turns : Turns) → IsFaulting (fault_kinds F.shape F.leaves F.waits_at F.missing F.shadowed F.counted) self.old (F.made fault) g was view turns
-            → F.may_begin (F.made fault) g (desk g (view_then g view turns))
-            → ((now left : View) (end : F.Outcome) → F.leaves (F.made fault) g now end left → IsFree left)
-            → IsStepOf (fault_kinds F.shape F.leaves F.waits_at F.missing F.shadowed F.counted) F.made F.awaits self.new g was view turns result }
-    {
-        self.fault = fault;
-        let action = self.fault.start();
-        self.give(action)
-    }
-
-    /// Goes on after the virtual page was peeked and looked at, by its word.
+    /// Goes on after the virtual page was looked at, after a peek that gave this stamp, by its word.
     fn looked(&mut self, stamp: u64, word: u64) -> AccessStep
-        requires { HasLooked (fault_kinds F.shape F.leaves F.waits_at F.missing F.shadowed F.counted) self.old stamp word }
-        ensures { (g : Geometry) (was : Held F.Outcome) (view : View) (turns : Turns) → IsLooked (fault_kinds F.shape F.leaves F.waits_at F.missing F.shadowed F.counted) self.old stamp word g was view turns
-            → IsStepOf (fault_kinds F.shape F.leaves F.waits_at F.missing F.shadowed F.counted) F.made F.awaits self.new g was view turns result }
+        requires heard { IsAccessHeard (AwaitsOf (fault_kinds F.shape F.leaves F.waits_at F.missing F.shadowed F.counted) F.made F.awaits self.old) (Answer (Word word)) }
+        requires stage { self.old.stage ≡ Looking stamp }
+        ensures { (g : Geometry) (was : Held F.Outcome) (view : View) (turns : Turns) (turn : Turn) → AwaitsOf (fault_kinds F.shape F.leaves F.waits_at F.missing F.shadowed F.counted) F.made F.awaits self.old g was view turns turn
+            → IsAnswer g (view_then g view turns) turn (Answer (Word word)) → IsStepOf (fault_kinds F.shape F.leaves F.waits_at F.missing F.shadowed F.counted) F.made F.awaits self.new g was view (turns ++ (turn, Answer (Word word)) ∷ []) result }
     {
         let vpage = self.made.vpage;
         if word == 0 {
-            self.start_fault(F::on_missing(self.geometry, vpage))
+            self.fault = F::on_missing(self.geometry, vpage);
+            let action = self.fault.start();
+            self.give(action)
         } else if has_hint(word) {
             self.go(AccessStage::Softening)
-        } else if is_write(self.made.touch) && !is_writable(word) {
-            self.start_fault(F::on_shadowed(self.geometry, vpage))
+        } else if needs_right(self.made.touch, word) {
+            self.fault = F::on_shadowed(self.geometry, vpage);
+            let action = self.fault.start();
+            self.give(action)
         } else {
             self.go(AccessStage::Walking { stamp, word })
+        }
+    }
+
+    /// Begins an access, by catching up. Conditions where it is begun: the virtual page is mapped to the page, the numbers
+    /// are in range, the translations agree with the processor's view, which has no operation and holds no turn, and the
+    /// processor has acknowledged a number.
+    pub fn begin(&mut self, made: AccessMade) -> AccessStep
+        ensures { (g : Geometry) (was : Held F.Outcome) (view : View) → IsOpening (fault_kinds F.shape F.leaves F.waits_at F.missing F.shadowed F.counted) self.old made g was view
+            → IsStepOf (fault_kinds F.shape F.leaves F.waits_at F.missing F.shadowed F.counted) F.made F.awaits self.new g was view [] result }
+    {
+        self.made = made;
+        self.hinted = false;
+        self.catch_up()
+    }
+
+    /// Goes on after the translations were brought up to date for an access, or for an action of a fault.
+    fn caught(&mut self, reply: Reply) -> AccessStep
+        requires heard { IsAccessHeard (AwaitsOf (fault_kinds F.shape F.leaves F.waits_at F.missing F.shadowed F.counted) F.made F.awaits self.old) (Answer reply) }
+        requires stage { IsCatchingStage self.old.stage }
+        ensures { (g : Geometry) (was : Held F.Outcome) (view : View) (turns : Turns) (turn : Turn) → AwaitsOf (fault_kinds F.shape F.leaves F.waits_at F.missing F.shadowed F.counted) F.made F.awaits self.old g was view turns turn
+            → IsAnswer g (view_then g view turns) turn (Answer reply) → IsStepOf (fault_kinds F.shape F.leaves F.waits_at F.missing F.shadowed F.counted) F.made F.awaits self.new g was view (turns ++ (turn, Answer reply) ∷ []) result }
+    {
+        match self.cache.after(reply) {
+            Step::Do(action) => AccessStep::Give(Turn::Do(action)),
+            Step::Over(()) => match self.stage {
+                AccessStage::Waiting(action) => {
+                    self.stage = AccessStage::Faulting;
+                    AccessStep::Give(Turn::Do(action))
+                }
+                AccessStage::CatchingUp => self.try_cache(),
+                _ => unreachable!(),
+            },
+        }
+    }
+
+    /// Goes on after an action of a fault was answered.
+    fn faulted(&mut self, reply: Reply) -> AccessStep
+        requires heard { IsAccessHeard (AwaitsOf (fault_kinds F.shape F.leaves F.waits_at F.missing F.shadowed F.counted) F.made F.awaits self.old) (Answer reply) }
+        requires stage { self.old.stage ≡ Faulting }
+        ensures { (g : Geometry) (was : Held F.Outcome) (view : View) (turns : Turns) (turn : Turn) → AwaitsOf (fault_kinds F.shape F.leaves F.waits_at F.missing F.shadowed F.counted) F.made F.awaits self.old g was view turns turn
+            → IsAnswer g (view_then g view turns) turn (Answer reply) → IsStepOf (fault_kinds F.shape F.leaves F.waits_at F.missing F.shadowed F.counted) F.made F.awaits self.new g was view (turns ++ (turn, Answer reply) ∷ []) result }
+    {
+        match self.fault.after(reply) {
+            Step::Do(action) => self.give(action),
+            Step::Over(end) => {
+                self.tally = self.tally.plus(F::counts(end));
+                self.catch_up()
+            }
+        }
+    }
+
+    /// Goes on after a walk of this word was done, after a peek that gave this stamp.
+    fn walked(&mut self, stamp: u64, word: u64) -> AccessStep
+        requires heard { IsAccessHeard (AwaitsOf (fault_kinds F.shape F.leaves F.waits_at F.missing F.shadowed F.counted) F.made F.awaits self.old) (Answer Done) }
+        requires stage { self.old.stage ≡ Walking stamp word }
+        ensures { (g : Geometry) (was : Held F.Outcome) (view : View) (turns : Turns) (turn : Turn) → AwaitsOf (fault_kinds F.shape F.leaves F.waits_at F.missing F.shadowed F.counted) F.made F.awaits self.old g was view turns turn
+            → IsAnswer g (view_then g view turns) turn (Answer Done) → IsStepOf (fault_kinds F.shape F.leaves F.waits_at F.missing F.shadowed F.counted) F.made F.awaits self.new g was view (turns ++ (turn, Answer Done) ∷ []) result }
+    {
+        let frame = frame_of(word);
+        let dirty = walked_dirty(self.made.touch, word);
+        self.cache.put(self.made.vpage, frame, dirty, stamp);
+        self.mark(word)
+    }
+
+    /// The step after what is heard of the last turn. Condition: it answers that turn, and a reply fits.
+    pub fn after(&mut self, heard: Heard) -> AccessStep
+        requires { IsAccessHeard (AwaitsOf (fault_kinds F.shape F.leaves F.waits_at F.missing F.shadowed F.counted) F.made F.awaits self.old) heard }
+        ensures { (g : Geometry) (was : Held F.Outcome) (view : View) (turns : Turns) (turn : Turn) → AwaitsOf (fault_kinds F.shape F.leaves F.waits_at F.missing F.shadowed F.counted) F.made F.awaits self.old g was view turns turn
+            → IsAnswer g (view_then g view turns) turn heard → IsStepOf (fault_kinds F.shape F.leaves F.waits_at F.missing F.shadowed F.counted) F.made F.awaits self.new g was view (turns ++ (turn, heard) ∷ []) result }
+    {
+        let reply = match heard {
+            Heard::Answer(reply) => reply,
+            Heard::PutDone => return self.go(AccessStage::Touching),
+            Heard::PutFull => return self.go(AccessStage::Unmarking),
+            Heard::Start | Heard::Took(_) | Heard::TookNone => unreachable!(),
+        };
+        match self.stage {
+            AccessStage::CatchingUp | AccessStage::Waiting(_) => self.caught(reply),
+            AccessStage::Faulting => self.faulted(reply),
+            AccessStage::Softening => {
+                self.hinted = true;
+                self.go(AccessStage::Peeking)
+            }
+            AccessStage::Unmarking => self.go(AccessStage::Touching),
+            AccessStage::Resting | AccessStage::Putting => unreachable!(),
+            AccessStage::Peeking
+            | AccessStage::Looking(_)
+            | AccessStage::Walking { .. }
+            | AccessStage::Marking
+            | AccessStage::Touching => self.told(reply),
+        }
+    }
+
+    /// Goes on after a turn of which the answer decides.
+    fn told(&mut self, reply: Reply) -> AccessStep
+        requires heard { IsAccessHeard (AwaitsOf (fault_kinds F.shape F.leaves F.waits_at F.missing F.shadowed F.counted) F.made F.awaits self.old) (Answer reply) }
+        requires stage { IsToldStage self.old.stage }
+        ensures { (g : Geometry) (was : Held F.Outcome) (view : View) (turns : Turns) (turn : Turn) → AwaitsOf (fault_kinds F.shape F.leaves F.waits_at F.missing F.shadowed F.counted) F.made F.awaits self.old g was view turns turn
+            → IsAnswer g (view_then g view turns) turn (Answer reply) → IsStepOf (fault_kinds F.shape F.leaves F.waits_at F.missing F.shadowed F.counted) F.made F.awaits self.new g was view (turns ++ (turn, Answer reply) ∷ []) result }
+    {
+        match reply {
+            Reply::Word(word) => match self.stage {
+                AccessStage::Peeking => self.go(AccessStage::Looking(word)),
+                AccessStage::Looking(stamp) => self.looked(stamp, word),
+                AccessStage::Touching => AccessStep::Over(word),
+                _ => unreachable!(),
+            },
+            Reply::Done => match self.stage {
+                AccessStage::Walking { stamp, word } => self.walked(stamp, word),
+                AccessStage::Marking => self.go(AccessStage::Putting),
+                _ => unreachable!(),
+            },
+            Reply::Lost(_) => match self.stage {
+                AccessStage::Walking { .. } => self.go(AccessStage::Peeking),
+                AccessStage::Marking => self.go(AccessStage::Touching),
+                _ => unreachable!(),
+            },
+            Reply::Busy(_) => unreachable!(),
         }
     }
 }
