@@ -25,7 +25,7 @@ takes_turn tier (TakeTurn t) = t == tier
 takes_turn tier _ = false
 
 -- an action waits after another one, which was answered so: it is the same Lock or TakeTurn, which was Busy; or the turn of
--- tier 0 was released, and is to be taken again, as only a search for a frame does that is made again
+-- tier 0 was released, and is to be taken again, as a search for a frame does that is made again
 abbrev pub waits_between : Action → Reply → Action → Bool
 waits_between (Lock page) reply action = is_busy reply && locks page action
 waits_between (TakeTurn tier) reply action = is_busy reply && takes_turn tier action
