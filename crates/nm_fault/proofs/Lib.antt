@@ -1,1 +1,2 @@
 pub mod Tasking
+pub mod Waiting

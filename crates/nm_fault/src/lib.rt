@@ -7,3 +7,4 @@ pub mod wait;
 
 pub use nm_shadow_fault::FaultEnd;
 pub use task::FaultTask;
+pub use wait::a_search_made_again_waits;

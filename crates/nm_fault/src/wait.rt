@@ -1,7 +1,7 @@
 //! Where an actor may catch up with what others did, before it makes an action.
 
 ghost use Rattle.std.specs.Prelude.{◌≡◌};
-ghost use Rattle.nm_fault.specs.Waits.{waits_after, waits_between, is_busy, locks, takes_turn};
+ghost use Rattle.nm_fault.specs.Waits.{waits_after, waits_between, is_busy, locks, takes_turn, DoesSearchWait};
 
 use nm_event::{Action, Reply};
 
@@ -54,3 +54,9 @@ fn takes_turn(tier: u32, action: Action) -> bool
         _ => false,
     }
 }
+
+/// A search for a frame that is made again waits at its first action: after a try for the last frames of tier 0 that had none,
+/// whatever came before it, taking the turn of tier 0 waits.
+pub fn a_search_made_again_waits()
+    ensures { DoesSearchWait }
+{}
