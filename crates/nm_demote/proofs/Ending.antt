@@ -1,15 +1,15 @@
 -- Each pattern of the steps before the page is taken out of the table has a list.
-use Rattle.std.proofs.Common.{◌≡◌, ℕ, ◌+◌, ◌-◌, ◌<◌, ◌==◌, ◌&&◌, not, nat_lt, Bool, true, false, List, [], ◌∷◌, length, refl}
+use Rattle.std.proofs.Common.{◌≡◌, ℕ, ◌+◌, ◌-◌, ◌==◌, ◌&&◌, not, nat_lt, Bool, true, false, List, [], ◌∷◌, length, refl}
 use Rattle.std.proofs.lemmas.Bool.{ltb-true}
-use Rattle.nm_base.specs.Geometry.{Geometry, IsGeometry, tier_of}
+use Rattle.nm_base.specs.Geometry.{Geometry, tier_of}
 use Rattle.nm_base.specs.Ranges.{IsTier}
 use Rattle.nm_base.specs.ShadowWord.{shadow_frame}
 use Rattle.nm_action.specs.declared.action.Action.TheVariants.{Lock, Unlock, Read}
 use Rattle.nm_action.specs.declared.action.Cell.TheVariants as cells
 use Rattle.nm_action.specs.declared.action.Reply.{Reply}
 use Rattle.nm_action.specs.declared.action.Reply.TheVariants as replies
-use Rattle.nm_part.specs.Patterns.{Ends, Follows, Either, CanEnd}
-use Rattle.nm_part.proofs.Patterns.{can-ends, can-follow, can-either, either-yes, either-other}
+use Rattle.nm_part.specs.Patterns.{Ends, Either, CanEnd}
+use Rattle.nm_part.proofs.Patterns.{can-ends, can-follow, can-either}
 use Rattle.nm_compose.specs.Acts.{IsAct}
 use Rattle.nm_compose.proofs.Acting.{some-act}
 use Rattle.nm_vpages.specs.VPages.{vpages_of}

@@ -16,7 +16,6 @@ use Rattle.nm_view.proofs.Finds.{find_put, find_put_other}
 use Rattle.nm_event.specs.After.{after_of, owning, spoiled}
 use Rattle.nm_pool.specs.Given.{pool_made, MayBegin, released}
 use Rattle.nm_pool.specs.declared.job.PoolJob.TheVariants.{Back}
-use Rattle.nm_reclaim.specs.Swept.{IsForgotten}
 use Rattle.nm_reclaim.proofs.Forgetting.{forgotten-fresh}
 use Rattle.nm_vpages.specs.VPages.{most_vpages}
 use Rattle.nm_transfer.specs.declared.transfer.Source.{Source}
@@ -33,7 +32,7 @@ use Rattle.nm_demote.specs.declared.select.DemoteMade.{DemoteMade}
 use Rattle.nm_demote.specs.Selections.{IsNewHome, with_target, IsReadyToDemote}
 use Rattle.nm_demote.specs.Demotions.{demote_transfer}
 use Rattle.nm_demote.specs.Leaving.{HasDemoted}
-use Rattle.nm_demote.specs.Places.{HasMovedDown, IsDemotedNow, IsUnlockedDown}
+use Rattle.nm_demote.specs.Places.{IsDemotedNow, IsUnlockedDown}
 
 -- The transfer.
 

@@ -1,5 +1,5 @@
 -- The steps before the page is taken out of the table.
-use Rattle.std.proofs.Common.{◌≡◌, ◌≢◌, ℕ, ◌+◌, ◌-◌, ◌<◌, ◌≤◌, ◌==◌, if◌then◌else◌, Bool, true, false, List, [], ◌∷◌, map, length, All, Option, Some, None, IsSome, IsSomeAnd, inl, inr, refl, sym, ap, ◌∙◌, subst, arith}
+use Rattle.std.proofs.Common.{◌≡◌, ◌≢◌, ℕ, ◌+◌, ◌-◌, ◌<◌, ◌==◌, if◌then◌else◌, Bool, true, false, List, [], ◌∷◌, map, length, All, Option, Some, None, inl, inr, refl, sym, ap, ◌∙◌, subst, arith}
 use Rattle.std.specs.Option.{IfSome}
 use Rattle.nm_base.specs.Geometry.{Geometry, IsGeometry, tier_of, backing_page}
 use Rattle.nm_base.specs.Ranges.{IsFrame}
@@ -14,16 +14,16 @@ use Rattle.nm_action.specs.Own.{Own}
 use Rattle.nm_view.specs.declared.view.Fill.TheVariants.{Raw}
 use Rattle.nm_view.specs.declared.view.Owned.{Owned}
 use Rattle.nm_view.specs.declared.view.Scanned.{Scanned}
-use Rattle.nm_view.specs.Lists.{find, edit, first, itself, Once}
+use Rattle.nm_view.specs.Lists.{find, edit, first, Once}
 use Rattle.nm_view.specs.Views.{Op, View, most_ops}
 use Rattle.nm_view.specs.Operations.{page_of, owned_frame, op_on}
 use Rattle.nm_view.proofs.Items.{none_left, more}
 use Rattle.nm_permit.specs.Permitted.{MayUnlock, MayRead}
-use Rattle.nm_event.specs.After.{after_of, owning, spoiled}
+use Rattle.nm_event.specs.After.{after_of, owning}
 use Rattle.nm_event.specs.Fitting.{IsNotOwned, IsReadOf, IsHomeRead, IsShadowRead, IsNewsOfShadow}
 use Rattle.nm_part.specs.Patterns.{Ends, Follows, Either}
 use Rattle.nm_part.proofs.Patterns.{ends-now, over-at-once, can-ends, either-yes, either-other}
-use Rattle.nm_compose.specs.Acts.{IsAct, IsActed}
+use Rattle.nm_compose.specs.Acts.{IsActed}
 use Rattle.nm_compose.specs.declared.or.Or.TheVariants.{This, Other}
 use Rattle.nm_vpages.specs.VPages.{vpages_of}
 use Rattle.nm_mappings.specs.declared.visits.Visit.TheVariants as visits
@@ -32,7 +32,7 @@ use Rattle.nm_mappings.proofs.Operations.{visited-look}
 use Rattle.nm_copying.specs.Copying.{told}
 use Rattle.nm_transfer.specs.declared.transfer.Source.TheVariants as sources
 use Rattle.nm_transfer.proofs.Held.{edit-one}
-use Rattle.nm_reclaim.specs.Swept.{IsForgotten, IsSwept}
+use Rattle.nm_reclaim.specs.Swept.{IsForgotten}
 use Rattle.nm_reclaim.proofs.Views.{forgets-none}
 use Rattle.nm_obtain.specs.Obtaining.{MayObtain, HasObtained}
 use Rattle.nm_obtain.specs.declared.obtain.Obtained.TheVariants.{Got, AtFloor}
@@ -50,7 +50,7 @@ use Rattle.nm_demote.specs.declared.select.Selected.TheVariants as ends
 use Rattle.nm_demote.specs.declared.select.Stage.TheVariants.{Locking, Unlocking, ReadingHome, ReadingShadow, Looking, Obtaining}
 use Rattle.nm_demote.specs.Selecting.{UnlocksEarly, AfterObtain, obtain_for, SeeksFrame, SelectsHome, AfterLooksToDemote, LooksToDemote, ReadsShadowToDemote, has_slower, AfterHomeToDemote, ReadsHomeToDemote, AfterLockToDemote, IsSelecting}
 use Rattle.nm_demote.specs.Selections.{MayDemote, IsFastHome, HasSeenToDemote, IsNewHome, IsReadyToDemote, HasClosedToDemote}
-use Rattle.nm_demote.specs.Stages.{ObtainData, SelectPieceEnd, reply_in_selecting, told_in_selecting, found_in_selecting, obtained_in, demote_lock_stage, demote_home_stage, demote_look_from, demote_look_stage, IsLockingToDemote, IsOpenToDemote, IsReadingHomeToDemote, IsReadingShadowToDemote, HasShadowWord, IsLookingToDemote, IsObtainingToDemote}
+use Rattle.nm_demote.specs.Stages.{SelectPieceEnd, reply_in_selecting, told_in_selecting, found_in_selecting, obtained_in, demote_lock_stage, demote_home_stage, demote_look_from, demote_look_stage, IsLockingToDemote, IsOpenToDemote, IsReadingHomeToDemote, IsReadingShadowToDemote, HasShadowWord, IsLookingToDemote, IsObtainingToDemote}
 use Rattle.nm_demote.proofs.Ending.{can-after-obtain, can-after-looks, can-looks, slower-tier, can-after-home, can-after-lock}
 use Rattle.nm_demote.proofs.Runs.{RunsSelect, EndsSelect, IsSelectOver, act-run, visits-run, search-run, runs-as}
 

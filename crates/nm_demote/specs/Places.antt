@@ -1,6 +1,6 @@
 -- How far a demotion has come.
 use Rattle.std.specs.Prelude.{◌≡◌, ℕ, ◌+◌, ◌≤◌, List, [], ◌∷◌, Option, Some, None}
-use Rattle.nm_base.specs.Geometry.{Geometry, IsGeometry}
+use Rattle.nm_base.specs.Geometry.{Geometry}
 use Rattle.nm_base.specs.Ranges.{IsFrame}
 use Rattle.nm_action.specs.declared.action.Action.TheVariants.{Unlock}
 use Rattle.nm_action.specs.Own.{Own}
@@ -13,14 +13,12 @@ use Rattle.nm_view.specs.Views.{Op, View}
 use Rattle.nm_permit.specs.Permitted.{MayUnlock}
 use Rattle.nm_event.specs.After.{owning, spoiled}
 use Rattle.nm_part.specs.Patterns.{Ends}
-use Rattle.nm_compose.specs.declared.or.Or.{Or}
 use Rattle.nm_compose.specs.declared.or.Or.TheVariants.{This, Other}
 use Rattle.nm_compose.specs.declared.plan.Next.{Next}
 use Rattle.nm_compose.specs.declared.plan.Next.TheVariants.{Run, Over}
 use Rattle.nm_pool.specs.Given.{pool_made}
 use Rattle.nm_pool.specs.declared.job.PoolJob.TheVariants.{Back}
 use Rattle.nm_reclaim.specs.Swept.{IsForgotten}
-use Rattle.nm_transfer.specs.declared.transfer.Source.{Source}
 use Rattle.nm_transfer.specs.declared.transfer.Rights.TheVariants.{Plain}
 use Rattle.nm_transfer.specs.Transferring.{transfer_made}
 use Rattle.nm_transfer.specs.Stages.{HoldsWords}

@@ -1,5 +1,5 @@
 -- When a demotion may begin, and what its steps before the page is taken out of the table leave.
-use Rattle.std.specs.Prelude.{◌≡◌, ◌≢◌, ℕ, ◌+◌, ◌<◌, ◌≤◌, List, [], length, All, Option, Some, None, IsSome, IsSomeAnd, false}
+use Rattle.std.specs.Prelude.{◌≡◌, ◌≢◌, ℕ, ◌+◌, ◌<◌, ◌≤◌, List, [], length, All, Some, None, IsSome, IsSomeAnd, false}
 use Rattle.nm_base.specs.Geometry.{Geometry, IsGeometry, tier_of, backing_page}
 use Rattle.nm_base.specs.Ranges.{IsPage, IsFrame}
 use Rattle.nm_base.specs.HomeWord.{home_word}

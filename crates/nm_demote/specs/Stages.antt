@@ -1,5 +1,5 @@
 -- How far the steps of a demotion before the page is taken out of the table have come.
-use Rattle.std.specs.Prelude.{◌≡◌, ◌≢◌, ℕ, ◌+◌, ◌-◌, if◌then◌else◌, List, [], ◌∷◌, Option, Some, None, false}
+use Rattle.std.specs.Prelude.{◌≡◌, ◌≢◌, ℕ, ◌+◌, ◌-◌, if◌then◌else◌, List, [], ◌∷◌, Some, None, false}
 use Rattle.nm_base.specs.Geometry.{Geometry, IsGeometry, tier_of}
 use Rattle.nm_base.specs.HomeWord.{home_word}
 use Rattle.nm_base.specs.Ranges.{IsFrame, IsTier}
@@ -42,13 +42,12 @@ use Rattle.nm_prepare.specs.Worn.{is_worn}
 use Rattle.nm_locked.specs.Chosen.{opened_view, move_looked_op}
 use Rattle.nm_reclaim.specs.Swept.{IsForgotten}
 use Rattle.nm_demote.specs.declared.select.DemoteMade.{DemoteMade}
-use Rattle.nm_demote.specs.declared.select.Early.{Early}
 use Rattle.nm_demote.specs.declared.select.Early.TheVariants.{Gone, Worn}
 use Rattle.nm_demote.specs.declared.select.Selected.{Selected}
 use Rattle.nm_demote.specs.declared.select.Selected.TheVariants.{Closed}
 use Rattle.nm_demote.specs.declared.select.Stage.{Stage}
 use Rattle.nm_demote.specs.declared.select.Stage.TheVariants.{New, Locking, Unlocking, ReadingHome, ReadingShadow, Looking, Obtaining}
-use Rattle.nm_demote.specs.Selecting.{UnlocksEarly, AfterObtain, obtain_for, AfterLooksToDemote, LooksToDemote, has_slower, AfterHomeToDemote, AfterLockToDemote}
+use Rattle.nm_demote.specs.Selecting.{AfterObtain, obtain_for, AfterLooksToDemote, LooksToDemote, has_slower, AfterHomeToDemote, AfterLockToDemote}
 use Rattle.nm_demote.specs.Selections.{MayDemote, IsFastHome, HasSeenToDemote}
 
 -- The pieces.

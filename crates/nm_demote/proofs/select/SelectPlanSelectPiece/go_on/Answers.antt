@@ -1,6 +1,5 @@
 use Rattle.std.proofs.Common.{◌≡◌, ◌≢◌, ℕ, Bool, true, false, List, [], sym, ap, ◌∙◌, subst, refl}
 use Rattle.nm_base.specs.Geometry.{Geometry}
-use Rattle.nm_base.specs.ShadowWord.{shadow_frame}
 use Rattle.nm_action.specs.declared.action.Reply.TheVariants.{Done}
 use Rattle.nm_action.specs.declared.action.Reply.TheVariants as replies
 use Rattle.nm_compose.specs.declared.or.Or.TheVariants.{This, Other}
@@ -14,7 +13,7 @@ use Rattle.nm_demote.specs.declared.select.Stage.TheVariants.{Locking, Unlocking
 use Rattle.nm_demote.specs.Selecting.{AfterLooksToDemote}
 use Rattle.nm_demote.specs.Stages.{select_piece_made, told_in_selecting, found_in_selecting, demote_home_stage, demote_look_stage, select_left}
 use Rattle.nm_demote.proofs.Runs.{RunsSelect, IsSelectOver, step-select, over-select}
-use Rattle.nm_demote.proofs.Steps.{HasLookedToDemote, after-unlocking, after-locking, after-busy, after-reading-home, after-reading-shadow, has-looked, after-looking-none, after-looking-plain, after-looking-shadow, after-got, after-floor}
+use Rattle.nm_demote.proofs.Steps.{after-unlocking, after-locking, after-busy, after-reading-home, after-reading-shadow, has-looked, after-looking-none, after-looking-plain, after-looking-shadow, after-got, after-floor}
 use Rattle.nm_demote.proofs.select.SelectPlanSelectPiece.go_on.Goals as goal
 
 not-empty : (empty : Bool) → empty ≡ true → empty ≡ false → ⊥
