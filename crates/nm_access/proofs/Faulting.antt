@@ -28,7 +28,7 @@ use Rattle.nm_desk.specs.Woven.{CatchesWhere, Weaves, WeavesPart}
 use Rattle.nm_desk.proofs.AtDesk.{desk-allows, desk-fits, desk-follows, quiet-keeps}
 use Rattle.nm_desk.proofs.Weaving.{weaves-next, part-can}
 use Rattle.nm_catchup.specs.CatchUp.{Kept, CatchesUp}
-use Rattle.nm_catchup.specs.Catching.{kept_of, IsKept, IsCatchAsked, IsCaughtUp, IsCatchStep, IsCatchHeard}
+use Rattle.nm_catchup.specs.Catching.{kept_of, IsKeptWith, IsCatchAsked, IsCaughtUp, IsCatchStep, IsCatchHeard}
 use Rattle.nm_catchup.specs.declared.cache.CatchStage.TheVariants.{Polling}
 use Rattle.nm_catchup.specs.declared.cache.TranslationCache.{TranslationCache}
 use Rattle.nm_catchup.proofs.Entries.{kept-as}
@@ -38,24 +38,24 @@ use Rattle.nm_access.specs.declared.access.Access.{Access}
 use Rattle.nm_access.specs.declared.access.AccessStage.{AccessStage}
 use Rattle.nm_access.specs.declared.access.AccessStage.TheVariants.{CatchingUp, Faulting, Waiting}
 use Rattle.nm_access.specs.declared.access.AccessStep.TheVariants.{Give}
-use Rattle.nm_access.specs.Turning.{Acts, turns_of, IsTurnBegun}
-use Rattle.nm_access.specs.Faults.{FaultKinds, IsFree, ends_after}
-use Rattle.nm_access.specs.Accesses.{Held, Accessed, held_faulted, Tries, Translates, IsAccess}
-use Rattle.nm_access.specs.Accessing.{view_then, IsInFault, IsFaultGiven, IsAtFault, IsAtWait, IsAtStage, IsCatchingStage, IsAccessHeard}
+use Rattle.nm_access.specs.Turning.{Acts, action_turns, IsTurnBegun}
+use Rattle.nm_access.specs.Faults.{FaultKinds, HasNothingOpen, ends_after}
+use Rattle.nm_access.specs.Accesses.{Carried, Accessed, held_faulted, Tries, Translates, IsWholeAccess}
+use Rattle.nm_access.specs.Accessing.{view_then, IsInFault, IsFaultGiven, IsAtFault, IsAtWait, IsAtAccessStage, IsCatchingStage, IsAccessHeard}
 use Rattle.nm_access.specs.Moving.{AwaitsOf, IsStepOf, IsBegunWell, IsTrying, IsFaulting, IsGiving}
 use Rattle.nm_access.proofs.TurnSteps.{tries-after, turns-append, then-own}
 use Rattle.nm_access.proofs.Ends.{tries-can}
 use Rattle.nm_access.proofs.Trying.{at-catch, catch-more, piece-begun, answer-fits, list-more, poll-awaits, poll-begun, Catches}
 
 -- a fault of this data gives an action
-pub record GivesWith {F M X : Type 0} (kinds : FaultKinds M X) (awaits : Geometry → View → Own → Action → Type 0) (a : Access F) (fault : M) (ends : List X) (action : Action) (g : Geometry) (was : Held X) (view : View) (turns : Turns) : Type 0 where
+pub record GivesWith {F M X : Type 0} (kinds : FaultKinds M X) (awaits : Geometry → View → Own → Action → Type 0) (a : Access F) (fault : M) (ends : List X) (action : Action) (g : Geometry) (was : Carried X) (view : View) (turns : Turns) : Type 0 where
   pub inner : Own
   pub run : IsInFault kinds a.made a.hinted fault (kept_of a.cache) ends g was view inner turns
   pub gives : IsFaultGiven kinds fault awaits g run.first inner action
 
 -- the translations agree with the view, and something was acknowledged
 pub record IsReadyButFree (g : Geometry) (kept : Kept) (view : View) : Type 0 where
-  pub all : IsKept g kept view
+  pub all : IsKeptWith g kept view
   pub on : IsSome kept.acked
 
 -- Lists of a fault that can be carried on.
@@ -94,22 +94,22 @@ wait-begun {S} {X} catch waits shape inner own caught kept middle waiting action
 -- An action of a fault is given.
 
 -- what comes after a fault
-abbrev pub after_fault : {M X : Type 0} → FaultKinds M X → Geometry → AccessMade → Held X → Bool → ℕ → X × Kept → Turns → Accessed X → Type 0
+abbrev pub after_fault : {M X : Type 0} → FaultKinds M X → Geometry → AccessMade → Carried X → Bool → ℕ → X × Kept → Turns → Accessed X → Type 0
 after_fault kinds g made held hinted tries end = Tries g made (Translates kinds g made tries) (held_faulted end held) hinted
 
-join-turns : (front turns : Turns) (own caught : Own) → turns ≡ front ++ turns_of own → front ++ turns_of (own ++ caught) ≡ turns ++ turns_of caught
+join-turns : (front turns : Turns) (own caught : Own) → turns ≡ front ++ action_turns own → front ++ action_turns (own ++ caught) ≡ turns ++ action_turns caught
 join-turns front turns own caught is = rw is (simp (turns-append, append_assoc))
 
 -- after the catch up, if there was one, an action of the fault is given
-pub fault-goes : {F M X : Type 0} (kinds : FaultKinds M X) (made_of : F → M) (awaits_of : F → Geometry → View → Own → Action → Type 0) (a : Access F) (middle : Kept) (ends : List X) (inner caught : Own) (action : Action) (g : Geometry) (was : Held X) (view : View) (turns : Turns)
+pub fault-goes : {F M X : Type 0} (kinds : FaultKinds M X) (made_of : F → M) (awaits_of : F → Geometry → View → Own → Action → Type 0) (a : Access F) (middle : Kept) (ends : List X) (inner caught : Own) (action : Action) (g : Geometry) (was : Carried X) (view : View) (turns : Turns)
     → IsBegunWell kinds a g ends → (run : IsInFault kinds a.made a.hinted (made_of a.fault) middle ends g was view inner turns) → CatchesWhere (CatchesUp g) (kinds.waits inner action) middle caught (kept_of a.cache)
-    → desk g (view_then g view (turns ++ turns_of caught)) ≡ view_after g run.first inner → IsReadyButFree g (kept_of a.cache) (view_then g view (turns ++ turns_of caught))
+    → desk g (view_then g view (turns ++ action_turns caught)) ≡ view_after g run.first inner → IsReadyButFree g (kept_of a.cache) (view_then g view (turns ++ action_turns caught))
     → IsFaultGiven kinds (made_of a.fault) (awaits_of a.fault) g run.first inner action
-    → IsStepOf kinds made_of awaits_of (record a { stage = Faulting }) g was view (turns ++ turns_of caught) (Give (Do action))
+    → IsStepOf kinds made_of awaits_of (record a { stage = Faulting }) g was view (turns ++ action_turns caught) (Give (Do action))
 fault-goes {F} {M} {X} kinds made_of awaits_of a middle ends inner caught action g was view turns well run catches seat ready gives =
-    let held : Held X = record { kept = run.before; ends = ends } in
-    let now = view_then g view (turns ++ turns_of caught) in
-    let T : Turns → Type 0 = λ l. IsTurnBegun (IsAccess kinds g a.made was) l (Do action) in
+    let held : Carried X = record { kept = run.before; ends = ends } in
+    let now = view_then g view (turns ++ action_turns caught) in
+    let T : Turns → Type 0 = λ l. IsTurnBegun (IsWholeAccess kinds g a.made was) l (Do action) in
     record {
       permitted = desk-allows g now action gives.quiet (subst (λ (v : View). Allowed g v action) (sym seat) gives.permitted);
       awaited = record {
@@ -120,13 +120,13 @@ fault-goes {F} {M} {X} kinds made_of awaits_of a middle ends inner caught action
         at = record { middle = middle; before = turns; inner = inner; run = run; caught = caught; action = action; given = refl; is = refl; catches = catches; seat = seat; all = ready.all; on = ready.on; gives = gives };
       };
       begun = subst T (join-turns run.front turns run.own caught run.is)
-          (piece-begun (IsAccess kinds g a.made was) run.front (run.own ++ caught) action (WeavesPart (CatchesUp g) kinds.waits (kinds.shape (made_of a.fault) g) run.before) (after_fault kinds g a.made held a.hinted) 1 run.due
+          (piece-begun (IsWholeAccess kinds g a.made was) run.front (run.own ++ caught) action (WeavesPart (CatchesUp g) kinds.waits (kinds.shape (made_of a.fault) g) run.before) (after_fault kinds g a.made held a.hinted) 1 run.due
           (woven-begun (CatchesUp g) kinds.waits (kinds.shape (made_of a.fault) g) inner run.own caught run.before middle (kept_of a.cache) action (catches-up-can g) run.woven catches gives.begun)
           (λ end. tries-can kinds g a.made (held_faulted end held) a.hinted));
     }
 
 -- the fault does not wait
-pub give-goes : {F M X : Type 0} (kinds : FaultKinds M X) (made_of : F → M) (awaits_of : F → Geometry → View → Own → Action → Type 0) (a : Access F) (action : Action) (waited : Bool) (g : Geometry) (was : Held X) (view : View) (turns : Turns)
+pub give-goes : {F M X : Type 0} (kinds : FaultKinds M X) (made_of : F → M) (awaits_of : F → Geometry → View → Own → Action → Type 0) (a : Access F) (action : Action) (waited : Bool) (g : Geometry) (was : Carried X) (view : View) (turns : Turns)
     → waited ≡ false → ((g : Geometry) (view : View) (own : Own) (x : Action) → awaits_of a.fault g view own x → waited ≡ kinds.waits own x)
     → IsGiving kinds made_of awaits_of a action g was view turns → IsStepOf kinds made_of awaits_of (record a { stage = Faulting }) g was view turns (Give (Do action))
 give-goes {F} {M} {X} kinds made_of awaits_of a action waited g was view turns not tells h =
@@ -140,16 +140,16 @@ give-goes {F} {M} {X} kinds made_of awaits_of a action waited g was view turns n
     (subst S (sym (append-nil turns)) h.run.seat) (subst R (sym (append-nil turns)) (record { all = h.run.all; on = h.run.on })) h.gives)
 
 -- the fault waits: the processor catches up first
-pub give-waits : {F M X : Type 0} (kinds : FaultKinds M X) (made_of : F → M) (awaits_of : F → Geometry → View → Own → Action → Type 0) (a : Access F) (cache : TranslationCache) (waiting poll : Action) (waited : Bool) (g : Geometry) (was : Held X) (view : View) (turns : Turns)
+pub give-waits : {F M X : Type 0} (kinds : FaultKinds M X) (made_of : F → M) (awaits_of : F → Geometry → View → Own → Action → Type 0) (a : Access F) (cache : TranslationCache) (waiting poll : Action) (waited : Bool) (g : Geometry) (was : Carried X) (view : View) (turns : Turns)
     → kept_of cache ≡ kept_of a.cache → cache.stage ≡ Polling → poll ≡ Poll → waited ≡ true → ((g : Geometry) (view : View) (own : Own) (x : Action) → awaits_of a.fault g view own x → waited ≡ kinds.waits own x)
     → IsGiving kinds made_of awaits_of a waiting g was view turns → IsStepOf kinds made_of awaits_of (record a { cache = cache; stage = Waiting waiting }) g was view turns (Give (Do poll))
 give-waits {F} {M} {X} kinds made_of awaits_of a cache waiting poll waited g was view turns same at polls waits_now tells h =
     let kept = kept_of a.cache in
     let run = h.run in
-    let held : Held X = record { kept = run.before; ends = h.ends } in
+    let held : Carried X = record { kept = run.before; ends = h.ends } in
     let due : kinds.waits h.inner waiting ≡ true = sym (tells g run.first h.inner waiting h.gives.awaited) ∙ waits_now in
     let P : Action → Type 0 = λ x. IsStepOf kinds made_of awaits_of (record a { cache = cache; stage = Waiting waiting }) g was view turns (Give (Do x)) in
-    let T : Turns → Type 0 = λ l. IsTurnBegun (IsAccess kinds g a.made was) l (Do Poll) in
+    let T : Turns → Type 0 = λ l. IsTurnBegun (IsWholeAccess kinds g a.made was) l (Do Poll) in
     subst P (sym polls) (record {
       permitted = record { range = tt; permitted = run.all.processor };
       awaited = record {
@@ -160,19 +160,19 @@ give-waits {F} {M} {X} kinds made_of awaits_of a cache waiting poll waited g was
         at = record { middle = kept; before = turns; inner = h.inner; run = run; waits = due; gives = h.gives; own = []; action = Poll; given = refl; is = sym (append-nil turns); awaited = poll-awaits cache kept g (view_then g view turns) at same run.all };
       };
       begun = subst T (join-turns run.front turns run.own [] run.is ∙ append-nil turns)
-          (piece-begun (IsAccess kinds g a.made was) run.front (run.own ++ []) Poll (WeavesPart (CatchesUp g) kinds.waits (kinds.shape (made_of a.fault) g) run.before) (after_fault kinds g a.made held a.hinted) 1 run.due
+          (piece-begun (IsWholeAccess kinds g a.made was) run.front (run.own ++ []) Poll (WeavesPart (CatchesUp g) kinds.waits (kinds.shape (made_of a.fault) g) run.before) (after_fault kinds g a.made held a.hinted) 1 run.due
           (wait-begun (CatchesUp g) kinds.waits (kinds.shape (made_of a.fault) g) h.inner run.own [] run.before kept waiting Poll (catches-up-can g) run.woven due (poll-begun g kept) h.gives.begun)
           (λ end. tries-can kinds g a.made (held_faulted end held) a.hinted));
     })
 
 -- The catch up before an action of a fault.
 
-at-wait : {F M X : Type 0} (kinds : FaultKinds M X) (made_of : F → M) (awaits_of : F → Geometry → View → Own → Action → Type 0) (a : Access F) (waiting : Action) (g : Geometry) (was : Held X) (view : View) (turns : Turns) (turn : Turn)
+at-wait : {F M X : Type 0} (kinds : FaultKinds M X) (made_of : F → M) (awaits_of : F → Geometry → View → Own → Action → Type 0) (a : Access F) (waiting : Action) (g : Geometry) (was : Carried X) (view : View) (turns : Turns) (turn : Turn)
     → a.stage ≡ Waiting waiting → (h : AwaitsOf kinds made_of awaits_of a g was view turns turn) → IsAtWait kinds a.made a.hinted (made_of a.fault) (awaits_of a.fault) waiting a.cache h.ends g was view turns turn
 at-wait kinds made_of awaits_of a waiting g was view turns turn at h =
-    subst (λ (s : AccessStage). IsAtStage kinds a.made s a.hinted (made_of a.fault) (awaits_of a.fault) a.cache h.ends g was view turns turn) at h.at
+    subst (λ (s : AccessStage). IsAtAccessStage kinds a.made s a.hinted (made_of a.fault) (awaits_of a.fault) a.cache h.ends g was view turns turn) at h.at
 
-pub wait-more : {F M X : Type 0} (kinds : FaultKinds M X) (made_of : F → M) (awaits_of : F → Geometry → View → Own → Action → Type 0) (a : Access F) (waiting : Action) (later : TranslationCache) (heard : Heard) (reply : Reply) (result : Step (Unit {0})) (next : Action) (g : Geometry) (was : Held X) (view : View) (turns : Turns) (turn : Turn)
+pub wait-more : {F M X : Type 0} (kinds : FaultKinds M X) (made_of : F → M) (awaits_of : F → Geometry → View → Own → Action → Type 0) (a : Access F) (waiting : Action) (later : TranslationCache) (heard : Heard) (reply : Reply) (result : Step (Unit {0})) (next : Action) (g : Geometry) (was : Carried X) (view : View) (turns : Turns) (turn : Turn)
     → a.stage ≡ Waiting waiting → heard ≡ Answer reply → result ≡ steps.Do next → Catches a.cache later reply result
     → AwaitsOf kinds made_of awaits_of a g was view turns turn → IsAnswer g (view_then g view turns) turn heard
     → IsStepOf kinds made_of awaits_of (record a { cache = later }) g was view (turns ++ (turn, heard) ∷ []) (Give (Do next))
@@ -184,8 +184,8 @@ wait-more {F} {M} {X} kinds made_of awaits_of a waiting later heard reply result
     let list = list-more x.before turns x.own turn x.action heard reply x.is x.given told in
     let S : Step (Unit {0}) → Type 0 = λ s. IsCatchStep later x.middle g (view_then g view x.before) own s in
     let asked : IsCatchAsked later x.middle g (view_then g view x.before) own next = subst S is (catches x.middle g (view_then g view x.before) x.own x.action x.awaited fits) in
-    let held : Held X = record { kept = run.before; ends = h.ends } in
-    let T : Turns → Type 0 = λ l. IsTurnBegun (IsAccess kinds g a.made was) l (Do next) in
+    let held : Carried X = record { kept = run.before; ends = h.ends } in
+    let T : Turns → Type 0 = λ l. IsTurnBegun (IsWholeAccess kinds g a.made was) l (Do next) in
     let L : Turns → Type 0 = λ l. IsStepOf kinds made_of awaits_of (record a { cache = later; stage = Waiting waiting }) g was view l (Give (Do next)) in
     let G : AccessStage → Type 0 = λ s. IsStepOf kinds made_of awaits_of (record a { cache = later; stage = s }) g was view (turns ++ (turn, heard) ∷ []) (Give (Do next)) in
     subst G (sym at) (subst L (sym list) (record {
@@ -198,12 +198,12 @@ wait-more {F} {M} {X} kinds made_of awaits_of a waiting later heard reply result
         at = record { middle = x.middle; before = x.before; inner = x.inner; run = run; waits = x.waits; gives = x.gives; own = own; action = next; given = refl; is = refl; awaited = asked.awaited };
       };
       begun = subst T (join-turns run.front x.before run.own own run.is)
-          (piece-begun (IsAccess kinds g a.made was) run.front (run.own ++ own) next (WeavesPart (CatchesUp g) kinds.waits (kinds.shape (made_of a.fault) g) run.before) (after_fault kinds g a.made held a.hinted) 1 run.due
+          (piece-begun (IsWholeAccess kinds g a.made was) run.front (run.own ++ own) next (WeavesPart (CatchesUp g) kinds.waits (kinds.shape (made_of a.fault) g) run.before) (after_fault kinds g a.made held a.hinted) 1 run.due
           (wait-begun (CatchesUp g) kinds.waits (kinds.shape (made_of a.fault) g) x.inner run.own own run.before x.middle waiting next (catches-up-can g) run.woven x.waits asked.begun x.gives.begun)
           (λ end. tries-can kinds g a.made (held_faulted end held) a.hinted));
     }))
 
-pub wait-over : {F M X : Type 0} (kinds : FaultKinds M X) (made_of : F → M) (awaits_of : F → Geometry → View → Own → Action → Type 0) (a : Access F) (waiting : Action) (later : TranslationCache) (heard : Heard) (reply : Reply) (result : Step (Unit {0})) (g : Geometry) (was : Held X) (view : View) (turns : Turns) (turn : Turn)
+pub wait-over : {F M X : Type 0} (kinds : FaultKinds M X) (made_of : F → M) (awaits_of : F → Geometry → View → Own → Action → Type 0) (a : Access F) (waiting : Action) (later : TranslationCache) (heard : Heard) (reply : Reply) (result : Step (Unit {0})) (g : Geometry) (was : Carried X) (view : View) (turns : Turns) (turn : Turn)
     → a.stage ≡ Waiting waiting → heard ≡ Answer reply → result ≡ steps.Over tt → Catches a.cache later reply result
     → AwaitsOf kinds made_of awaits_of a g was view turns turn → IsAnswer g (view_then g view turns) turn heard
     → IsStepOf kinds made_of awaits_of (record a { cache = later; stage = Faulting }) g was view (turns ++ (turn, heard) ∷ []) (Give (Do waiting))
@@ -221,22 +221,22 @@ wait-over {F} {M} {X} kinds made_of awaits_of a waiting later heard reply result
     subst L (sym list) (fault-goes kinds made_of awaits_of b x.middle h.ends x.inner own waiting g was view x.before (record { same = h.same; may = h.may; counted = h.counted }) run
     (subst (λ (w : Bool). CatchesWhere (CatchesUp g) w x.middle own (kept_of later)) (sym x.waits) over.shown)
     (ap (λ (v : View). desk g v) there ∙ (over.seat ∙ run.seat))
-    (record { all = subst (λ (v : View). IsKept g (kept_of later) v) (sym there) over.all; on = over.on }) x.gives)
+    (record { all = subst (λ (v : View). IsKeptWith g (kept_of later) v) (sym there) over.all; on = over.on }) x.gives)
 
 -- An action of a fault was answered.
 
-at-fault : {F M X : Type 0} (kinds : FaultKinds M X) (made_of : F → M) (awaits_of : F → Geometry → View → Own → Action → Type 0) (a : Access F) (g : Geometry) (was : Held X) (view : View) (turns : Turns) (turn : Turn)
+at-fault : {F M X : Type 0} (kinds : FaultKinds M X) (made_of : F → M) (awaits_of : F → Geometry → View → Own → Action → Type 0) (a : Access F) (g : Geometry) (was : Carried X) (view : View) (turns : Turns) (turn : Turn)
     → a.stage ≡ Faulting → (h : AwaitsOf kinds made_of awaits_of a g was view turns turn) → IsAtFault kinds a.made a.hinted (made_of a.fault) (awaits_of a.fault) (kept_of a.cache) h.ends g was view turns turn
 at-fault kinds made_of awaits_of a g was view turns turn at h =
-    subst (λ (s : AccessStage). IsAtStage kinds a.made s a.hinted (made_of a.fault) (awaits_of a.fault) a.cache h.ends g was view turns turn) at h.at
+    subst (λ (s : AccessStage). IsAtAccessStage kinds a.made s a.hinted (made_of a.fault) (awaits_of a.fault) a.cache h.ends g was view turns turn) at h.at
 
-quiet-kept : (g : Geometry) (kept : Kept) (view : View) (action : Action) (reply : Reply) → IsQuiet action → IsKept g kept view → IsKept g kept (after_of g view action reply)
+quiet-kept : (g : Geometry) (kept : Kept) (view : View) (action : Action) (reply : Reply) → IsQuiet action → IsKeptWith g kept view → IsKeptWith g kept (after_of g view action reply)
 quiet-kept g kept view action reply quiet h =
     let k = quiet-keeps g view action reply quiet in
     kept-as g kept view (after_of g view action reply) (ap (λ (v : View). v.number) k) (ap (λ (v : View). v.cache) k) (ap (λ (v : View). v.acked) k) h
 
 -- the answer to an action of a fault fits at the desk
-fault-fits : {M X : Type 0} (kinds : FaultKinds M X) (made : AccessMade) (hinted : Bool) (fault : M) (awaits : Geometry → View → Own → Action → Type 0) (kept : Kept) (ends : List X) (heard : Heard) (reply : Reply) (g : Geometry) (was : Held X) (view : View) (turns : Turns) (turn : Turn)
+fault-fits : {M X : Type 0} (kinds : FaultKinds M X) (made : AccessMade) (hinted : Bool) (fault : M) (awaits : Geometry → View → Own → Action → Type 0) (kept : Kept) (ends : List X) (heard : Heard) (reply : Reply) (g : Geometry) (was : Carried X) (view : View) (turns : Turns) (turn : Turn)
     → heard ≡ Answer reply → (x : IsAtFault kinds made hinted fault awaits kept ends g was view turns turn) → IsAnswer g (view_then g view turns) turn heard → Fits g (view_after g x.run.first x.inner) x.action reply
 fault-fits kinds made hinted fault awaits kept ends heard reply g was view turns turn told x answer =
     let here = then-own g view x.before x.caught in
@@ -255,16 +255,16 @@ faulted-heard kinds made_of awaits_of a reply at h =
     record { geometry = h.geometry; view = x.run.first; own = x.inner; action = x.action; awaited = x.gives.awaited; fits = fault-fits kinds a.made a.hinted (made_of a.fault) (awaits_of a.fault) (kept_of a.cache) h.awaited.ends (Answer reply) reply h.geometry h.was h.view h.turns h.turn refl x h.answer }
 
 -- what is known then
-pub record FaultHeard {F M X : Type 0} (kinds : FaultKinds M X) (awaits later : Geometry → View → Own → Action → Type 0) (ended : Geometry → Own → X → Type 0) (a : Access F) (fault : M) (ends : List X) (result : Step X) (g : Geometry) (was : Held X) (view : View) (turns : Turns) : Type 0 where
+pub record FaultHeard {F M X : Type 0} (kinds : FaultKinds M X) (awaits later : Geometry → View → Own → Action → Type 0) (ended : Geometry → Own → X → Type 0) (a : Access F) (fault : M) (ends : List X) (result : Step X) (g : Geometry) (was : Carried X) (view : View) (turns : Turns) : Type 0 where
   pub inner : Own
   pub run : IsInFault kinds a.made a.hinted fault (kept_of a.cache) ends g was view inner turns
   pub step : IsPartStep later (kinds.shape fault) (kinds.leaves fault) ended g run.first inner result
 
-fault-list : (front before turns : Turns) (own caught : Own) (turn : Turn) (action : Action) (heard : Heard) (reply : Reply) → before ≡ front ++ turns_of own → turns ++ (turn, heard) ∷ [] ≡ before ++ turns_of (caught ++ (action, reply) ∷ [])
-    → turns ++ (turn, heard) ∷ [] ≡ front ++ turns_of (own ++ (caught ++ (action, reply) ∷ []))
+fault-list : (front before turns : Turns) (own caught : Own) (turn : Turn) (action : Action) (heard : Heard) (reply : Reply) → before ≡ front ++ action_turns own → turns ++ (turn, heard) ∷ [] ≡ before ++ action_turns (caught ++ (action, reply) ∷ [])
+    → turns ++ (turn, heard) ∷ [] ≡ front ++ action_turns (own ++ (caught ++ (action, reply) ∷ []))
 fault-list front before turns own caught turn action heard reply is list = list ∙ sym (join-turns front before own (caught ++ (action, reply) ∷ []) is)
 
-pub fault-heard : {F M X : Type 0} (kinds : FaultKinds M X) (made_of : F → M) (awaits_of : F → Geometry → View → Own → Action → Type 0) (later : Geometry → View → Own → Action → Type 0) (ended : Geometry → Own → X → Type 0) (a : Access F) (heard : Heard) (reply : Reply) (result : Step X) (g : Geometry) (was : Held X) (view : View) (turns : Turns) (turn : Turn)
+pub fault-heard : {F M X : Type 0} (kinds : FaultKinds M X) (made_of : F → M) (awaits_of : F → Geometry → View → Own → Action → Type 0) (later : Geometry → View → Own → Action → Type 0) (ended : Geometry → Own → X → Type 0) (a : Access F) (heard : Heard) (reply : Reply) (result : Step X) (g : Geometry) (was : Carried X) (view : View) (turns : Turns) (turn : Turn)
     → a.stage ≡ Faulting → heard ≡ Answer reply
     → ((g : Geometry) (v : View) (own : Own) (action : Action) → awaits_of a.fault g v own action → Fits g (view_after g v own) action reply → IsPartStep later (kinds.shape (made_of a.fault)) (kinds.leaves (made_of a.fault)) ended g v (own ++ (action, reply) ∷ []) result)
     → (h : AwaitsOf kinds made_of awaits_of a g was view turns turn) → IsAnswer g (view_then g view turns) turn heard
@@ -282,7 +282,7 @@ fault-heard {F} {M} {X} kinds made_of awaits_of later ended a heard reply result
     let list = list-more x.before turns x.caught turn x.action heard reply x.is x.given told in
     let later_view : view_then g view (turns ++ (turn, heard) ∷ []) ≡ after_of g now x.action reply =
     ap (λ (l : Turns). view_then g view l) list ∙ (then-own g view x.before (x.caught ++ (x.action, reply) ∷ []) ∙ view-push g (view_then g view x.before) x.caught x.action reply) in
-    let all : IsKept g (kept_of a.cache) now = subst (λ (v : View). IsKept g (kept_of a.cache) v) here (subst (λ (l : Turns). IsKept g (kept_of a.cache) (view_then g view l)) x.is x.all) in
+    let all : IsKeptWith g (kept_of a.cache) now = subst (λ (v : View). IsKeptWith g (kept_of a.cache) v) here (subst (λ (l : Turns). IsKeptWith g (kept_of a.cache) (view_then g view l)) x.is x.all) in
     record {
       inner = x.inner ++ (x.action, reply) ∷ [];
       run = record {
@@ -296,14 +296,14 @@ fault-heard {F} {M} {X} kinds made_of awaits_of later ended a heard reply result
         first = run.first;
         first_is = run.first_is;
         seat = ap (λ (v : View). desk g v) later_view ∙ (desk-follows g now x.action reply x.gives.quiet ∙ (ap (λ (v : View). after_of g v x.action reply) seat ∙ sym (view-push g run.first x.inner x.action reply)));
-        all = subst (λ (v : View). IsKept g (kept_of a.cache) v) (sym later_view) (quiet-kept g (kept_of a.cache) now x.action reply x.gives.quiet all);
+        all = subst (λ (v : View). IsKeptWith g (kept_of a.cache) v) (sym later_view) (quiet-kept g (kept_of a.cache) now x.action reply x.gives.quiet all);
         on = x.on;
       };
       step = after g run.first x.inner x.action x.gives.awaited inside;
     }
 
 -- the fault goes on
-pub fault-gives : {F M X : Type 0} (kinds : FaultKinds M X) (made_of : F → M) (awaits_of : F → Geometry → View → Own → Action → Type 0) (ended : Geometry → Own → X → Type 0) (a : Access F) (fault : F) (heard : Heard) (reply : Reply) (result : Step X) (next : Action) (g : Geometry) (was : Held X) (view : View) (turns : Turns) (turn : Turn)
+pub fault-gives : {F M X : Type 0} (kinds : FaultKinds M X) (made_of : F → M) (awaits_of : F → Geometry → View → Own → Action → Type 0) (ended : Geometry → Own → X → Type 0) (a : Access F) (fault : F) (heard : Heard) (reply : Reply) (result : Step X) (next : Action) (g : Geometry) (was : Carried X) (view : View) (turns : Turns) (turn : Turn)
     → a.stage ≡ Faulting → heard ≡ Answer reply → result ≡ steps.Do next → made_of fault ≡ made_of a.fault
     → ((g : Geometry) (v : View) (own : Own) (action : Action) → awaits_of a.fault g v own action → Fits g (view_after g v own) action reply → IsPartStep (awaits_of fault) (kinds.shape (made_of a.fault)) (kinds.leaves (made_of a.fault)) ended g v (own ++ (action, reply) ∷ []) result)
     → AwaitsOf kinds made_of awaits_of a g was view turns turn → IsAnswer g (view_then g view turns) turn heard
@@ -322,7 +322,7 @@ ends-push counts tally [] end = refl
 ends-push counts tally (e ∷ ends) end = ends-push counts (sum_of tally (counts e)) ends end
 
 -- the fault is over
-pub fault-over : {F M X : Type 0} (kinds : FaultKinds M X) (made_of : F → M) (awaits_of : F → Geometry → View → Own → Action → Type 0) (ended : Geometry → Own → X → Type 0) (a : Access F) (fault : F) (tally : Tally) (heard : Heard) (reply : Reply) (result : Step X) (end : X) (g : Geometry) (was : Held X) (view : View) (turns : Turns) (turn : Turn)
+pub fault-over : {F M X : Type 0} (kinds : FaultKinds M X) (made_of : F → M) (awaits_of : F → Geometry → View → Own → Action → Type 0) (ended : Geometry → Own → X → Type 0) (a : Access F) (fault : F) (tally : Tally) (heard : Heard) (reply : Reply) (result : Step X) (end : X) (g : Geometry) (was : Carried X) (view : View) (turns : Turns) (turn : Turn)
     → a.stage ≡ Faulting → heard ≡ Answer reply → result ≡ steps.Over end → tally ≡ sum_of a.tally (kinds.counts end)
     → ((g : Geometry) (v : View) (own : Own) (action : Action) → awaits_of a.fault g v own action → Fits g (view_after g v own) action reply → IsPartStep (awaits_of fault) (kinds.shape (made_of a.fault)) (kinds.leaves (made_of a.fault)) ended g v (own ++ (action, reply) ∷ []) result)
     → AwaitsOf kinds made_of awaits_of a g was view turns turn → IsAnswer g (view_then g view turns) turn heard
@@ -333,13 +333,13 @@ fault-over {F} {M} {X} kinds made_of awaits_of ended a fault tally heard reply r
     let l = turns ++ (turn, heard) ∷ [] in
     let S : Step X → Type 0 = λ s. IsPartStep (awaits_of fault) (kinds.shape (made_of a.fault)) (kinds.leaves (made_of a.fault)) ended g run.first x.inner s in
     let over : IsEnded (kinds.shape (made_of a.fault)) (kinds.leaves (made_of a.fault)) ended g run.first x.inner end = subst S is x.step in
-    let held : Held X = record { kept = run.before; ends = h.ends } in
-    let free : IsFree (view_after g run.first x.inner) = run.frees run.first (view_after g run.first x.inner) end over.left in
-    let D : Turns → Type 0 = λ t. IsLeft (IsAccess kinds g a.made was) t (Sometimes (λ tries. after_fault kinds g a.made held a.hinted tries (end, kept_of a.cache))) in
+    let held : Carried X = record { kept = run.before; ends = h.ends } in
+    let free : HasNothingOpen (view_after g run.first x.inner) = run.frees run.first (view_after g run.first x.inner) end over.left in
+    let D : Turns → Type 0 = λ t. IsLeft (IsWholeAccess kinds g a.made was) t (Sometimes (λ tries. after_fault kinds g a.made held a.hinted tries (end, kept_of a.cache))) in
     record {
       ends = h.ends ++ end ∷ [];
       well = record { same = h.same; may = h.may; counted = counts ∙ (ap (λ (t : Tally). sum_of t (kinds.counts end)) h.counted ∙ sym (ends-push kinds.counts _ h.ends end)) };
-      due = subst D (sym run.is) (tries-after (IsAccess kinds g a.made was) run.front (turns_of run.own) (Acts (WeavesPart (CatchesUp g) kinds.waits (kinds.shape (made_of a.fault) g) run.before)) (after_fault kinds g a.made held a.hinted) (end, kept_of a.cache) run.due
+      due = subst D (sym run.is) (tries-after (IsWholeAccess kinds g a.made was) run.front (action_turns run.own) (Acts (WeavesPart (CatchesUp g) kinds.waits (kinds.shape (made_of a.fault) g) run.before)) (after_fault kinds g a.made held a.hinted) (end, kept_of a.cache) run.due
           (record { own = run.own; is = refl; shown = record { inner = x.inner; shown = over.shown; woven = run.woven } }));
       ready = record {
         all = run.all;
@@ -350,10 +350,10 @@ fault-over {F} {M} {X} kinds made_of awaits_of ended a fault tally heard reply r
 
 -- A fault begins.
 
-pub fault-starts : {F M X : Type 0} (kinds : FaultKinds M X) (made_of : F → M) (awaits_of : F → Geometry → View → Own → Action → Type 0) (may_begin : M → Geometry → View → Type 0) (a : Access F) (fault started : F) (action : Action) (g : Geometry) (was : Held X) (view : View) (turns : Turns)
+pub fault-starts : {F M X : Type 0} (kinds : FaultKinds M X) (made_of : F → M) (awaits_of : F → Geometry → View → Own → Action → Type 0) (may_begin : M → Geometry → View → Type 0) (a : Access F) (fault started : F) (action : Action) (g : Geometry) (was : Carried X) (view : View) (turns : Turns)
     → made_of started ≡ made_of fault
     → ((g : Geometry) (view : View) → may_begin (made_of fault) g view → IsAsked (awaits_of started) (kinds.shape (made_of fault)) g view [] action)
-    → IsFaulting kinds a (made_of fault) g was view turns → may_begin (made_of fault) g (desk g (view_then g view turns)) → ((now left : View) (end : X) → kinds.leaves (made_of fault) g now end left → IsFree left)
+    → IsFaulting kinds a (made_of fault) g was view turns → may_begin (made_of fault) g (desk g (view_then g view turns)) → ((now left : View) (end : X) → kinds.leaves (made_of fault) g now end left → HasNothingOpen left)
     → IsGiving kinds made_of awaits_of (record a { fault = started }) action g was view turns
 fault-starts {F} {M} {X} kinds made_of awaits_of may_begin a fault started action g was view turns same starts h may frees =
     let asked = starts g (desk g (view_then g view turns)) may in
@@ -394,7 +394,7 @@ pub caught-heard : {F M X : Type 0} (kinds : FaultKinds M X) (made_of : F → M)
     → IsAccessHeard (AwaitsOf kinds made_of awaits_of a) (Answer reply) → IsCatchHeard a.cache reply
 caught-heard kinds made_of awaits_of a reply may h = caught-at kinds made_of awaits_of a a.stage reply refl may h
 
-more-at : {F M X : Type 0} (kinds : FaultKinds M X) (made_of : F → M) (awaits_of : F → Geometry → View → Own → Action → Type 0) (a : Access F) (stage : AccessStage) (later : TranslationCache) (reply : Reply) (result : Step (Unit {0})) (next : Action) (g : Geometry) (was : Held X) (view : View) (turns : Turns) (turn : Turn)
+more-at : {F M X : Type 0} (kinds : FaultKinds M X) (made_of : F → M) (awaits_of : F → Geometry → View → Own → Action → Type 0) (a : Access F) (stage : AccessStage) (later : TranslationCache) (reply : Reply) (result : Step (Unit {0})) (next : Action) (g : Geometry) (was : Carried X) (view : View) (turns : Turns) (turn : Turn)
     → a.stage ≡ stage → IsCatchingStage stage → result ≡ steps.Do next → Catches a.cache later reply result
     → AwaitsOf kinds made_of awaits_of a g was view turns turn → IsAnswer g (view_then g view turns) turn (Answer reply)
     → IsStepOf kinds made_of awaits_of (record a { cache = later }) g was view (turns ++ (turn, Answer reply) ∷ []) (Give (Do next))
@@ -402,7 +402,7 @@ more-at kinds made_of awaits_of a CatchingUp later reply result next g was view 
 more-at kinds made_of awaits_of a (Waiting waiting) later reply result next g was view turns turn at may is catches h answer = wait-more kinds made_of awaits_of a waiting later (Answer reply) reply result next g was view turns turn at refl is catches h answer
 more-at kinds made_of awaits_of a stage later reply result next g was view turns turn at may is catches h answer = absurd may
 
-pub caught-more : {F M X : Type 0} (kinds : FaultKinds M X) (made_of : F → M) (awaits_of : F → Geometry → View → Own → Action → Type 0) (a : Access F) (later : TranslationCache) (reply : Reply) (result : Step (Unit {0})) (next : Action) (g : Geometry) (was : Held X) (view : View) (turns : Turns) (turn : Turn)
+pub caught-more : {F M X : Type 0} (kinds : FaultKinds M X) (made_of : F → M) (awaits_of : F → Geometry → View → Own → Action → Type 0) (a : Access F) (later : TranslationCache) (reply : Reply) (result : Step (Unit {0})) (next : Action) (g : Geometry) (was : Carried X) (view : View) (turns : Turns) (turn : Turn)
     → IsCatchingStage a.stage → result ≡ steps.Do next → Catches a.cache later reply result
     → AwaitsOf kinds made_of awaits_of a g was view turns turn → IsAnswer g (view_then g view turns) turn (Answer reply)
     → IsStepOf kinds made_of awaits_of (record a { cache = later }) g was view (turns ++ (turn, Answer reply) ∷ []) (Give (Do next))

@@ -16,7 +16,7 @@ use Rattle.nm_compose.proofs.Acting.{reply-kind}
 use Rattle.nm_actor.specs.Turns.{Turns, own_turn, own_list}
 use Rattle.nm_actor.specs.Actors.{IsAnswer}
 use Rattle.nm_actor.proofs.TurnLists.{own-append, own-push}
-use Rattle.nm_access.specs.Turning.{IsHeardOf, Hears, turns_of, IsTurnBegun}
+use Rattle.nm_access.specs.Turning.{IsHeardOf, Hears, action_turns, IsTurnBegun}
 use Rattle.nm_access.specs.Accessing.{view_then}
 
 -- what answers a turn is of its kind
@@ -71,17 +71,17 @@ begun-heard g whole turns turn heard after tries due kind can = record {
 
 -- Lists of actions, as turns.
 
-pub turns-append : (a b : Own) → turns_of (a ++ b) ≡ turns_of a ++ turns_of b
+pub turns-append : (a b : Own) → action_turns (a ++ b) ≡ action_turns a ++ action_turns b
 turns-append [] b = refl
 turns-append (event ∷ a) b = ap (λ (l : Turns). (Do event.0, Answer event.1) ∷ l) (turns-append a b)
 
-pub own-turns : (own : Own) → own_list (turns_of own) ≡ own
+pub own-turns : (own : Own) → own_list (action_turns own) ≡ own
 own-turns [] = refl
 own-turns (event ∷ own) = ap (λ (l : Own). event ∷ l) (own-turns own)
 
 -- one action more after a front
-pub turns-push : (front : Turns) (own : Own) (action : Action) (reply : Reply) → (front ++ turns_of own) ++ (Do action, Answer reply) ∷ [] ≡ front ++ turns_of (own ++ (action, reply) ∷ [])
-turns-push front own action reply = append_assoc front (turns_of own) ((Do action, Answer reply) ∷ []) ∙ ap (λ (l : Turns). front ++ l) (sym (turns-append own ((action, reply) ∷ [])))
+pub turns-push : (front : Turns) (own : Own) (action : Action) (reply : Reply) → (front ++ action_turns own) ++ (Do action, Answer reply) ∷ [] ≡ front ++ action_turns (own ++ (action, reply) ∷ [])
+turns-push front own action reply = append_assoc front (action_turns own) ((Do action, Answer reply) ∷ []) ∙ ap (λ (l : Turns). front ++ l) (sym (turns-append own ((action, reply) ∷ [])))
 
 -- The view.
 
@@ -89,8 +89,8 @@ pub then-append : (g : Geometry) (view : View) (a b : Turns) → view_then g vie
 then-append g view a b = ap (λ (l : Own). view_after g view l) (own-append a b) ∙ view-append g view (own_list a) (own_list b)
 
 -- after actions
-pub then-own : (g : Geometry) (view : View) (front : Turns) (own : Own) → view_then g view (front ++ turns_of own) ≡ view_after g (view_then g view front) own
-then-own g view front own = then-append g view front (turns_of own) ∙ ap (λ (l : Own). view_after g (view_then g view front) l) (own-turns own)
+pub then-own : (g : Geometry) (view : View) (front : Turns) (own : Own) → view_then g view (front ++ action_turns own) ≡ view_after g (view_then g view front) own
+then-own g view front own = then-append g view front (action_turns own) ∙ ap (λ (l : Own). view_after g (view_then g view front) l) (own-turns own)
 
 -- after one turn more
 pub then-push : (g : Geometry) (view : View) (turns : Turns) (turn : Turn) (heard : Heard) → view_then g view (turns ++ (turn, heard) ∷ []) ≡ view_after g (view_then g view turns) (own_turn turn heard)

@@ -21,7 +21,7 @@ use Rattle.nm_xlat.specs.Entries.{entry_at}
 use Rattle.nm_xlat.proofs.Lookups.{this_page_at-put, other_pages_at-put}
 use Rattle.nm_setcache.specs.SetAssociative.{SetAssociative, put_in_set, entries_of_set}
 use Rattle.nm_catchup.specs.CatchUp.{Kept, entry_of}
-use Rattle.nm_catchup.specs.Catching.{entry_in, fresh_peek, AreCached, IsAcked, IsKept}
+use Rattle.nm_catchup.specs.Catching.{entry_in, fresh_peek, AreCached, IsAcked, IsKeptWith}
 use Rattle.nm_catchup.proofs.Entries.{acked-as, kept-as, is-some}
 use Rattle.nm_access.specs.declared.made.Touch.{Touch}
 use Rattle.nm_access.specs.declared.made.Touch.TheVariants as touches
@@ -29,7 +29,7 @@ use Rattle.nm_access.specs.declared.made.AccessMade.{AccessMade}
 use Rattle.nm_access.specs.declared.access.AccessStage.{AccessStage}
 use Rattle.nm_access.specs.declared.access.AccessStage.TheVariants.{Resting, CatchingUp, Peeking, Looking, Faulting, Waiting, Softening, Walking, Marking, Putting, Unmarking, Touching}
 use Rattle.nm_access.specs.Accesses.{is_write, touch_action, serves, walked_entry}
-use Rattle.nm_access.specs.Accessing.{IsTouchWord, IsAccessMade, IsReady, IsPeeked, MayBeWalked, IsServed, KnownInAccess, access_turn}
+use Rattle.nm_access.specs.Accessing.{IsTouchWord, IsAccessMade, IsAccessReady, IsPeeked, MayBeWalked, IsAccessServed, KnownInAccess, access_turn}
 
 -- Permitted turns.
 
@@ -59,7 +59,7 @@ serving touch (Some e) h = record { entry = e; is = refl; dirty = λ w. dirty-if
 found-dirty : (v : ℕ) (e : Entry) (o : Option CacheEntry) → o ≡ Some (entry_in v e) → e.dirty ≡ true → IsSomeAnd o (λ x. IsTrue x.dirty)
 found-dirty v e o is dirty = rw is dirty
 
-pub touch-allowed : (g : Geometry) (made : AccessMade) (touch : Touch) (kept : Kept) (view : View) → IsVPage g made.vpage → IsIndex g made.word → IsTouchWord touch → IsKept g kept view
+pub touch-allowed : (g : Geometry) (made : AccessMade) (touch : Touch) (kept : Kept) (view : View) → IsVPage g made.vpage → IsIndex g made.word → IsTouchWord touch → IsKeptWith g kept view
     → serves touch (entry_of kept made.vpage) ≡ true → Allowed g view (touch_action made touch)
 touch-allowed g made touches.Load kept view vpage index value all served =
     let s = serving touches.Load (entry_of kept made.vpage) served in
@@ -101,10 +101,10 @@ permitted-turn g made Touching kept view may known = touch-allowed g made made.t
 
 -- The view after a turn.
 
-pub ready-as : (g : Geometry) (kept : Kept) (view later : View) → later.number ≡ view.number → later.cache ≡ view.cache → later.acked ≡ view.acked → later.ops ≡ [] → later.turn ≡ view.turn → IsReady g kept view → IsReady g kept later
+pub ready-as : (g : Geometry) (kept : Kept) (view later : View) → later.number ≡ view.number → later.cache ≡ view.cache → later.acked ≡ view.acked → later.ops ≡ [] → later.turn ≡ view.turn → IsAccessReady g kept view → IsAccessReady g kept later
 ready-as g kept view later number cache acked ops turn h = record { all = kept-as g kept view later number cache acked h.all; on = h.on; free = record { ops = ops; turn = turn ∙ h.free.turn } }
 
-pub peeked-then : (g : Geometry) (made : AccessMade) (kept : Kept) (view : View) (stamp : ℕ) → IsReady g kept view → IsPeeked g made stamp kept (after_of g view (Peek made.vpage) (Word stamp))
+pub peeked-then : (g : Geometry) (made : AccessMade) (kept : Kept) (view : View) (stamp : ℕ) → IsAccessReady g kept view → IsPeeked g made stamp kept (after_of g view (Peek made.vpage) (Word stamp))
 peeked-then g made kept view stamp h = record {
   ready = ready-as g kept view (after_of g view (Peek made.vpage) (Word stamp)) refl refl refl h.free.ops refl h;
   peek = find_put peeked_page (fresh_peek made.vpage stamp) view.peeked;
@@ -179,7 +179,7 @@ abbrev pub kept_walked : AccessMade → ℕ → ℕ → Kept → Kept
 kept_walked made word stamp kept = record kept { cache = put_in_set (page_walked made word stamp) kept.cache }
 
 pub walked-then : (g : Geometry) (made : AccessMade) (kept : Kept) (view : View) (stamp word : ℕ) → IsAccessMade g made → MayBeWalked g made stamp word kept view
-    → IsServed g made (kept_walked made word stamp kept) (after_of g view (Walk made.vpage word (is_write made.touch)) Done)
+    → IsAccessServed g made (kept_walked made word stamp kept) (after_of g view (Walk made.vpage word (is_write made.touch)) Done)
 walked-then g made kept view stamp word may h =
     let all = h.peeked.ready.all in
     let now : entry_of (kept_walked made word stamp kept) made.vpage ≡ Some (walked_entry made word stamp) = this_page_at-put (page_walked made word stamp) _ in

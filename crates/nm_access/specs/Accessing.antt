@@ -25,7 +25,7 @@ use Rattle.nm_desk.specs.Desk.{desk}
 use Rattle.nm_desk.specs.Woven.{CatchesWhere, Weaves}
 use Rattle.nm_catchup.specs.declared.cache.TranslationCache.{TranslationCache}
 use Rattle.nm_catchup.specs.CatchUp.{Kept, entry_of, CatchesUp}
-use Rattle.nm_catchup.specs.Catching.{kept_of, fresh_peek, IsKept, AwaitsCatch}
+use Rattle.nm_catchup.specs.Catching.{kept_of, fresh_peek, IsKeptWith, AwaitsCatch}
 use Rattle.nm_access.specs.declared.made.Touch.{Touch}
 use Rattle.nm_access.specs.declared.made.Touch.TheVariants as touches
 use Rattle.nm_access.specs.declared.made.AccessMade.{AccessMade}
@@ -33,9 +33,9 @@ use Rattle.nm_access.specs.declared.access.AccessStage.{AccessStage}
 use Rattle.nm_access.specs.declared.access.AccessStage.TheVariants.{Resting, CatchingUp, Peeking, Looking, Faulting, Waiting, Softening, Walking, Marking, Putting, Unmarking, Touching}
 use Rattle.nm_access.specs.declared.access.AccessStep.{AccessStep}
 use Rattle.nm_access.specs.declared.access.AccessStep.TheVariants.{Give, Over}
-use Rattle.nm_access.specs.Turning.{Hears, turns_of, word_heard, IsTurnBegun}
-use Rattle.nm_access.specs.Faults.{FaultKinds, IsFree, ends_tally}
-use Rattle.nm_access.specs.Accesses.{Held, Accessed, is_write, touch_action, serves, Touches, AfterPut, AfterMark, AfterWalk, Tries, Faults, AfterLook, Translates, IsAccess}
+use Rattle.nm_access.specs.Turning.{Hears, action_turns, word_heard, IsTurnBegun}
+use Rattle.nm_access.specs.Faults.{FaultKinds, HasNothingOpen, ends_tally}
+use Rattle.nm_access.specs.Accesses.{Carried, Accessed, is_write, touch_action, serves, Touches, AfterPut, AfterMark, AfterWalk, Tries, Faults, AfterLook, Translates, IsWholeAccess}
 
 -- What an access is made with.
 
@@ -56,14 +56,14 @@ pub record IsAccessMade (g : Geometry) (made : AccessMade) : Type 0 where
 -- The view.
 
 -- the translations agree with the view, which has no operation and holds no turn; and something was acknowledged
-pub record IsReady (g : Geometry) (kept : Kept) (view : View) : Type 0 where
-  pub all : IsKept g kept view
+pub record IsAccessReady (g : Geometry) (kept : Kept) (view : View) : Type 0 where
+  pub all : IsKeptWith g kept view
   pub on : IsSome kept.acked
-  pub free : IsFree view
+  pub free : HasNothingOpen view
 
 -- the same, and the page was peeked
 pub record IsPeeked (g : Geometry) (made : AccessMade) (stamp : ℕ) (kept : Kept) (view : View) : Type 0 where
-  pub ready : IsReady g kept view
+  pub ready : IsAccessReady g kept view
   pub peek : find peeked_page made.vpage view.peeked ≡ Some (fresh_peek made.vpage stamp)
 
 -- the same, and the page may be walked with this word
@@ -74,23 +74,23 @@ pub record MayBeWalked (g : Geometry) (made : AccessMade) (stamp word : ℕ) (ke
   pub writable : IsTrue (is_write made.touch) → IsTrue (is_writable word)
 
 -- the translations agree with the view, and one of them serves
-pub record IsServed (g : Geometry) (made : AccessMade) (kept : Kept) (view : View) : Type 0 where
-  pub ready : IsReady g kept view
+pub record IsAccessServed (g : Geometry) (made : AccessMade) (kept : Kept) (view : View) : Type 0 where
+  pub ready : IsAccessReady g kept view
   pub served : serves made.touch (entry_of kept made.vpage) ≡ true
 
 abbrev pub KnownInAccess : Geometry → AccessMade → AccessStage → Kept → View → Type 0
 KnownInAccess g made Resting kept view = ⊥
 KnownInAccess g made CatchingUp kept view = ⊥
-KnownInAccess g made Peeking kept view = IsReady g kept view
+KnownInAccess g made Peeking kept view = IsAccessReady g kept view
 KnownInAccess g made (Looking stamp) kept view = IsPeeked g made stamp kept view
 KnownInAccess g made Faulting kept view = ⊥
 KnownInAccess g made (Waiting action) kept view = ⊥
-KnownInAccess g made Softening kept view = IsReady g kept view
+KnownInAccess g made Softening kept view = IsAccessReady g kept view
 KnownInAccess g made (Walking stamp word) kept view = MayBeWalked g made stamp word kept view
-KnownInAccess g made Marking kept view = IsServed g made kept view
-KnownInAccess g made Putting kept view = IsServed g made kept view
-KnownInAccess g made Unmarking kept view = IsServed g made kept view
-KnownInAccess g made Touching kept view = IsServed g made kept view
+KnownInAccess g made Marking kept view = IsAccessServed g made kept view
+KnownInAccess g made Putting kept view = IsAccessServed g made kept view
+KnownInAccess g made Unmarking kept view = IsAccessServed g made kept view
+KnownInAccess g made Touching kept view = IsAccessServed g made kept view
 
 -- The stages of one turn.
 
@@ -110,7 +110,7 @@ access_turn made Unmarking = Do (Mark made.page 1 0)
 access_turn made Touching = Do (touch_action made made.touch)
 
 -- what is left after the turn of a stage, by what is heard
-abbrev pub access_left : {M X : Type 0} → FaultKinds M X → Geometry → AccessMade → AccessStage → Held X → Bool → ℕ → Heard → Turns → Accessed X → Type 0
+abbrev pub access_left : {M X : Type 0} → FaultKinds M X → Geometry → AccessMade → AccessStage → Carried X → Bool → ℕ → Heard → Turns → Accessed X → Type 0
 access_left kinds g made Resting held hinted tries heard = Touches g made held
 access_left kinds g made CatchingUp held hinted tries heard = Touches g made held
 access_left kinds g made Peeking held hinted tries heard = Follows (Hears g (Do (Look made.vpage))) (λ look. AfterLook kinds g made (word_heard heard) (Translates kinds g made tries) held hinted (word_heard look))
@@ -138,36 +138,36 @@ abbrev pub view_then : Geometry → View → Turns → View
 view_then g view turns = view_after g view (own_list turns)
 
 -- the answer to the turn of a stage is awaited
-pub record IsAtTurn {M X : Type 0} (kinds : FaultKinds M X) (made : AccessMade) (stage : AccessStage) (hinted : Bool) (kept : Kept) (ends : List X) (g : Geometry) (was : Held X) (view : View) (turns : Turns) (turn : Turn) : Type 0 where
+pub record IsAtAccessTurn {M X : Type 0} (kinds : FaultKinds M X) (made : AccessMade) (stage : AccessStage) (hinted : Bool) (kept : Kept) (ends : List X) (g : Geometry) (was : Carried X) (view : View) (turns : Turns) (turn : Turn) : Type 0 where
   pub is : turn ≡ access_turn made stage
-  pub due : IsLeft (IsAccess kinds g made was) turns (Sometimes (λ tries. Follows (Hears g (access_turn made stage)) (access_left kinds g made stage (record { kept = kept; ends = ends }) hinted tries)))
+  pub due : IsLeft (IsWholeAccess kinds g made was) turns (Sometimes (λ tries. Follows (Hears g (access_turn made stage)) (access_left kinds g made stage (record { kept = kept; ends = ends }) hinted tries)))
   pub known : KnownInAccess g made stage kept (view_then g view turns)
 
 -- the answer to an action of a catch up is awaited, after which the translations are tried
-pub record IsAtCatch {M X : Type 0} (kinds : FaultKinds M X) (made : AccessMade) (hinted : Bool) (cache : TranslationCache) (ends : List X) (g : Geometry) (was : Held X) (view : View) (turns : Turns) (turn : Turn) : Type 0 where
+pub record IsAtCatch {M X : Type 0} (kinds : FaultKinds M X) (made : AccessMade) (hinted : Bool) (cache : TranslationCache) (ends : List X) (g : Geometry) (was : Carried X) (view : View) (turns : Turns) (turn : Turn) : Type 0 where
   pub before : Kept
   pub front : Turns
   pub own : Own
   pub action : Action
   pub given : turn ≡ Do action
-  pub is : turns ≡ front ++ turns_of own
-  pub due : IsLeft (IsAccess kinds g made was) front (Sometimes (λ tries. Tries g made (Translates kinds g made tries) (record { kept = before; ends = ends }) hinted))
-  pub free : IsFree (view_then g view front)
+  pub is : turns ≡ front ++ action_turns own
+  pub due : IsLeft (IsWholeAccess kinds g made was) front (Sometimes (λ tries. Tries g made (Translates kinds g made tries) (record { kept = before; ends = ends }) hinted))
+  pub free : HasNothingOpen (view_then g view front)
   pub awaited : AwaitsCatch cache before g (view_then g view front) own action
 
 -- a fault with this data has made the list `inner`, and the turns since it began are the actions `own`
-pub record IsInFault {M X : Type 0} (kinds : FaultKinds M X) (made : AccessMade) (hinted : Bool) (fault : M) (kept : Kept) (ends : List X) (g : Geometry) (was : Held X) (view : View) (inner : Own) (turns : Turns) : Type 0 where
+pub record IsInFault {M X : Type 0} (kinds : FaultKinds M X) (made : AccessMade) (hinted : Bool) (fault : M) (kept : Kept) (ends : List X) (g : Geometry) (was : Carried X) (view : View) (inner : Own) (turns : Turns) : Type 0 where
   pub before : Kept
   pub front : Turns
   pub own : Own
-  pub is : turns ≡ front ++ turns_of own
-  pub due : IsLeft (IsAccess kinds g made was) front (Sometimes (λ tries. Faults kinds g made (Translates kinds g made tries) fault (record { kept = before; ends = ends }) hinted))
-  pub frees : (now left : View) (end : X) → kinds.leaves fault g now end left → IsFree left
+  pub is : turns ≡ front ++ action_turns own
+  pub due : IsLeft (IsWholeAccess kinds g made was) front (Sometimes (λ tries. Faults kinds g made (Translates kinds g made tries) fault (record { kept = before; ends = ends }) hinted))
+  pub frees : (now left : View) (end : X) → kinds.leaves fault g now end left → HasNothingOpen left
   pub woven : Weaves (CatchesUp g) kinds.waits [] inner before own kept
   pub first : View
   pub first_is : first ≡ desk g (view_then g view front)
   pub seat : desk g (view_then g view turns) ≡ view_after g first inner
-  pub all : IsKept g kept (view_then g view turns)
+  pub all : IsKeptWith g kept (view_then g view turns)
   pub on : IsSome kept.acked
 
 -- the fault is to give this action
@@ -178,7 +178,7 @@ pub record IsFaultGiven {M X : Type 0} (kinds : FaultKinds M X) (fault : M) (awa
   pub begun : IsBegunWith (kinds.shape fault g) inner action
 
 -- the answer to an action of a fault is awaited
-pub record IsAtFault {M X : Type 0} (kinds : FaultKinds M X) (made : AccessMade) (hinted : Bool) (fault : M) (awaits : Geometry → View → Own → Action → Type 0) (kept : Kept) (ends : List X) (g : Geometry) (was : Held X) (view : View) (turns : Turns) (turn : Turn) : Type 0 where
+pub record IsAtFault {M X : Type 0} (kinds : FaultKinds M X) (made : AccessMade) (hinted : Bool) (fault : M) (awaits : Geometry → View → Own → Action → Type 0) (kept : Kept) (ends : List X) (g : Geometry) (was : Carried X) (view : View) (turns : Turns) (turn : Turn) : Type 0 where
   pub middle : Kept
   pub before : Turns
   pub inner : Own
@@ -186,15 +186,15 @@ pub record IsAtFault {M X : Type 0} (kinds : FaultKinds M X) (made : AccessMade)
   pub caught : Own
   pub action : Action
   pub given : turn ≡ Do action
-  pub is : turns ≡ before ++ turns_of caught
+  pub is : turns ≡ before ++ action_turns caught
   pub catches : CatchesWhere (CatchesUp g) (kinds.waits inner action) middle caught kept
   pub seat : desk g (view_then g view turns) ≡ view_after g run.first inner
-  pub all : IsKept g kept (view_then g view turns)
+  pub all : IsKeptWith g kept (view_then g view turns)
   pub on : IsSome kept.acked
   pub gives : IsFaultGiven kinds fault awaits g run.first inner action
 
 -- the answer to an action of a catch up is awaited, after which an action of a fault is given
-pub record IsAtWait {M X : Type 0} (kinds : FaultKinds M X) (made : AccessMade) (hinted : Bool) (fault : M) (awaits : Geometry → View → Own → Action → Type 0) (waiting : Action) (cache : TranslationCache) (ends : List X) (g : Geometry) (was : Held X) (view : View) (turns : Turns) (turn : Turn) : Type 0 where
+pub record IsAtWait {M X : Type 0} (kinds : FaultKinds M X) (made : AccessMade) (hinted : Bool) (fault : M) (awaits : Geometry → View → Own → Action → Type 0) (waiting : Action) (cache : TranslationCache) (ends : List X) (g : Geometry) (was : Carried X) (view : View) (turns : Turns) (turn : Turn) : Type 0 where
   pub middle : Kept
   pub before : Turns
   pub inner : Own
@@ -204,7 +204,7 @@ pub record IsAtWait {M X : Type 0} (kinds : FaultKinds M X) (made : AccessMade) 
   pub own : Own
   pub action : Action
   pub given : turn ≡ Do action
-  pub is : turns ≡ before ++ turns_of own
+  pub is : turns ≡ before ++ action_turns own
   pub awaited : AwaitsCatch cache middle g (view_then g view before) own action
 
 -- the processor catches up at a stage
@@ -223,42 +223,42 @@ IsToldStage Touching = Unit {0}
 IsToldStage stage = ⊥
 
 -- what an access awaits at a stage
-abbrev pub IsAtStage : {M X : Type 0} → FaultKinds M X → AccessMade → AccessStage → Bool → M → (Geometry → View → Own → Action → Type 0) → TranslationCache → List X → Geometry → Held X → View → Turns → Turn → Type 0
-IsAtStage kinds made Resting hinted fault awaits cache ends g was view turns turn = ⊥
-IsAtStage kinds made CatchingUp hinted fault awaits cache ends g was view turns turn = IsAtCatch kinds made hinted cache ends g was view turns turn
-IsAtStage kinds made Faulting hinted fault awaits cache ends g was view turns turn = IsAtFault kinds made hinted fault awaits (kept_of cache) ends g was view turns turn
-IsAtStage kinds made (Waiting waiting) hinted fault awaits cache ends g was view turns turn = IsAtWait kinds made hinted fault awaits waiting cache ends g was view turns turn
-IsAtStage kinds made stage hinted fault awaits cache ends g was view turns turn = IsAtTurn kinds made stage hinted (kept_of cache) ends g was view turns turn
+abbrev pub IsAtAccessStage : {M X : Type 0} → FaultKinds M X → AccessMade → AccessStage → Bool → M → (Geometry → View → Own → Action → Type 0) → TranslationCache → List X → Geometry → Carried X → View → Turns → Turn → Type 0
+IsAtAccessStage kinds made Resting hinted fault awaits cache ends g was view turns turn = ⊥
+IsAtAccessStage kinds made CatchingUp hinted fault awaits cache ends g was view turns turn = IsAtCatch kinds made hinted cache ends g was view turns turn
+IsAtAccessStage kinds made Faulting hinted fault awaits cache ends g was view turns turn = IsAtFault kinds made hinted fault awaits (kept_of cache) ends g was view turns turn
+IsAtAccessStage kinds made (Waiting waiting) hinted fault awaits cache ends g was view turns turn = IsAtWait kinds made hinted fault awaits waiting cache ends g was view turns turn
+IsAtAccessStage kinds made stage hinted fault awaits cache ends g was view turns turn = IsAtAccessTurn kinds made stage hinted (kept_of cache) ends g was view turns turn
 
 -- an access that was made with this awaits the answer to a turn
-pub record AwaitsAccess {M X : Type 0} (kinds : FaultKinds M X) (geometry : Geometry) (made : AccessMade) (stage : AccessStage) (hinted : Bool) (fault : M) (awaits : Geometry → View → Own → Action → Type 0) (cache : TranslationCache) (tally : Tally) (g : Geometry) (was : Held X) (view : View) (turns : Turns) (turn : Turn) : Type 0 where
+pub record AwaitsAccess {M X : Type 0} (kinds : FaultKinds M X) (geometry : Geometry) (made : AccessMade) (stage : AccessStage) (hinted : Bool) (fault : M) (awaits : Geometry → View → Own → Action → Type 0) (cache : TranslationCache) (tally : Tally) (g : Geometry) (was : Carried X) (view : View) (turns : Turns) (turn : Turn) : Type 0 where
   pub same : geometry ≡ g
   pub may : IsAccessMade g made
   pub ends : List X
   pub counted : tally ≡ ends_tally kinds.counts ends
-  pub at : IsAtStage kinds made stage hinted fault awaits cache ends g was view turns turn
+  pub at : IsAtAccessStage kinds made stage hinted fault awaits cache ends g was view turns turn
 
 -- a turn of an access is permitted, and its answer is awaited
-pub record IsAccessAsked {M X : Type 0} (kinds : FaultKinds M X) (geometry : Geometry) (made : AccessMade) (stage : AccessStage) (hinted : Bool) (fault : M) (awaits : Geometry → View → Own → Action → Type 0) (cache : TranslationCache) (tally : Tally) (g : Geometry) (was : Held X) (view : View) (turns : Turns) (turn : Turn) : Type 0 where
+pub record IsAccessAsked {M X : Type 0} (kinds : FaultKinds M X) (geometry : Geometry) (made : AccessMade) (stage : AccessStage) (hinted : Bool) (fault : M) (awaits : Geometry → View → Own → Action → Type 0) (cache : TranslationCache) (tally : Tally) (g : Geometry) (was : Carried X) (view : View) (turns : Turns) (turn : Turn) : Type 0 where
   pub permitted : IsPermittedTurn g (view_then g view turns) turn
   pub awaited : AwaitsAccess kinds geometry made stage hinted fault awaits cache tally g was view turns turn
-  pub begun : IsTurnBegun (IsAccess kinds g made was) turns turn
+  pub begun : IsTurnBegun (IsWholeAccess kinds g made was) turns turn
 
 -- an access is over
-pub record IsAccessOver {M X : Type 0} (kinds : FaultKinds M X) (made : AccessMade) (cache : TranslationCache) (tally : Tally) (g : Geometry) (was : Held X) (view : View) (turns : Turns) (word : ℕ) : Type 0 where
+pub record IsAccessOver {M X : Type 0} (kinds : FaultKinds M X) (made : AccessMade) (cache : TranslationCache) (tally : Tally) (g : Geometry) (was : Carried X) (view : View) (turns : Turns) (word : ℕ) : Type 0 where
   pub ends : List X
   pub counted : tally ≡ ends_tally kinds.counts ends
-  pub shown : IsAccess kinds g made was turns (record { held = record { kept = kept_of cache; ends = ends }; word = word })
-  pub ready : IsReady g (kept_of cache) (view_then g view turns)
+  pub shown : IsWholeAccess kinds g made was turns (record { held = record { kept = kept_of cache; ends = ends }; word = word })
+  pub ready : IsAccessReady g (kept_of cache) (view_then g view turns)
 
-abbrev pub IsAccessStep : {M X : Type 0} → FaultKinds M X → Geometry → AccessMade → AccessStage → Bool → M → (Geometry → View → Own → Action → Type 0) → TranslationCache → Tally → Geometry → Held X → View → Turns → AccessStep → Type 0
+abbrev pub IsAccessStep : {M X : Type 0} → FaultKinds M X → Geometry → AccessMade → AccessStage → Bool → M → (Geometry → View → Own → Action → Type 0) → TranslationCache → Tally → Geometry → Carried X → View → Turns → AccessStep → Type 0
 IsAccessStep kinds geometry made stage hinted fault awaits cache tally g was view turns (Give turn) = IsAccessAsked kinds geometry made stage hinted fault awaits cache tally g was view turns turn
 IsAccessStep kinds geometry made stage hinted fault awaits cache tally g was view turns (Over word) = IsAccessOver kinds made cache tally g was view turns word
 
 -- what is heard answers a turn whose answer is awaited
-pub record IsAccessHeard {X : Type 0} (awaits : Geometry → Held X → View → Turns → Turn → Type 0) (heard : Heard) : Type 0 where
+pub record IsAccessHeard {X : Type 0} (awaits : Geometry → Carried X → View → Turns → Turn → Type 0) (heard : Heard) : Type 0 where
   pub geometry : Geometry
-  pub was : Held X
+  pub was : Carried X
   pub view : View
   pub turns : Turns
   pub turn : Turn

@@ -23,7 +23,7 @@ abbrev pub fault_kinds : {M X : Type 0} → (M → Geometry → Own → X → Ty
 fault_kinds shape leaves waits missing shadowed counts = record { shape = shape; leaves = leaves; waits = waits; missing = missing; shadowed = shadowed; counts = counts }
 
 -- the view has no operation, and holds no turn
-pub record IsFree (view : View) : Type 0 where
+pub record HasNothingOpen (view : View) : Type 0 where
   pub ops : view.ops ≡ []
   pub turn : view.turn ≡ None
 
@@ -34,11 +34,11 @@ pub record MayFaultOn (g : Geometry) (v : ℕ) (view : View) : Type 0 where
   pub page : ℕ
   pub mapped : backing_page g v ≡ Some page
   pub exists : IsPage g page
-  pub free : IsFree view
+  pub free : HasNothingOpen view
 
 -- nothing was counted
-abbrev pub no_counts : Tally
-no_counts = record { demand = 0; alias = 0; hint = 0; shadow = 0; marked = 0; spilled = 0; cold = 0; committed = 0; moved = 0; noframe = 0; gone = 0; worn = 0; aborted = 0; remapped = 0; copied = 0; words = 0; flushes = 0; reclaimed = 0 }
+abbrev pub zero_fault_counts : Tally
+zero_fault_counts = record { demand = 0; alias = 0; hint = 0; shadow = 0; marked = 0; spilled = 0; cold = 0; committed = 0; moved = 0; noframe = 0; gone = 0; worn = 0; aborted = 0; remapped = 0; copied = 0; words = 0; flushes = 0; reclaimed = 0 }
 
 -- what ends count, after these counts
 abbrev pub ends_after : {X : Type 0} → (X → Tally) → Tally → List X → Tally
@@ -47,4 +47,4 @@ ends_after counts tally (end ∷ ends) = ends_after counts (sum_of tally (counts
 
 -- what ends count
 abbrev pub ends_tally : {X : Type 0} → (X → Tally) → List X → Tally
-ends_tally counts ends = ends_after counts no_counts ends
+ends_tally counts ends = ends_after counts zero_fault_counts ends

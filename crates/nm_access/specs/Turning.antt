@@ -29,24 +29,24 @@ pub record Hears (g : Geometry) (turn : Turn) (turns : Turns) (heard : Heard) : 
   pub kind : IsHeardOf g turn heard
 
 -- actions with their replies, as turns
-abbrev pub turns_of : Own → Turns
-turns_of [] = []
-turns_of (event ∷ own) = (Do event.0, Answer event.1) ∷ turns_of own
+abbrev pub action_turns : Own → Turns
+action_turns [] = []
+action_turns (event ∷ own) = (Do event.0, Answer event.1) ∷ action_turns own
 
 -- turns that are actions, whose list has this pattern
 pub record Acts {O : Type 0} (pattern : Own → O → Type 0) (turns : Turns) (outcome : O) : Type 0 where
   pub own : Own
-  pub is : turns ≡ turns_of own
+  pub is : turns ≡ action_turns own
   pub shown : pattern own outcome
 
 -- the reply that was heard; Done where it was none
-abbrev pub reply_in : Heard → Reply
-reply_in (Answer reply) = reply
-reply_in _ = Done
+abbrev pub heard_reply : Heard → Reply
+heard_reply (Answer reply) = reply
+heard_reply _ = Done
 
 -- the word that was heard
 abbrev pub word_heard : Heard → ℕ
-word_heard heard = told_word (reply_in heard)
+word_heard heard = told_word (heard_reply heard)
 
 abbrev pub is_done : Reply → Bool
 is_done Done = true

@@ -14,7 +14,7 @@ ghost use Rattle.nm_action.specs.declared.action.Reply.TheVariants.{Done, Word};
 ghost use Rattle.nm_access.specs.declared.access.AccessStep.TheVariants.{Give};
 ghost use Rattle.nm_access.specs.declared.access.AccessStage.TheVariants.{Looking, Faulting, Walking};
 ghost use Rattle.nm_access.specs.Faults.{fault_kinds};
-ghost use Rattle.nm_access.specs.Accesses.{Held, is_write, touch_action, serves, is_marked};
+ghost use Rattle.nm_access.specs.Accesses.{Carried, is_write, touch_action, serves, is_marked};
 ghost use Rattle.nm_access.specs.Accessing.{access_turn, tried_stage, marked_stage, IsAccessHeard, IsCatchingStage, IsToldStage, view_then};
 ghost use Rattle.nm_access.specs.Moving.{AwaitsOf, IsStepOf, IsTrying, IsOpening, IsGiving, IsFresh};
 ghost use Rattle.nm_xlat.specs.declared.translations.Entry.{Entry};
@@ -230,7 +230,7 @@ impl<'a, F: Faults<'a> + Drop> Access<'a, F> {
         }
     }
 
-    /// Marks the page where that is due, and else makes the access.
+    /// MarksCandidate the page where that is due, and else makes the access.
     fn mark(&mut self, word: u64) -> AccessStep
         requires { frame_of word < frame_count self.old.geometry.now }
         ensures stage { self.new ≡ record self.old { stage = marked_stage (is_marked self.old.geometry.now self.old.hinted word) } }
@@ -245,7 +245,7 @@ impl<'a, F: Faults<'a> + Drop> Access<'a, F> {
 
     /// Catches up, and then tries the translations.
     fn catch_up(&mut self) -> AccessStep
-        ensures { (g : Geometry) (was : Held F.Outcome) (view : View) (turns : Turns) → IsTrying (fault_kinds F.shape F.leaves F.waits_at F.missing F.shadowed F.counted) self.old g was view turns
+        ensures { (g : Geometry) (was : Carried F.Outcome) (view : View) (turns : Turns) → IsTrying (fault_kinds F.shape F.leaves F.waits_at F.missing F.shadowed F.counted) self.old g was view turns
             → IsStepOf (fault_kinds F.shape F.leaves F.waits_at F.missing F.shadowed F.counted) F.made F.awaits self.new g was view turns result }
     {
         self.stage = AccessStage::CatchingUp;
@@ -254,7 +254,7 @@ impl<'a, F: Faults<'a> + Drop> Access<'a, F> {
 
     /// Gives an action of the fault; where the fault waits, the processor catches up before it.
     fn give(&mut self, action: Action) -> AccessStep
-        ensures { (g : Geometry) (was : Held F.Outcome) (view : View) (turns : Turns) → IsGiving (fault_kinds F.shape F.leaves F.waits_at F.missing F.shadowed F.counted) F.made F.awaits self.old action g was view turns
+        ensures { (g : Geometry) (was : Carried F.Outcome) (view : View) (turns : Turns) → IsGiving (fault_kinds F.shape F.leaves F.waits_at F.missing F.shadowed F.counted) F.made F.awaits self.old action g was view turns
             → IsStepOf (fault_kinds F.shape F.leaves F.waits_at F.missing F.shadowed F.counted) F.made F.awaits self.new g was view turns result }
     {
         if self.fault.waits() {
@@ -270,7 +270,7 @@ impl<'a, F: Faults<'a> + Drop> Access<'a, F> {
     fn looked(&mut self, stamp: u64, word: u64) -> AccessStep
         requires heard { IsAccessHeard (AwaitsOf (fault_kinds F.shape F.leaves F.waits_at F.missing F.shadowed F.counted) F.made F.awaits self.old) (Answer (Word word)) }
         requires stage { self.old.stage ≡ Looking stamp }
-        ensures { (g : Geometry) (was : Held F.Outcome) (view : View) (turns : Turns) (turn : Turn) → AwaitsOf (fault_kinds F.shape F.leaves F.waits_at F.missing F.shadowed F.counted) F.made F.awaits self.old g was view turns turn
+        ensures { (g : Geometry) (was : Carried F.Outcome) (view : View) (turns : Turns) (turn : Turn) → AwaitsOf (fault_kinds F.shape F.leaves F.waits_at F.missing F.shadowed F.counted) F.made F.awaits self.old g was view turns turn
             → IsAnswer g (view_then g view turns) turn (Answer (Word word)) → IsStepOf (fault_kinds F.shape F.leaves F.waits_at F.missing F.shadowed F.counted) F.made F.awaits self.new g was view (turns ++ (turn, Answer (Word word)) ∷ []) result }
     {
         let vpage = self.made.vpage;
@@ -293,7 +293,7 @@ impl<'a, F: Faults<'a> + Drop> Access<'a, F> {
     /// are in range, the translations agree with the processor's view, which has no operation and holds no turn, and the
     /// processor has acknowledged a number.
     pub fn begin(&mut self, made: AccessMade) -> AccessStep
-        ensures { (g : Geometry) (was : Held F.Outcome) (view : View) → IsOpening (fault_kinds F.shape F.leaves F.waits_at F.missing F.shadowed F.counted) self.old made g was view
+        ensures { (g : Geometry) (was : Carried F.Outcome) (view : View) → IsOpening (fault_kinds F.shape F.leaves F.waits_at F.missing F.shadowed F.counted) self.old made g was view
             → IsStepOf (fault_kinds F.shape F.leaves F.waits_at F.missing F.shadowed F.counted) F.made F.awaits self.new g was view [] result }
     {
         self.made = made;
@@ -305,7 +305,7 @@ impl<'a, F: Faults<'a> + Drop> Access<'a, F> {
     fn caught(&mut self, reply: Reply) -> AccessStep
         requires heard { IsAccessHeard (AwaitsOf (fault_kinds F.shape F.leaves F.waits_at F.missing F.shadowed F.counted) F.made F.awaits self.old) (Answer reply) }
         requires stage { IsCatchingStage self.old.stage }
-        ensures { (g : Geometry) (was : Held F.Outcome) (view : View) (turns : Turns) (turn : Turn) → AwaitsOf (fault_kinds F.shape F.leaves F.waits_at F.missing F.shadowed F.counted) F.made F.awaits self.old g was view turns turn
+        ensures { (g : Geometry) (was : Carried F.Outcome) (view : View) (turns : Turns) (turn : Turn) → AwaitsOf (fault_kinds F.shape F.leaves F.waits_at F.missing F.shadowed F.counted) F.made F.awaits self.old g was view turns turn
             → IsAnswer g (view_then g view turns) turn (Answer reply) → IsStepOf (fault_kinds F.shape F.leaves F.waits_at F.missing F.shadowed F.counted) F.made F.awaits self.new g was view (turns ++ (turn, Answer reply) ∷ []) result }
     {
         match self.cache.after(reply) {
@@ -325,7 +325,7 @@ impl<'a, F: Faults<'a> + Drop> Access<'a, F> {
     fn faulted(&mut self, reply: Reply) -> AccessStep
         requires heard { IsAccessHeard (AwaitsOf (fault_kinds F.shape F.leaves F.waits_at F.missing F.shadowed F.counted) F.made F.awaits self.old) (Answer reply) }
         requires stage { self.old.stage ≡ Faulting }
-        ensures { (g : Geometry) (was : Held F.Outcome) (view : View) (turns : Turns) (turn : Turn) → AwaitsOf (fault_kinds F.shape F.leaves F.waits_at F.missing F.shadowed F.counted) F.made F.awaits self.old g was view turns turn
+        ensures { (g : Geometry) (was : Carried F.Outcome) (view : View) (turns : Turns) (turn : Turn) → AwaitsOf (fault_kinds F.shape F.leaves F.waits_at F.missing F.shadowed F.counted) F.made F.awaits self.old g was view turns turn
             → IsAnswer g (view_then g view turns) turn (Answer reply) → IsStepOf (fault_kinds F.shape F.leaves F.waits_at F.missing F.shadowed F.counted) F.made F.awaits self.new g was view (turns ++ (turn, Answer reply) ∷ []) result }
     {
         match self.fault.after(reply) {
@@ -341,7 +341,7 @@ impl<'a, F: Faults<'a> + Drop> Access<'a, F> {
     fn walked(&mut self, stamp: u64, word: u64) -> AccessStep
         requires heard { IsAccessHeard (AwaitsOf (fault_kinds F.shape F.leaves F.waits_at F.missing F.shadowed F.counted) F.made F.awaits self.old) (Answer Done) }
         requires stage { self.old.stage ≡ Walking stamp word }
-        ensures { (g : Geometry) (was : Held F.Outcome) (view : View) (turns : Turns) (turn : Turn) → AwaitsOf (fault_kinds F.shape F.leaves F.waits_at F.missing F.shadowed F.counted) F.made F.awaits self.old g was view turns turn
+        ensures { (g : Geometry) (was : Carried F.Outcome) (view : View) (turns : Turns) (turn : Turn) → AwaitsOf (fault_kinds F.shape F.leaves F.waits_at F.missing F.shadowed F.counted) F.made F.awaits self.old g was view turns turn
             → IsAnswer g (view_then g view turns) turn (Answer Done) → IsStepOf (fault_kinds F.shape F.leaves F.waits_at F.missing F.shadowed F.counted) F.made F.awaits self.new g was view (turns ++ (turn, Answer Done) ∷ []) result }
     {
         let frame = frame_of(word);
@@ -353,7 +353,7 @@ impl<'a, F: Faults<'a> + Drop> Access<'a, F> {
     /// The step after what is heard of the last turn. Condition: it answers that turn, and a reply fits.
     pub fn after(&mut self, heard: Heard) -> AccessStep
         requires { IsAccessHeard (AwaitsOf (fault_kinds F.shape F.leaves F.waits_at F.missing F.shadowed F.counted) F.made F.awaits self.old) heard }
-        ensures { (g : Geometry) (was : Held F.Outcome) (view : View) (turns : Turns) (turn : Turn) → AwaitsOf (fault_kinds F.shape F.leaves F.waits_at F.missing F.shadowed F.counted) F.made F.awaits self.old g was view turns turn
+        ensures { (g : Geometry) (was : Carried F.Outcome) (view : View) (turns : Turns) (turn : Turn) → AwaitsOf (fault_kinds F.shape F.leaves F.waits_at F.missing F.shadowed F.counted) F.made F.awaits self.old g was view turns turn
             → IsAnswer g (view_then g view turns) turn heard → IsStepOf (fault_kinds F.shape F.leaves F.waits_at F.missing F.shadowed F.counted) F.made F.awaits self.new g was view (turns ++ (turn, heard) ∷ []) result }
     {
         let reply = match heard {
@@ -383,7 +383,7 @@ impl<'a, F: Faults<'a> + Drop> Access<'a, F> {
     fn told(&mut self, reply: Reply) -> AccessStep
         requires heard { IsAccessHeard (AwaitsOf (fault_kinds F.shape F.leaves F.waits_at F.missing F.shadowed F.counted) F.made F.awaits self.old) (Answer reply) }
         requires stage { IsToldStage self.old.stage }
-        ensures { (g : Geometry) (was : Held F.Outcome) (view : View) (turns : Turns) (turn : Turn) → AwaitsOf (fault_kinds F.shape F.leaves F.waits_at F.missing F.shadowed F.counted) F.made F.awaits self.old g was view turns turn
+        ensures { (g : Geometry) (was : Carried F.Outcome) (view : View) (turns : Turns) (turn : Turn) → AwaitsOf (fault_kinds F.shape F.leaves F.waits_at F.missing F.shadowed F.counted) F.made F.awaits self.old g was view turns turn
             → IsAnswer g (view_then g view turns) turn (Answer reply) → IsStepOf (fault_kinds F.shape F.leaves F.waits_at F.missing F.shadowed F.counted) F.made F.awaits self.new g was view (turns ++ (turn, Answer reply) ∷ []) result }
     {
         match reply {

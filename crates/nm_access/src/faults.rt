@@ -13,7 +13,7 @@ pub trait Faults<'a>: Piece {
     ghost use Rattle.nm_action.specs.declared.tally.Tally.{Tally};
     ghost use Rattle.nm_action.specs.Own.{Own};
     ghost use Rattle.nm_view.specs.Views.{View};
-    ghost use Rattle.nm_access.specs.Faults.{MayFaultOn, IsFree};
+    ghost use Rattle.nm_access.specs.Faults.{MayFaultOn, HasNothingOpen};
 
     // What a missing fault, and a shadow fault, on a virtual page is made with.
     ghost missing: { Geometry → ℕ → Self.Made };
@@ -32,14 +32,14 @@ pub trait Faults<'a>: Piece {
         ensures new { Self.is_new result }
         ensures made { Self.made result ≡ missing g.now v }
         ensures may { (view : View) → MayFaultOn g.now v view → Self.may_begin (missing g.now v) g.now view }
-        ensures leaves { (view left : View) (end : Self.Outcome) → Self.leaves (missing g.now v) g.now view end left → IsFree left };
+        ensures leaves { (view left : View) (end : Self.Outcome) → Self.leaves (missing g.now v) g.now view end left → HasNothingOpen left };
 
     /// The fault on a virtual page that is read-only for its shadow, with the same conditions.
     fn on_shadowed(g: &'a Geometry, v: u32) -> Self
         ensures new { Self.is_new result }
         ensures made { Self.made result ≡ shadowed g.now v }
         ensures may { (view : View) → MayFaultOn g.now v view → Self.may_begin (shadowed g.now v) g.now view }
-        ensures leaves { (view left : View) (end : Self.Outcome) → Self.leaves (shadowed g.now v) g.now view end left → IsFree left };
+        ensures leaves { (view left : View) (end : Self.Outcome) → Self.leaves (shadowed g.now v) g.now view end left → HasNothingOpen left };
 
     /// Whether the processor is to catch up before the action that was given last.
     fn waits(&self) -> bool

@@ -28,7 +28,7 @@ use Rattle.nm_catchup.specs.declared.cache.TranslationCache.{TranslationCache}
 use Rattle.nm_catchup.specs.declared.cache.CatchStage.{CatchStage}
 use Rattle.nm_catchup.specs.declared.cache.CatchStage.TheVariants.{Resting, Polling, Peeking, Acknowledging}
 use Rattle.nm_catchup.specs.CatchUp.{Kept, entry_of, is_news, peeked_with, told_word, Acknowledges, PeeksFrom, CatchesUp}
-use Rattle.nm_catchup.specs.Catching.{kept_of, fresh_peek, IsKept, HasPeeked, KnownInCatch, catch_action, catch_left, IsCatching, AwaitsCatch, IsCatchAsked, IsCaughtUp, IsCatchStep, IsPeekingFrom}
+use Rattle.nm_catchup.specs.Catching.{kept_of, fresh_peek, IsKeptWith, HasPeeked, KnownInCatch, catch_action, catch_left, IsCatching, AwaitsCatch, IsCatchAsked, IsCaughtUp, IsCatchStep, IsPeekingFrom}
 use Rattle.nm_catchup.proofs.Acts.{left-acts, begun-acts}
 use Rattle.nm_catchup.proofs.Entries.{kept-as, polled-news, peeked-one, acknowledged}
 use Rattle.nm_catchup.proofs.Loops.{peek-next, ack-next, left-can}
@@ -135,7 +135,7 @@ old-now : (c : TranslationCache) (was : Kept) (g : Geometry) (view : View) (own 
 old-now c was g view own number old h fits = record {
   shown = whole-now (CatchesUp g was) (own ++ (Poll, Word number) ∷ []) (catch_left g Polling (kept_of c) (Word number)) (kept_of c) (heard-due Polling (kept_of c) was g view own Poll (Word number) h fits)
       (either-other (is_news c.acked number) (PeeksFrom g number 0 (kept_of c)) (Ends (kept_of c)) [] (kept_of c) old (ends-now (kept_of c)));
-  all = subst (λ (v : View). IsKept g (kept_of c) v) (sym (view-push g view own Poll (Word number)))
+  all = subst (λ (v : View). IsKeptWith g (kept_of c) v) (sym (view-push g view own Poll (Word number)))
       (kept-as g (kept_of c) (view_after g view own) (after_of g (view_after g view own) Poll (Word number)) refl refl refl h.known);
   on = acked-some c.acked number old;
   seat = heard-seat Polling (kept_of c) was g view own Poll (Word number) (λ q. q) h;
@@ -157,7 +157,7 @@ ack-now c was g view own number Done h fits =
     let now : Kept = record (kept_of c) { acked = Some number } in
     record {
       shown = whole-now (CatchesUp g was) (own ++ (Ack Seen, Done) ∷ []) (Ends now) now (heard-due (Acknowledging number) (kept_of c) was g view own (Ack Seen) Done h fits) (ends-now now);
-      all = subst (λ (v : View). IsKept g now v) (sym (view-push g view own (Ack Seen) Done)) (acknowledged g (kept_of c) (view_after g view own) number h.known);
+      all = subst (λ (v : View). IsKeptWith g now v) (sym (view-push g view own (Ack Seen) Done)) (acknowledged g (kept_of c) (view_after g view own) number h.known);
       on = refl;
       seat = heard-seat (Acknowledging number) (kept_of c) was g view own (Ack Seen) Done (λ q. q) h;
     }

@@ -15,7 +15,7 @@ use Rattle.nm_event.specs.After.{after_of, is_confirmed}
 use Rattle.nm_xlat.specs.declared.translations.Entry.{Entry}
 use Rattle.nm_xlat.proofs.Lookups.{entry_at-entries_without}
 use Rattle.nm_catchup.specs.CatchUp.{Kept, entry_of, has_stamp, kept_without, peeked_with}
-use Rattle.nm_catchup.specs.Catching.{entry_in, IsAcked, IsKept, fresh_peek, HasPeeked}
+use Rattle.nm_catchup.specs.Catching.{entry_in, IsAcked, IsKeptWith, fresh_peek, HasPeeked}
 
 -- the first item of a number is found among those that pass a test, where it passes
 find-filter : {A : Type 0} (key : A → ℕ) (test : A → Bool) (k : ℕ) (xs : List A) (x : A) → find key k xs ≡ Some x → test x ≡ true → find key k (filter test xs) ≡ Some x
@@ -71,7 +71,7 @@ acked-as None view later same h = h
 acked-as (Some number) view later same h = record { is = same ∙ h.is; most = h.most }
 
 -- it is kept where the number, the cache and the acknowledgement stay
-pub kept-as : (g : Geometry) (kept : Kept) (view later : View) → later.number ≡ view.number → later.cache ≡ view.cache → later.acked ≡ view.acked → IsKept g kept view → IsKept g kept later
+pub kept-as : (g : Geometry) (kept : Kept) (view later : View) → later.number ≡ view.number → later.cache ≡ view.cache → later.acked ≡ view.acked → IsKeptWith g kept view → IsKeptWith g kept later
 kept-as g kept view later number cache acked h = record {
   geometry = h.geometry;
   processor = rw number h.processor;
@@ -81,7 +81,7 @@ kept-as g kept view later number cache acked h = record {
 }
 
 -- fewer entries are kept
-fewer-kept : (g : Geometry) (kept fewer : Kept) (view : View) → fewer.acked ≡ kept.acked → ((page : ℕ) (e : Entry) → entry_of fewer page ≡ Some e → entry_of kept page ≡ Some e) → IsKept g kept view → IsKept g fewer view
+fewer-kept : (g : Geometry) (kept fewer : Kept) (view : View) → fewer.acked ≡ kept.acked → ((page : ℕ) (e : Entry) → entry_of fewer page ≡ Some e → entry_of kept page ≡ Some e) → IsKeptWith g kept view → IsKeptWith g fewer view
 fewer-kept g kept fewer view acked from h = record {
   geometry = h.geometry;
   processor = h.processor;
@@ -93,7 +93,7 @@ fewer-kept g kept fewer view acked from h = record {
 -- The view after each action.
 
 -- the number was polled
-pub polled-news : (g : Geometry) (kept : Kept) (view : View) (number : ℕ) → IsKept g kept view → number ≤ most_bumps → HasPeeked g number 0 kept (after_of g view Poll (Word number))
+pub polled-news : (g : Geometry) (kept : Kept) (view : View) (number : ℕ) → IsKeptWith g kept view → number ≤ most_bumps → HasPeeked g number 0 kept (after_of g view Poll (Word number))
 polled-news g kept view number h most = record {
   all = kept-as g kept view (after_of g view Poll (Word number)) refl refl refl h;
   polled = refl;
@@ -126,7 +126,7 @@ confirmed : (page : ℕ) (e : Entry) (peeked : List Peeked) → find peeked_page
 confirmed page e peeked found = rw found (eq-eqb e.stamp e.stamp refl)
 
 -- the number was acknowledged
-pub acknowledged : (g : Geometry) (kept : Kept) (view : View) (number : ℕ) → HasPeeked g number (length g.vpages) kept view → IsKept g (record kept { acked = Some number }) (after_of g view (Ack Seen) Done)
+pub acknowledged : (g : Geometry) (kept : Kept) (view : View) (number : ℕ) → HasPeeked g number (length g.vpages) kept view → IsKeptWith g (record kept { acked = Some number }) (after_of g view (Ack Seen) Done)
 acknowledged g kept view number h = record {
   geometry = h.all.geometry;
   processor = h.all.processor;

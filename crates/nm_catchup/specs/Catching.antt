@@ -42,8 +42,8 @@ abbrev pub AreCached : Kept → View → Type 0
 AreCached kept view = (page : ℕ) (e : Entry) → entry_of kept page ≡ Some e → find cached_page page view.cache ≡ Some (entry_in page e)
 
 -- only virtual pages have entries
-abbrev pub AreVPages : Geometry → Kept → Type 0
-AreVPages g kept = (page : ℕ) → IsSome (entry_of kept page) → IsVPage g page
+abbrev pub AreCachedVPages : Geometry → Kept → Type 0
+AreCachedVPages g kept = (page : ℕ) → IsSome (entry_of kept page) → IsVPage g page
 
 -- a number is what the view acknowledged last
 pub record IsAcked (view : View) (number : ℕ) : Type 0 where
@@ -51,10 +51,10 @@ pub record IsAcked (view : View) (number : ℕ) : Type 0 where
   pub most : number ≤ most_bumps
 
 -- a processor with this view keeps this
-pub record IsKept (g : Geometry) (kept : Kept) (view : View) : Type 0 where
+pub record IsKeptWith (g : Geometry) (kept : Kept) (view : View) : Type 0 where
   pub geometry : IsGeometry g
   pub processor : IsProcessor g view
-  pub range : AreVPages g kept
+  pub range : AreCachedVPages g kept
   pub cached : AreCached kept view
   pub acked : IfSome kept.acked (IsAcked view)
 
@@ -68,7 +68,7 @@ ArePeeked from kept view = (page : ℕ) (e : Entry) → page < from → entry_of
 
 -- a number that is news was polled, and the pages before this one were peeked
 pub record HasPeeked (g : Geometry) (number from : ℕ) (kept : Kept) (view : View) : Type 0 where
-  pub all : IsKept g kept view
+  pub all : IsKeptWith g kept view
   pub polled : view.req_seen ≡ number
   pub most : number ≤ most_bumps
   pub peeked : ArePeeked from kept view
@@ -83,7 +83,7 @@ pub record IsAtPeek (g : Geometry) (number page : ℕ) (kept : Kept) (view : Vie
 -- what is known at a stage
 abbrev pub KnownInCatch : Geometry → CatchStage → Kept → View → Type 0
 KnownInCatch g Resting kept view = ⊥
-KnownInCatch g Polling kept view = IsKept g kept view
+KnownInCatch g Polling kept view = IsKeptWith g kept view
 KnownInCatch g (Peeking number page) kept view = IsAtPeek g number page kept view
 KnownInCatch g (Acknowledging number) kept view = HasPeeked g number (length g.vpages) kept view
 
@@ -123,7 +123,7 @@ pub record IsCatchAsked (c : TranslationCache) (was : Kept) (g : Geometry) (view
 -- a catch up is over
 pub record IsCaughtUp (c : TranslationCache) (was : Kept) (g : Geometry) (view : View) (own : Own) : Type 0 where
   pub shown : CatchesUp g was own (kept_of c)
-  pub all : IsKept g (kept_of c) (view_after g view own)
+  pub all : IsKeptWith g (kept_of c) (view_after g view own)
   pub on : IsSome c.acked
   pub seat : desk g (view_after g view own) ≡ desk g view
 
