@@ -169,12 +169,13 @@ after-unmark kinds made_of awaits_of a heard reply g was view turns turn at is h
 -- the access was made
 pub after-touch : {F M X : Type 0} (kinds : FaultKinds M X) (made_of : F → M) (awaits_of : F → Geometry → View → Own → Action → Type 0) (a : Access F) (heard : Heard) (word : ℕ) (g : Geometry) (was : Carried X) (view : View) (turns : Turns) (turn : Turn)
     → a.stage ≡ Touching → heard ≡ Answer (Word word) → AwaitsOf kinds made_of awaits_of a g was view turns turn → IsAnswer g (view_then g view turns) turn heard
-    → IsAccessOver kinds a.made a.cache a.tally g was view (turns ++ (turn, heard) ∷ []) word
+    → IsAccessOver kinds a.geometry.now a.made a.cache a.tally g was view (turns ++ (turn, heard) ∷ []) word
 after-touch kinds made_of awaits_of a heard word g was view turns turn at is h answer =
-    by-turn kinds made_of awaits_of a Touching heard (Answer (Word word)) g was view turns turn (λ l. IsAccessOver kinds a.made a.cache a.tally g was view l word) at is (λ ends t. t) h answer
+    by-turn kinds made_of awaits_of a Touching heard (Answer (Word word)) g was view turns turn (λ l. IsAccessOver kinds a.geometry.now a.made a.cache a.tally g was view l word) at is (λ ends t. t) h answer
     (λ x. let l = turns ++ (Do (touch_action a.made a.made.touch), Answer (Word word)) ∷ [] in
     let o : Accessed _ = record { held = held_of a x.ends; word = word } in
     record {
+      same = x.well.same;
       ends = x.ends;
       counted = x.well.counted;
       shown = subst (λ (t : Turns). IsWholeAccess kinds g a.made was t o) (append-nil l) (x.due.carry [] o (record { tries = 0; is = ends-now o }));

@@ -245,7 +245,8 @@ pub record IsAccessAsked {M X : Type 0} (kinds : FaultKinds M X) (geometry : Geo
   pub begun : IsTurnBegun (IsWholeAccess kinds g made was) turns turn
 
 -- an access is over
-pub record IsAccessOver {M X : Type 0} (kinds : FaultKinds M X) (made : AccessMade) (cache : TranslationCache) (tally : Tally) (g : Geometry) (was : Carried X) (view : View) (turns : Turns) (word : ℕ) : Type 0 where
+pub record IsAccessOver {M X : Type 0} (kinds : FaultKinds M X) (geometry : Geometry) (made : AccessMade) (cache : TranslationCache) (tally : Tally) (g : Geometry) (was : Carried X) (view : View) (turns : Turns) (word : ℕ) : Type 0 where
+  pub same : geometry ≡ g
   pub ends : List X
   pub counted : tally ≡ ends_tally kinds.counts ends
   pub shown : IsWholeAccess kinds g made was turns (record { held = record { kept = kept_of cache; ends = ends }; word = word })
@@ -253,7 +254,7 @@ pub record IsAccessOver {M X : Type 0} (kinds : FaultKinds M X) (made : AccessMa
 
 abbrev pub IsAccessStep : {M X : Type 0} → FaultKinds M X → Geometry → AccessMade → AccessStage → Bool → M → (Geometry → View → Own → Action → Type 0) → TranslationCache → Tally → Geometry → Carried X → View → Turns → AccessStep → Type 0
 IsAccessStep kinds geometry made stage hinted fault awaits cache tally g was view turns (Give turn) = IsAccessAsked kinds geometry made stage hinted fault awaits cache tally g was view turns turn
-IsAccessStep kinds geometry made stage hinted fault awaits cache tally g was view turns (Over word) = IsAccessOver kinds made cache tally g was view turns word
+IsAccessStep kinds geometry made stage hinted fault awaits cache tally g was view turns (Over word) = IsAccessOver kinds geometry made cache tally g was view turns word
 
 -- what is heard answers a turn whose answer is awaited
 pub record IsAccessHeard {X : Type 0} (awaits : Geometry → Carried X → View → Turns → Turn → Type 0) (heard : Heard) : Type 0 where

@@ -19,8 +19,14 @@ ghost use Rattle.nm_access.specs.Accessing.{access_turn, tried_stage, marked_sta
 ghost use Rattle.nm_access.specs.Moving.{AwaitsOf, IsStepOf, IsTrying, IsOpening, IsGiving, IsFresh};
 ghost use Rattle.nm_xlat.specs.declared.translations.Entry.{Entry};
 ghost use Rattle.nm_xlat.specs.Translations.{translation_of};
-ghost use Rattle.nm_catchup.specs.CatchUp.{entry_of};
-ghost use Rattle.nm_catchup.specs.Catching.{kept_of};
+ghost use Rattle.nm_catchup.specs.CatchUp.{Kept, entry_of};
+ghost use Rattle.nm_catchup.specs.Catching.{kept_of, AwaitsCatch, IsCatchHeard, IsCatchStep};
+ghost use Rattle.nm_catchup.specs.declared.cache.CatchStage.TheVariants.{Polling};
+ghost use Rattle.nm_action.specs.declared.action.Action.{Action};
+ghost use Rattle.nm_action.specs.declared.action.Action.TheVariants.{Poll};
+ghost use Rattle.nm_action.specs.Own.{Own};
+ghost use Rattle.nm_event.specs.Fitting.{Fits};
+ghost use Rattle.nm_event.specs.After.{view_after};
 
 use crate::faults::Faults;
 use crate::made::{AccessMade, Touch};
@@ -207,6 +213,26 @@ impl<'a, F: Faults<'a> + Drop> Access<'a, F> {
         ensures { result ≡ self.now.tally }
     {
         self.tally
+    }
+
+    /// Begins to catch up before the first access, by a poll.
+    pub fn open(&mut self) -> Action
+        ensures rest { self.new ≡ record self.old { cache = self.new.cache } }
+        ensures kept { kept_of self.new.cache ≡ kept_of self.old.cache }
+        ensures stage { self.new.cache.stage ≡ Polling }
+        ensures poll { result ≡ Poll }
+    {
+        self.cache.poll()
+    }
+
+    /// The step of that catch up after this reply. Condition: the reply fits its last action.
+    pub fn opened(&mut self, reply: Reply) -> Step<()>
+        requires { IsCatchHeard self.old.cache reply }
+        ensures rest { self.new ≡ record self.old { cache = self.new.cache } }
+        ensures step { (was : Kept) (g : Geometry) (view : View) (own : Own) (action : Action) → AwaitsCatch self.old.cache was g view own action
+            → Fits g (view_after g view own) action reply → IsCatchStep self.new.cache was g view (own ++ (action, reply) ∷ []) result }
+    {
+        self.cache.after(reply)
     }
 
     /// Comes to a stage of one turn, and gives its turn.
