@@ -1,0 +1,37 @@
+-- States that runs reach, and what an actor does there.
+use Rattle.std.specs.Prelude.{◌≡◌, ◌≢◌, ℕ, List, [], None}
+use Rattle.nm_base.specs.Geometry.{Geometry, IsGeometry}
+use Rattle.nm_action.specs.declared.action.Action.{Action}
+use Rattle.nm_action.specs.declared.action.Reply.{Reply}
+use Rattle.nm_action.specs.declared.action.Event.{Event}
+use Rattle.nm_action.specs.Own.{Own}
+use Rattle.nm_view.specs.Opening.{IsActor}
+use Rattle.nm_view.specs.Views.{View}
+use Rattle.nm_core.specs.State.{State, view_of}
+use Rattle.nm_core.specs.Runs.{IsRun, state_after}
+use Rattle.nm_actor_rows.specs.Following.{IsMade}
+
+-- some run of a machine leads to this state
+pub record IsReached (g : Geometry) (s : State) : Type 0 where
+  pub limits : IsGeometry g
+  pub same : s.geometry ≡ g
+  pub events : List Event
+  pub run : IsRun g events
+  pub is : s ≡ state_after g events
+
+-- an actor made a step, which was answered so; the views of the others stayed
+pub record HasActed (g : Geometry) (old new : State) (actor : ℕ) (action : Action) (reply : Reply) : Type 0 where
+  pub reached : IsReached g new
+  pub made : IsMade g (view_of old actor) (view_of new actor) action reply
+  pub others : (other : ℕ) → actor ≢ other → view_of new other ≡ view_of old other
+
+-- the actor exists, and its view has no operation and holds no turn
+pub record IsFree (g : Geometry) (actor : ℕ) (view : View) : Type 0 where
+  pub exists : IsActor g actor
+  pub none : view.ops ≡ []
+  pub turn : view.turn ≡ None
+
+-- a part is over with this outcome, and in the state in which it ends
+pub record IsOver {O : Type 0} (ended : Own → O → Type 0) (outcome : O) : Type 0 where
+  pub own : Own
+  pub over : ended own outcome

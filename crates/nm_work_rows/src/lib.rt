@@ -1,0 +1,11 @@
+//! Worked rows of the parts of an actor's work, run on a machine. The library itself is empty.
+#![tactic(auto)]
+
+#[cfg(test)]
+mod driver;
+#[cfg(test)]
+mod rows;
+#[cfg(test)]
+mod scenes;
+#[cfg(test)]
+mod works;

@@ -1,0 +1,117 @@
+//! Each row is run.
+
+ghost use Rattle.std.specs.Prelude.{◌≡◌, IfOk};
+ghost use Rattle.nm_base.specs.Geometry.{IsGeometry};
+ghost use Rattle.nm_locked_task.specs.Tasks.{locked_task_made, IsIdle};
+ghost use Rattle.nm_work_rows.specs.Reached.{IsReached};
+
+use crate::driver::{Line, act};
+use crate::scenes::{Deed, Machine, Row, rows};
+use crate::works::run;
+use nm_base::{Geometry, VPage};
+use nm_core::{Role, State};
+use nm_locked_task::LockedTask;
+use std::alloc::{AllocError, Global};
+use std::process::Abort;
+use std::test::Fail;
+
+const PAGE: Option<VPage> = Some(VPage {
+    page: 0,
+    writable: true,
+});
+
+/// The geometry of a machine.
+fn geometry(alloc: Global, machine: Machine) -> Result<Geometry, Fail>
+    ensures { IfOk result IsGeometry }
+{
+    let g = match machine {
+        Machine::Plain => Geometry::new(alloc, 4, &[2, 10], 1, &[PAGE])?,
+        Machine::Aliased => Geometry::new(alloc, 4, &[2, 10], 1, &[PAGE, PAGE])?,
+        Machine::ThreeTiers => Geometry::new(alloc, 4, &[2, 2, 8], 1, &[PAGE])?,
+    };
+    Ok(g)
+}
+
+/// The state of a machine in which nothing was done.
+fn started(alloc: Global, g: &Geometry) -> Result<State, AllocError>
+    requires { IsGeometry g.now }
+    ensures { IfOk result (λ s. IsReached g.now s) }
+{
+    let state = State::start(alloc, g)?;
+    Ok(state)
+}
+
+/// All lines of some stretches, in order.
+fn joined(alloc: Global, stretches: &[&[Line]]) -> Result<Vec<Line>, AllocError> {
+    let mut lines = Vec::new(alloc);
+    for stretch in stretches {
+        for line in *stretch {
+            lines.push(*line)?;
+        }
+    }
+    Ok(lines)
+}
+
+/// Does what a row says, and asserts each reply and each end.
+fn follow(
+    rt: &impl Abort,
+    alloc: Global,
+    g: &Geometry,
+    state: &mut State,
+    task: &mut LockedTask<'_>,
+    row: &Row,
+) -> Result<(), AllocError>
+    requires reached { IsReached g.now state.old }
+    requires idle { IsIdle task.old }
+    requires geometry { (locked_task_made task.old).0 ≡ g.now }
+    ensures { IsReached g.now state.new }
+{
+    for deed in row.deeds {
+        match deed {
+            Deed::Acts(events) => {
+                for event in *events {
+                    let told = act(g, state, event.actor, event.action);
+                    assert_eq!(rt; told, Some(event.reply), "{}: {event:?}", row.name);
+                }
+            }
+            Deed::Works(actor, work, stretches, more, end) => {
+                let lines = joined(alloc, stretches)?;
+                let ended = run(rt, g, state, task, *actor, *work, &lines);
+                assert_eq!(rt; ended, Some((*end, *more)), "{}: {work:?}", row.name);
+            }
+        }
+    }
+    Ok(())
+}
+
+/// Asserts the home and the mark of page 0.
+fn page_is(rt: &impl Abort, state: &State, row: &Row) {
+    assert!(rt; 0 < state.geometry().pages());
+    assert_eq!(rt; (state.home(0), state.mark(0)), row.page, "{}", row.name);
+}
+
+/// Asserts what the state tells of some frames.
+fn frames_are(rt: &impl Abort, state: &State, row: &Row) {
+    for (frame, role, shadow) in row.frames {
+        assert!(rt; *frame < state.geometry().frames());
+        assert_eq!(rt;
+            (state.role(*frame), state.shadow(*frame)),
+            (*role, *shadow),
+            "{}: frame {frame}",
+            row.name
+        );
+    }
+}
+
+#[test]
+fn each_row_comes_out(rt: HostRuntime) -> Result<(), Fail> {
+    for row in rows() {
+        let g = geometry(rt.alloc(), row.machine)?;
+        let mut state = started(rt.alloc(), &g)?;
+        let mut task = LockedTask::new(rt.alloc(), &g)?;
+        follow(&rt, rt.alloc(), &g, &mut state, &mut task, &row)?;
+        page_is(&rt, &state, &row);
+        frames_are(&rt, &state, &row);
+    }
+    Ok(())
+}

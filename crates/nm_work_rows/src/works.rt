@@ -1,0 +1,175 @@
+//! The pieces of work that rows begin, each with its part.
+
+ghost use Rattle.std.specs.Prelude.{◌≡◌};
+ghost use Rattle.nm_prepare.specs.Ready.{spent_by};
+ghost use Rattle.nm_locked_task.specs.Tasks.{locked_task_made, IsIdle};
+ghost use Rattle.nm_work_rows.specs.Reached.{IsReached};
+
+use crate::driver::{Line, is_free, play};
+use nm_action::Spent;
+use nm_base::Geometry;
+use nm_compose::Composite;
+use nm_core::State;
+use nm_locked_task::{LockedEnd, LockedTask};
+use nm_reclaim::ReclaimTask;
+use nm_shadow_fault::{FaultEnd, FaultMade, ShadowFault};
+use nm_txn::{Txn, TxnEnd};
+use nm_view::ActorView;
+use std::process::Abort;
+
+/// A piece of work.
+#[derive(Clone, Copy, Debug)]
+pub enum Work {
+    /// The shadow fault of a virtual page.
+    ShadowFault(u32),
+    /// Reclaim of a tier: up to ten times so many shadows.
+    Reclaim(u32, u32),
+    /// The transaction of a page and a virtual page of it.
+    Transaction(u32, u32),
+    /// The locked move of a page with so many table words.
+    LockedMove(u32, u32),
+}
+
+/// How it ends.
+#[derive(Clone, Copy, Debug, PartialEq, Eq)]
+pub enum End {
+    Fault(FaultEnd),
+    Freed(u32),
+    Transaction(TxnEnd),
+    LockedMove(LockedEnd),
+}
+
+/// What a view has drawn.
+fn spent_by(view: &ActorView) -> Spent
+    ensures { result ≡ spent_by view.now }
+{
+    Spent {
+        bumps: view.bumps,
+        raises: view.raises,
+    }
+}
+
+/// The shadow fault of a virtual page. None where it may not begin, or the virtual page is not mapped.
+fn shadow_fault(
+    rt: &impl Abort,
+    g: &Geometry,
+    state: &mut State,
+    actor: u32,
+    vpage: u32,
+    lines: &[Line],
+) -> Option<(FaultEnd, u32)>
+    requires { IsReached g.now state.old }
+    ensures { IsReached g.now state.new }
+{
+    let page = g.backing(vpage)?;
+    if vpage as usize >= g.vpages.len() || page >= g.pages() || !is_free(g, state, actor) {
+        return None;
+    }
+    let mut part = Composite::new(ShadowFault::new(g, FaultMade { vpage, page }));
+    Some(play(rt, g, state, actor, &mut part, lines))
+}
+
+/// Reclaim of a tier, with no page left out. None where it may not begin.
+fn reclaim(
+    rt: &impl Abort,
+    g: &Geometry,
+    state: &mut State,
+    actor: u32,
+    tier: u32,
+    want: u32,
+    lines: &[Line],
+) -> Option<(u32, u32)>
+    requires { IsReached g.now state.old }
+    ensures { IsReached g.now state.new }
+{
+    if tier as usize >= g.tiers.len() || !is_free(g, state, actor) {
+        return None;
+    }
+    let mut part = ReclaimTask::new(g);
+    part.begin(tier, want, None);
+    Some(play(rt, g, state, actor, &mut part, lines))
+}
+
+/// The transaction of a page and a virtual page. None where it may not begin.
+fn transaction(
+    rt: &impl Abort,
+    g: &Geometry,
+    state: &mut State,
+    actor: u32,
+    page: u32,
+    vpage: u32,
+    lines: &[Line],
+) -> Option<(TxnEnd, u32)>
+    requires { IsReached g.now state.old }
+    ensures { IsReached g.now state.new }
+{
+    if page >= g.pages() || !is_free(g, state, actor) {
+        return None;
+    }
+    let spent = spent_by(state.view(actor));
+    let mut part = Composite::new(Txn::new(g, page, vpage, spent));
+    Some(play(rt, g, state, actor, &mut part, lines))
+}
+
+/// The locked move of a page with so many table words, by a task that has no work. None where it may not begin.
+fn locked_move(
+    rt: &impl Abort,
+    g: &Geometry,
+    state: &mut State,
+    actor: u32,
+    part: &mut LockedTask<'_>,
+    page: u32,
+    count: u32,
+    lines: &[Line],
+) -> Option<(LockedEnd, u32)>
+    requires reached { IsReached g.now state.old }
+    requires idle { IsIdle part.old }
+    requires geometry { (locked_task_made part.old).0 ≡ g.now }
+    ensures reached { IsReached g.now state.new }
+    ensures idle { IsIdle part.new }
+    ensures geometry { (locked_task_made part.new).0 ≡ g.now }
+{
+    if page >= g.pages() || count == 0 || !is_free(g, state, actor) {
+        return None;
+    }
+    part.begin(spent_by(state.view(actor)), page, count);
+    Some(play(rt, g, state, actor, part, lines))
+}
+
+/// Runs a piece of work as the lines say, and then to its end: how it ends, and how many actions it made after the last line.
+/// None where it may not begin. The task is for locked moves.
+pub fn run(
+    rt: &impl Abort,
+    g: &Geometry,
+    state: &mut State,
+    task: &mut LockedTask<'_>,
+    actor: u32,
+    work: Work,
+    lines: &[Line],
+) -> Option<(End, u32)>
+    requires reached { IsReached g.now state.old }
+    requires idle { IsIdle task.old }
+    requires geometry { (locked_task_made task.old).0 ≡ g.now }
+    ensures reached { IsReached g.now state.new }
+    ensures idle { IsIdle task.new }
+    ensures geometry { (locked_task_made task.new).0 ≡ g.now }
+{
+    match work {
+        Work::ShadowFault(vpage) => {
+            let (end, more) = shadow_fault(rt, g, state, actor, vpage, lines)?;
+            Some((End::Fault(end), more))
+        }
+        Work::Reclaim(tier, want) => {
+            let (freed, more) = reclaim(rt, g, state, actor, tier, want, lines)?;
+            Some((End::Freed(freed), more))
+        }
+        Work::Transaction(page, vpage) => {
+            let (end, more) = transaction(rt, g, state, actor, page, vpage, lines)?;
+            Some((End::Transaction(end), more))
+        }
+        Work::LockedMove(page, count) => {
+            let (end, more) = locked_move(rt, g, state, actor, task, page, count, lines)?;
+            Some((End::LockedMove(end), more))
+        }
+    }
+}
