@@ -15,7 +15,7 @@ use Rattle.nm_demote_task.specs.declared.task.DemoteTask.{DemoteTask}
 use Rattle.nm_demote.specs.Selections.{MayDemote}
 use Rattle.nm_demote.specs.Demotions.{IsDemotion}
 use Rattle.nm_demote.specs.Leaving.{IsDemoteLeft}
-use Rattle.nm_demote_task.specs.Tasks.{DemoteData, DemoteRun, demote_task_made, IsDemotionFor, IsNewRun, AwaitsRun, CountsFreed, IsNewDemotion, IsDemotionAwaited, IsDemotionEnded}
+use Rattle.nm_demote_task.specs.Tasks.{DemoteData, DemoteRun, demote_task_made, IsDemotionFor, IsNewDemoteRun, AwaitsDemoteRun, CountsFreed, IsNewDemotion, IsDemotionAwaited, IsDemotionEnded}
 
 -- the finished lists of the demotion inside, and of the task
 abbrev pub RunShape : DemoteData → Geometry → Own → DemoteOver → Type 0
@@ -26,14 +26,14 @@ TaskShape made g own end = IsDemotion made.1 g own end
 
 -- the demotion of new work is for that work
 pub new-run : (is_new : DemoteRun → Type 0) (made_by : DemoteRun → DemoteData) (made : DemoteData) (work : Option DemoteRun) (run : DemoteRun)
-    → work ≡ Some run → IsNewRun is_new made_by made work → IsDemotionFor (is_new run) made (made_by run)
-new-run is_new made_by made work run is new = let W : Option DemoteRun → Type 0 = λ w. IsNewRun is_new made_by made w in subst W is new
+    → work ≡ Some run → IsNewDemoteRun is_new made_by made work → IsDemotionFor (is_new run) made (made_by run)
+new-run is_new made_by made work run is new = let W : Option DemoteRun → Type 0 = λ w. IsNewDemoteRun is_new made_by made w in subst W is new
 
 -- what is awaited, the demotion awaits
 pub awaited-run : (awaits : DemoteRun → Geometry → View → Own → Action → Type 0) (made_by : DemoteRun → DemoteData) (made : DemoteData) (work : Option DemoteRun) (run : DemoteRun) (g : Geometry) (view : View) (own : Own) (action : Action)
-    → work ≡ Some run → AwaitsRun awaits made_by made work g view own action → IsDemotionFor (awaits run g view own action) made (made_by run)
+    → work ≡ Some run → AwaitsDemoteRun awaits made_by made work g view own action → IsDemotionFor (awaits run g view own action) made (made_by run)
 awaited-run awaits made_by made work run g view own action is h =
-    let W : Option DemoteRun → Type 0 = λ w. AwaitsRun awaits made_by made w g view own action in subst W is h
+    let W : Option DemoteRun → Type 0 = λ w. AwaitsDemoteRun awaits made_by made w g view own action in subst W is h
 
 -- a demotion may begin as the task may
 pub may-run : (made run : DemoteData) (g : Geometry) (view : View) → run ≡ made → MayDemote made.0 made.1 g view → MayDemote run.0 run.1 g view
@@ -49,7 +49,7 @@ pub run-asked : (awaits : DemoteRun → Geometry → View → Own → Action →
     → t.run ≡ Some now → demote_task_made t ≡ made → run ≡ made → made_by now ≡ run → action ≡ t.given → CountsFreed t own
     → IsAsked (awaits now) (RunShape run) g view own action → IsAsked (IsDemotionAwaited awaits made_by t) (TaskShape made) g view own action
 run-asked awaits made_by made run now t g view own action is same for kept given counts h =
-    let W : Option DemoteRun → Type 0 = λ w. AwaitsRun awaits made_by (demote_task_made t) w g view own action in
+    let W : Option DemoteRun → Type 0 = λ w. AwaitsDemoteRun awaits made_by (demote_task_made t) w g view own action in
     record {
       quiet = h.quiet;
       permitted = h.permitted;

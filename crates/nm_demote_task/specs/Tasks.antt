@@ -35,14 +35,14 @@ pub record IsDemotionFor (holds : Type 0) (made run : DemoteData) : Type 0 where
   pub for : run ≡ made
 
 -- it has given no action
-abbrev pub IsNewRun : (DemoteRun → Type 0) → (DemoteRun → DemoteData) → DemoteData → Option DemoteRun → Type 0
-IsNewRun is_new made_by made None = ⊥
-IsNewRun is_new made_by made (Some run) = IsDemotionFor (is_new run) made (made_by run)
+abbrev pub IsNewDemoteRun : (DemoteRun → Type 0) → (DemoteRun → DemoteData) → DemoteData → Option DemoteRun → Type 0
+IsNewDemoteRun is_new made_by made None = ⊥
+IsNewDemoteRun is_new made_by made (Some run) = IsDemotionFor (is_new run) made (made_by run)
 
 -- it awaits the answer to an action
-abbrev pub AwaitsRun : (DemoteRun → Geometry → View → Own → Action → Type 0) → (DemoteRun → DemoteData) → DemoteData → Option DemoteRun → Geometry → View → Own → Action → Type 0
-AwaitsRun awaits made_by made None g view own action = ⊥
-AwaitsRun awaits made_by made (Some run) g view own action = IsDemotionFor (awaits run g view own action) made (made_by run)
+abbrev pub AwaitsDemoteRun : (DemoteRun → Geometry → View → Own → Action → Type 0) → (DemoteRun → DemoteData) → DemoteData → Option DemoteRun → Geometry → View → Own → Action → Type 0
+AwaitsDemoteRun awaits made_by made None g view own action = ⊥
+AwaitsDemoteRun awaits made_by made (Some run) g view own action = IsDemotionFor (awaits run g view own action) made (made_by run)
 
 -- the shadows that were reclaimed are counted, after this own list
 pub record CountsFreed (t : DemoteTask) (own : Own) : Type 0 where
@@ -51,12 +51,12 @@ pub record CountsFreed (t : DemoteTask) (own : Own) : Type 0 where
 
 -- the demotion has given no action
 pub record IsNewDemotion (is_new : DemoteRun → Type 0) (made_by : DemoteRun → DemoteData) (t : DemoteTask) : Type 0 where
-  pub run : IsNewRun is_new made_by (demote_task_made t) t.run
+  pub run : IsNewDemoteRun is_new made_by (demote_task_made t) t.run
   pub counts : CountsFreed t []
 
 -- the demotion awaits the answer to an action, which the task gave last
 pub record IsDemotionAwaited (awaits : DemoteRun → Geometry → View → Own → Action → Type 0) (made_by : DemoteRun → DemoteData) (t : DemoteTask) (g : Geometry) (view : View) (own : Own) (action : Action) : Type 0 where
-  pub run : AwaitsRun awaits made_by (demote_task_made t) t.run g view own action
+  pub run : AwaitsDemoteRun awaits made_by (demote_task_made t) t.run g view own action
   pub given : action ≡ t.given
   pub counts : CountsFreed t own
 
