@@ -19,7 +19,7 @@ use Rattle.nm_txn.specs.declared.end.TxnEnd.{TxnEnd}
 use Rattle.nm_txn.specs.declared.end.TxnEnd.TheVariants.{Busy}
 use Rattle.nm_txn.specs.Transactions.{early_end, decided_end, IsTxn}
 
--- the pieces of a batch: pages, each with the virtual page that alone is to have a table word; and what the actor has drawn_with
+-- the pieces of a batch: pages, each with the virtual page that alone is to have a table word; and what the actor has drawn
 pub record BatchMade : Type 0 where
   pub pieces : List (ℕ × ℕ)
   pub spent : Spent
@@ -31,7 +31,7 @@ count_ready (prepared.Busy ∷ ends) = count_ready ends
 count_ready (prepared.Closed early ∷ ends) = count_ready ends
 count_ready (prepared.Ready home frame ∷ ends) = suc (count_ready ends)
 
--- what is drawn_with after a piece was prepared: one raise where it is ready
+-- what is drawn after a piece was prepared: one raise where it is ready
 abbrev pub drawn_after : Spent → Prepared → Spent
 drawn_after spent prepared.Busy = spent
 drawn_after spent (prepared.Closed early) = spent
@@ -96,7 +96,7 @@ abbrev pub AfterPrepares : Geometry → List Prepared → List ReadyPiece → Ow
 AfterPrepares g ends [] = Ends (ends_of ends [])
 AfterPrepares g ends (piece ∷ pieces) = Follows (IsShootdown g.cpus) (λ number. CopiesEach g ends (piece ∷ pieces))
 
--- 1. Each piece in order is prepared, by what was drawn_with so far.
+-- 1. Each piece in order is prepared, by what was drawn so far.
 abbrev pub PreparesNext : Geometry → BatchMade → ℕ × ℕ → List Prepared → (List Prepared → Own → List TxnEnd → Type 0) → Own → List TxnEnd → Type 0
 PreparesNext g made piece kept after = Follows (IsPrepare (record { page = piece.0; vpage = piece.1; spent = drawn_with made.spent kept }) g) (λ end. after (kept ++ end ∷ []))
 

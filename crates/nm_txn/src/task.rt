@@ -22,7 +22,7 @@ pub struct TxnTask<'a> {
 
 impl<'a> TxnTask<'a> {
     /// A task for transactions of this geometry. It is as one that was begun with page 0 and virtual page 0 by an actor that
-    /// has drawn_with nothing.
+    /// has drawn nothing.
     pub fn new(g: &'a Geometry) -> TxnTask<'a>
         ensures geometry { result.geometry.now ≡ g.now }
         ensures made { txn_of result ≡ record { 0 = g.now; 1 = record { page = 0; vpage = 0; spent = record { bumps = 0; raises = 0 } } } }

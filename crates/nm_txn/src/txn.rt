@@ -57,7 +57,7 @@ pub struct Txn<'a> {
 }
 
 impl<'a> Txn<'a> {
-    /// The transaction of a page and one of its virtual pages. `spent` is what the actor has drawn_with.
+    /// The transaction of a page and one of its virtual pages. `spent` is what the actor has drawn.
     pub fn new(g: &'a Geometry, page: u32, vpage: u32, spent: Spent) -> Txn<'a>
         ensures geometry { result.geometry.now ≡ g.now }
         ensures made { result.made ≡ record { page = page; vpage = vpage; spent = spent } }
