@@ -139,7 +139,7 @@ pub record IsTakenOp (g : Geometry) (page v word home : ℕ) (o : Op) : Type 0 w
   pub due : o.due ≡ true
   pub dry : o.wet ≡ []
 
--- what holds from the first flush on: of the page, of its home, of the new frame, and of what the actor has drawn_with
+-- what holds from the first flush on: of the page, of its home, of the new frame, and of what the actor has drawn
 pub record IsMoving (made : PrepareMade) (g : Geometry) (view : View) (home frame : ℕ) : Type 0 where
   pub may : MayTxn g made g view
   pub worn : is_worn made.spent ≡ false
