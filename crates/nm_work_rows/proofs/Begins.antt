@@ -1,18 +1,14 @@
 -- The pieces of work may begin where an actor is free.
-use Rattle.std.proofs.Common.{◌≡◌, ◌≢◌, ◌<◌, ◌≤◌, ◌+◌, ℕ, List, [], ◌∷◌, length, Option, Some, None, refl, sym, ap, subst, arith}
+use Rattle.std.proofs.Common.{◌≡◌, ◌≤◌, ℕ, List, [], Some, None, refl, arith}
 use Rattle.std.proofs.lemmas.List.Elements.{All-nil}
 use Rattle.nm_base.specs.Geometry.{Geometry, IsGeometry, backing_page}
 use Rattle.nm_base.specs.Ranges.{IsPage, IsTier, IsVPage}
 use Rattle.nm_view.specs.Views.{Op, View}
-use Rattle.nm_prepare.specs.declared.prepare.PrepareMade.{PrepareMade}
 use Rattle.nm_prepare.specs.Ready.{spent_by}
 use Rattle.nm_txn.specs.Leaving.{MayTxn}
-use Rattle.nm_locked.specs.declared.choose.ChooseMade.{ChooseMade}
 use Rattle.nm_locked.specs.Chosen.{MayChoose}
-use Rattle.nm_reclaim.specs.declared.sweep.ReclaimMade.{ReclaimMade}
 use Rattle.nm_reclaim.specs.Swept.{HasOnlySkipped}
 use Rattle.nm_reclaim.specs.Tasks.{MayTask}
-use Rattle.nm_shadow_fault.specs.declared.fault.FaultMade.{FaultMade}
 use Rattle.nm_shadow_fault.specs.Granting.{MayFault}
 use Rattle.nm_work_rows.specs.Reached.{IsFree}
 
