@@ -1,17 +1,15 @@
 -- Each step leads from a state that a run reaches to another, and its reply fits.
-use Rattle.std.proofs.Common.{◌≡◌, ◌≢◌, ◌<◌, ◌+◌, ℕ, List, [], ◌∷◌, ◌++◌, length, refl, sym, ap, subst, ◌∙◌}
+use Rattle.std.proofs.Common.{◌≡◌, ◌<◌, ℕ, [], ◌∷◌, ◌++◌, length, sym, ap, subst, ◌∙◌}
 use Rattle.nm_base.specs.Geometry.{Geometry, IsGeometry}
 use Rattle.nm_action.specs.declared.action.Action.{Action}
 use Rattle.nm_action.specs.declared.action.Reply.{Reply}
 use Rattle.nm_action.specs.declared.action.Event.{Event}
 use Rattle.nm_view.specs.Opening.{IsActor}
-use Rattle.nm_view.specs.Views.{View}
 use Rattle.nm_permit.specs.Permitted.{Allowed}
 use Rattle.nm_event.specs.After.{after_of}
 use Rattle.nm_event.specs.Fitting.{Fits}
 use Rattle.nm_core.specs.State.{State, start, view_of, reply_to, step, actor_count}
-use Rattle.nm_core.specs.Kept.{IsKept}
-use Rattle.nm_core.specs.Runs.{IsStep, IsRun, state_after}
+use Rattle.nm_core.specs.Runs.{IsStep, state_after}
 use Rattle.nm_runs.proofs.EachRun.{fits_in_run}
 use Rattle.nm_runs.proofs.Longer.{state_from-more, run_from-more}
 use Rattle.nm_actor_rows.proofs.Following.{view-stepped, view-other}
