@@ -1,5 +1,5 @@
 -- The demotion as a task: the demotion inside it is the whole work.
-use Rattle.std.proofs.Common.{◌≡◌, List, [], ◌∷◌, ◌++◌, Option, Some, None, refl, sym, ap, ◌∙◌, subst}
+use Rattle.std.proofs.Common.{◌≡◌, [], ◌∷◌, ◌++◌, Option, Some, sym, ap, ◌∙◌, subst}
 use Rattle.nm_base.specs.Geometry.{Geometry}
 use Rattle.nm_action.specs.declared.action.Action.{Action}
 use Rattle.nm_action.specs.declared.action.Reply.{Reply}
@@ -15,7 +15,7 @@ use Rattle.nm_demote_task.specs.declared.task.DemoteTask.{DemoteTask}
 use Rattle.nm_demote.specs.Selections.{MayDemote}
 use Rattle.nm_demote.specs.Demotions.{IsDemotion}
 use Rattle.nm_demote.specs.Leaving.{IsDemoteLeft}
-use Rattle.nm_demote_task.specs.Tasks.{DemoteData, DemoteRun, demote_task_made, IsDemotionFor, IsNewDemoteRun, AwaitsDemoteRun, CountsFreed, IsNewDemotion, IsDemotionAwaited, IsDemotionEnded}
+use Rattle.nm_demote_task.specs.Tasks.{DemoteData, DemoteRun, demote_task_made, IsDemotionFor, IsNewDemoteRun, AwaitsDemoteRun, CountsFreed, IsDemotionAwaited, IsDemotionEnded}
 
 -- the finished lists of the demotion inside, and of the task
 abbrev pub RunShape : DemoteData → Geometry → Own → DemoteOver → Type 0
@@ -78,3 +78,9 @@ counts-more old new own action reply freed is made given page push h =
       page = ap (λ (f : FreedCount). f.page) is ∙ (page ∙ (h.page ∙ sym (ap (λ m. m.page) made)));
       counted = subst F (sym is) (subst A (sym given) (push own reply h.counted));
     }
+
+-- the count as it was
+pub counts-kept : (old new : DemoteTask) (own : Own) → new.freed ≡ old.freed → new.made ≡ old.made → CountsFreed old own → CountsFreed new own
+counts-kept old new own freed made h =
+    let F : FreedCount → Type 0 = λ f. HasCounted f own in
+    record { page = ap (λ (f : FreedCount). f.page) freed ∙ (h.page ∙ sym (ap (λ m. m.page) made)); counted = subst F (sym freed) h.counted }
