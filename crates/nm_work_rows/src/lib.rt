@@ -4,8 +4,6 @@
 #[cfg(test)]
 mod actions;
 #[cfg(test)]
-mod batches;
-#[cfg(test)]
 mod demotions;
 #[cfg(test)]
 mod driver;

@@ -5,7 +5,6 @@ ghost use Rattle.nm_base.specs.Geometry.{IsGeometry};
 ghost use Rattle.nm_locked_task.specs.Tasks.{locked_task_made, IsIdle};
 ghost use Rattle.nm_work_rows.specs.Reached.{IsReached};
 
-use crate::batches::batch;
 use crate::demotions::demotions;
 use crate::driver::{Line, act};
 use crate::faults::faults;
@@ -28,26 +27,6 @@ const READ_ONLY: Option<VPage> = Some(VPage {
     writable: false,
 });
 
-/// A virtual page that maps this page.
-macro_rules! mapping {
-    ($page:expr) => {
-        Some(VPage {
-            page: $page,
-            writable: true,
-        })
-    };
-}
-
-const SEVEN_PAGES: &[Option<VPage>] = &[
-    PAGE,
-    mapping!(1),
-    mapping!(2),
-    mapping!(3),
-    mapping!(4),
-    mapping!(5),
-    mapping!(6),
-];
-
 /// The geometry of a machine.
 fn geometry(alloc: Global, machine: Machine) -> Result<Geometry, Fail>
     ensures { IfOk result IsGeometry }
@@ -57,7 +36,6 @@ fn geometry(alloc: Global, machine: Machine) -> Result<Geometry, Fail>
         Machine::Aliased => Geometry::new(alloc, 4, &[2, 10], 1, &[PAGE, PAGE])?,
         Machine::ThreeTiers => Geometry::new(alloc, 4, &[2, 2, 8], 1, &[PAGE])?,
         Machine::ReadOnly => Geometry::new(alloc, 4, &[4, 8], 1, &[PAGE, READ_ONLY])?,
-        Machine::SevenPages => Geometry::new(alloc, 4, &[6, 14], 1, SEVEN_PAGES)?,
     };
     Ok(g)
 }
@@ -168,11 +146,5 @@ fn each_demotion_comes_out(rt: HostRuntime) -> Result<(), Fail> {
 #[test]
 fn each_fault_comes_out(rt: HostRuntime) -> Result<(), Fail> {
     come_out(&rt, rt.alloc(), &faults())?;
-    Ok(())
-}
-
-#[test]
-fn a_batch_comes_out(rt: HostRuntime) -> Result<(), Fail> {
-    come_out(&rt, rt.alloc(), &[batch()])?;
     Ok(())
 }

@@ -25,8 +25,6 @@ pub enum Machine {
     ThreeTiers,
     /// The frames 0 to 3, and then 4 to 11; virtual page 0 maps the page, and virtual page 1 maps it read-only.
     ReadOnly,
-    /// The frames 0 to 5, and then 6 to 19; each of seven virtual pages maps a page of its own.
-    SevenPages,
 }
 
 /// What is done in a row.

@@ -8,7 +8,6 @@ ghost use Rattle.nm_work_rows.specs.Reached.{IsReached};
 use crate::driver::{Line, is_free, play};
 use nm_action::Spent;
 use nm_base::Geometry;
-use nm_batch::BatchTask;
 use nm_compose::Composite;
 use nm_core::State;
 use nm_demote_task::{DemoteEnd, DemoteTask};
@@ -36,8 +35,6 @@ pub enum Work {
     LockedMove(u32, u32),
     /// The demotion of a page.
     Demotion(u32),
-    /// The batch of three pages, each with the virtual page of its number.
-    BatchOfThree(u32, u32, u32),
 }
 
 /// How it ends.
@@ -48,7 +45,6 @@ pub enum End {
     Transaction(TxnEnd),
     LockedMove(LockedEnd),
     Demotion(DemoteEnd),
-    BatchOfThree(TxnEnd, TxnEnd, TxnEnd),
 }
 
 /// What a view has drawn.
@@ -189,37 +185,6 @@ fn demotion(
     Ok(Some(play(rt, g, state, actor, &mut part, lines)))
 }
 
-/// The batch of three pages, each with the virtual page of its number: the ends of its pieces. None where it may not begin, or
-/// it tells another number of ends. The only error is want of memory.
-fn batch_of_three(
-    rt: &impl Abort,
-    alloc: Global,
-    g: &Geometry,
-    state: &mut State,
-    actor: u32,
-    pages: (u32, u32, u32),
-    lines: &[Line],
-) -> Result<Option<(End, u32)>, AllocError>
-    requires { IsReached g.now state.old }
-    ensures { IsReached g.now state.new }
-{
-    let (a, b, c) = pages;
-    if a >= g.pages() || b >= g.pages() || c >= g.pages() {
-        return Ok(None);
-    }
-    if a == b || a == c || b == c || !is_free(g, state, actor) {
-        return Ok(None);
-    }
-    let mut part = BatchTask::new(alloc, g)?;
-    part.begin(spent_by(state.view(actor)), &[(a, a), (b, b), (c, c)]);
-    let (count, more) = play(rt, g, state, actor, &mut part, lines);
-    if count != 3 {
-        return Ok(None);
-    }
-    let end = End::BatchOfThree(part.end_of(0), part.end_of(1), part.end_of(2));
-    Ok(Some((end, more)))
-}
-
 /// Runs a piece of work as the lines say, and then to its end: how it ends, and how many actions it made after the last line.
 /// None where it may not begin. The task is for locked moves. The only error is want of memory.
 pub fn run(
@@ -265,9 +230,6 @@ pub fn run(
             end,
             more,
         )| (End::Demotion(end), more)),
-        Work::BatchOfThree(a, b, c) => {
-            batch_of_three(rt, alloc, g, state, actor, (a, b, c), lines)?
-        }
     };
     Ok(ended)
 }
