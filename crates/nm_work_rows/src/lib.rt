@@ -4,7 +4,11 @@
 #[cfg(test)]
 mod actions;
 #[cfg(test)]
+mod demotions;
+#[cfg(test)]
 mod driver;
+#[cfg(test)]
+mod faults;
 #[cfg(test)]
 mod rows;
 #[cfg(test)]

@@ -5,7 +5,9 @@ ghost use Rattle.nm_base.specs.Geometry.{IsGeometry};
 ghost use Rattle.nm_locked_task.specs.Tasks.{locked_task_made, IsIdle};
 ghost use Rattle.nm_work_rows.specs.Reached.{IsReached};
 
+use crate::demotions::demotions;
 use crate::driver::{Line, act};
+use crate::faults::faults;
 use crate::scenes::{Deed, Machine, Row, rows};
 use crate::works::run;
 use nm_base::{Geometry, VPage};
@@ -20,6 +22,11 @@ const PAGE: Option<VPage> = Some(VPage {
     writable: true,
 });
 
+const READ_ONLY: Option<VPage> = Some(VPage {
+    page: 0,
+    writable: false,
+});
+
 /// The geometry of a machine.
 fn geometry(alloc: Global, machine: Machine) -> Result<Geometry, Fail>
     ensures { IfOk result IsGeometry }
@@ -28,6 +35,7 @@ fn geometry(alloc: Global, machine: Machine) -> Result<Geometry, Fail>
         Machine::Plain => Geometry::new(alloc, 4, &[2, 10], 1, &[PAGE])?,
         Machine::Aliased => Geometry::new(alloc, 4, &[2, 10], 1, &[PAGE, PAGE])?,
         Machine::ThreeTiers => Geometry::new(alloc, 4, &[2, 2, 8], 1, &[PAGE])?,
+        Machine::ReadOnly => Geometry::new(alloc, 4, &[4, 8], 1, &[PAGE, READ_ONLY])?,
     };
     Ok(g)
 }
@@ -76,7 +84,7 @@ fn follow(
             }
             Deed::Works(actor, work, stretches, more, end) => {
                 let lines = joined(alloc, stretches)?;
-                let ended = run(rt, g, state, task, *actor, *work, &lines);
+                let ended = run(rt, alloc, g, state, task, *actor, *work, &lines)?;
                 assert_eq!(rt; ended, Some((*end, *more)), "{}: {work:?}", row.name);
             }
         }
@@ -84,10 +92,17 @@ fn follow(
     Ok(())
 }
 
-/// Asserts the home and the mark of page 0.
-fn page_is(rt: &impl Abort, state: &State, row: &Row) {
-    assert!(rt; 0 < state.geometry().pages());
-    assert_eq!(rt; (state.home(0), state.mark(0)), row.page, "{}", row.name);
+/// Asserts the home and the mark of some pages.
+fn pages_are(rt: &impl Abort, state: &State, row: &Row) {
+    for (page, home, mark) in row.pages {
+        assert!(rt; *page < state.geometry().pages());
+        assert_eq!(rt;
+            (state.home(*page), state.mark(*page)),
+            (*home, *mark),
+            "{}: page {page}",
+            row.name
+        );
+    }
 }
 
 /// Asserts what the state tells of some frames.
@@ -103,15 +118,33 @@ fn frames_are(rt: &impl Abort, state: &State, row: &Row) {
     }
 }
 
+/// Runs some rows, and asserts all that they say.
+fn come_out(rt: &impl Abort, alloc: Global, rows: &[Row]) -> Result<(), Fail> {
+    for row in rows {
+        let g = geometry(alloc, row.machine)?;
+        let mut state = started(alloc, &g)?;
+        let mut task = LockedTask::new(alloc, &g)?;
+        follow(rt, alloc, &g, &mut state, &mut task, row)?;
+        pages_are(rt, &state, row);
+        frames_are(rt, &state, row);
+    }
+    Ok(())
+}
+
 #[test]
 fn each_row_comes_out(rt: HostRuntime) -> Result<(), Fail> {
-    for row in rows() {
-        let g = geometry(rt.alloc(), row.machine)?;
-        let mut state = started(rt.alloc(), &g)?;
-        let mut task = LockedTask::new(rt.alloc(), &g)?;
-        follow(&rt, rt.alloc(), &g, &mut state, &mut task, &row)?;
-        page_is(&rt, &state, &row);
-        frames_are(&rt, &state, &row);
-    }
+    come_out(&rt, rt.alloc(), &rows())?;
+    Ok(())
+}
+
+#[test]
+fn each_demotion_comes_out(rt: HostRuntime) -> Result<(), Fail> {
+    come_out(&rt, rt.alloc(), &demotions())?;
+    Ok(())
+}
+
+#[test]
+fn each_fault_comes_out(rt: HostRuntime) -> Result<(), Fail> {
+    come_out(&rt, rt.alloc(), &faults())?;
     Ok(())
 }

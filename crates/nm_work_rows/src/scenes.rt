@@ -1,4 +1,5 @@
-//! The rows: machines of 4 words a page with one page. Actor 0 is the processor, actor 1 the migrator, actor 2 the reclaimer.
+//! The rows of the work that moves a page faster, and what all rows have: machines of 4 words a page. Actor 0 is the processor,
+//! actor 1 the migrator, actor 2 the reclaimer.
 
 use crate::actions::{
     BUMP, CALM, CANDIDATE, CLEAR, END, ENDED, GRANT, HOME, LOAD, LOCK, OFF, PEEK, PENDING, POLL,
@@ -22,6 +23,8 @@ pub enum Machine {
     Aliased,
     /// The frames 0 and 1, then 2 and 3, and then 4 to 11; virtual page 0 maps the page.
     ThreeTiers,
+    /// The frames 0 to 3, and then 4 to 11; virtual page 0 maps the page, and virtual page 1 maps it read-only.
+    ReadOnly,
 }
 
 /// What is done in a row.
@@ -33,19 +36,19 @@ pub enum Deed {
     Works(u32, Work, &'static [&'static [Line]], u32, End),
 }
 
-/// A row: what is done, one after the other; then the home and the mark of the page; and of some frames the role, and of a
+/// A row: what is done, one after the other; then of some pages the home and the mark; and of some frames the role, and of a
 /// master the page and the shadow.
 #[derive(Clone, Copy)]
 pub struct Row {
     pub name: &'static str,
     pub machine: Machine,
     pub deeds: &'static [Deed],
-    pub page: (Option<u32>, u64),
+    pub pages: &'static [(u32, Option<u32>, u64)],
     pub frames: &'static [(u32, Role, Option<(u32, u32)>)],
 }
 
 /// The processor gives the page frame 2 of the second tier, with words 0, and maps virtual page 0 to it.
-const DEMANDED: Deed = Deed::Acts(&[
+pub(crate) const DEMANDED: Deed = Deed::Acts(&[
     done!(0, LOCK),
     word!(0, look!(0), 0),
     word!(0, HOME, 0),
@@ -63,7 +66,7 @@ const DEMANDED: Deed = Deed::Acts(&[
 ]);
 
 /// It reads the page through a translation that it acknowledges for.
-const READ: Deed = Deed::Acts(&[
+pub(crate) const READ: Deed = Deed::Acts(&[
     word!(0, POLL, 0),
     done!(0, SEEN),
     word!(0, CALM, 0x2007),
@@ -144,10 +147,10 @@ macro_rules! committed {
 const UNMARKED: &[Line] = &[Line::Gives(UNMARK, Reply::Lost(0)), does!(UNLOCK)];
 
 /// The frame 2 is put back.
-const BACK_2: &[Line] = &[does!(take!(1)), gets!(put!(2), 0x3fe), does!(release!(1))];
+pub(crate) const BACK_2: &[Line] = &[does!(take!(1)), gets!(put!(2), 0x3fe), does!(release!(1))];
 
 /// The page isn't marked, frame 0 has it, and the frame 2 is its shadow.
-const MASTER_0: &[(u32, Role, Option<(u32, u32)>)] = &[
+pub(crate) const MASTER_0: &[(u32, Role, Option<(u32, u32)>)] = &[
     (0, Role::Mapped, Some((0, 2))),
     (1, Role::Free, None),
     (2, Role::Shadow, None),
@@ -155,23 +158,23 @@ const MASTER_0: &[(u32, Role, Option<(u32, u32)>)] = &[
 ];
 
 /// Frame 0 has the page, and no frame is a shadow.
-const ALONE_0: &[(u32, Role, Option<(u32, u32)>)] = &[
+pub(crate) const ALONE_0: &[(u32, Role, Option<(u32, u32)>)] = &[
     (0, Role::Mapped, None),
     (1, Role::Free, None),
     (2, Role::Free, None),
 ];
 
 /// Frame 2 has the page, and no frame is a shadow.
-const ALONE_2: &[(u32, Role, Option<(u32, u32)>)] = &[
+pub(crate) const ALONE_2: &[(u32, Role, Option<(u32, u32)>)] = &[
     (0, Role::Free, None),
     (1, Role::Free, None),
     (2, Role::Mapped, None),
 ];
 
-const TRANSACTION: Work = Work::Transaction(0, 0);
+pub(crate) const TRANSACTION: Work = Work::Transaction(0, 0);
 
 /// A promotion that leaves a shadow.
-const COMMIT: &[Deed] = &[
+pub(crate) const COMMIT: &[Deed] = &[
     DEMANDED,
     READ,
     MARKED,
@@ -197,7 +200,7 @@ fn commit() -> Row {
         name: "commit",
         machine: Machine::Plain,
         deeds: COMMIT,
-        page: (Some(0), 0),
+        pages: &[(0, Some(0), 0)],
         frames: MASTER_0,
     }
 }
@@ -238,7 +241,7 @@ fn abort() -> Row {
         name: "abort",
         machine: Machine::Plain,
         deeds: ABORT,
-        page: (Some(2), 2),
+        pages: &[(0, Some(2), 2)],
         frames: ALONE_2,
     }
 }
@@ -271,7 +274,7 @@ fn dirty_cached_store() -> Row {
         name: "dirty cached store",
         machine: Machine::Plain,
         deeds: DIRTY_CACHED_STORE,
-        page: (Some(0), 0),
+        pages: &[(0, Some(0), 0)],
         frames: MASTER_0,
     }
 }
@@ -319,7 +322,7 @@ fn shadow_fault() -> Row {
         name: "shadow fault",
         machine: Machine::Plain,
         deeds: SHADOW_FAULT,
-        page: (Some(0), 0),
+        pages: &[(0, Some(0), 0)],
         frames: ALONE_0,
     }
 }
@@ -361,13 +364,13 @@ fn reclaim() -> Row {
         name: "reclaim",
         machine: Machine::Plain,
         deeds: RECLAIM,
-        page: (Some(0), 0),
+        pages: &[(0, Some(0), 0)],
         frames: ALONE_0,
     }
 }
 
 /// The virtual page 1 is mapped to the page too.
-const ALIASED: Deed = Deed::Acts(&[
+pub(crate) const ALIASED: Deed = Deed::Acts(&[
     done!(0, LOCK),
     word!(0, look!(1), 0),
     word!(0, HOME, 3),
@@ -470,7 +473,7 @@ fn locked_move() -> Row {
         name: "locked move",
         machine: Machine::Aliased,
         deeds: LOCKED_MOVE,
-        page: (Some(0), 0),
+        pages: &[(0, Some(0), 0)],
         frames: ALONE_0,
     }
 }
@@ -516,7 +519,7 @@ fn no_frame() -> Row {
         name: "no frame",
         machine: Machine::Plain,
         deeds: NO_FRAME,
-        page: (Some(2), 0),
+        pages: &[(0, Some(2), 0)],
         frames: &[
             (0, Role::Held, None),
             (1, Role::Free, None),
@@ -562,7 +565,7 @@ fn no_home() -> Row {
         name: "no home",
         machine: Machine::Plain,
         deeds: NO_HOME,
-        page: (None, 0),
+        pages: &[(0, None, 0)],
         frames: &[(0, Role::Free, None), (2, Role::Free, None)],
     }
 }
@@ -670,7 +673,7 @@ fn three_tiers() -> Row {
         name: "three tiers",
         machine: Machine::ThreeTiers,
         deeds: THREE_TIERS,
-        page: (Some(0), 0),
+        pages: &[(0, Some(0), 0)],
         frames: &[
             (0, Role::Mapped, Some((0, 2))),
             (1, Role::Free, None),
@@ -706,7 +709,7 @@ fn move_with_hint() -> Row {
         name: "move with hint",
         machine: Machine::ThreeTiers,
         deeds: MOVE_WITH_HINT,
-        page: (Some(2), 0),
+        pages: &[(0, Some(2), 0)],
         frames: &[
             (0, Role::Free, None),
             (2, Role::Mapped, None),
@@ -747,7 +750,7 @@ fn move_of_a_master() -> Row {
         name: "move of a master",
         machine: Machine::ThreeTiers,
         deeds: MOVE_OF_A_MASTER,
-        page: (Some(0), 0),
+        pages: &[(0, Some(0), 0)],
         frames: &[
             (0, Role::Mapped, None),
             (2, Role::Free, None),
@@ -772,3 +775,6 @@ pub fn rows() -> [Row; 11] {
         move_of_a_master(),
     ]
 }
+
+pub(crate) use copied;
+pub(crate) use flushed;

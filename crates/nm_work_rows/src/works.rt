@@ -10,16 +10,21 @@ use nm_action::Spent;
 use nm_base::Geometry;
 use nm_compose::Composite;
 use nm_core::State;
+use nm_demote_task::{DemoteEnd, DemoteTask};
 use nm_locked_task::{LockedEnd, LockedTask};
+use nm_missing_fault::MissingFault;
 use nm_reclaim::ReclaimTask;
 use nm_shadow_fault::{FaultEnd, FaultMade, ShadowFault};
 use nm_txn::{Txn, TxnEnd};
 use nm_view::ActorView;
+use std::alloc::{AllocError, Global};
 use std::process::Abort;
 
 /// A piece of work.
 #[derive(Clone, Copy, Debug)]
 pub enum Work {
+    /// The fault on a virtual page that is not mapped.
+    MissingFault(u32),
     /// The shadow fault of a virtual page.
     ShadowFault(u32),
     /// Reclaim of a tier: up to ten times so many shadows.
@@ -28,6 +33,8 @@ pub enum Work {
     Transaction(u32, u32),
     /// The locked move of a page with so many table words.
     LockedMove(u32, u32),
+    /// The demotion of a page.
+    Demotion(u32),
 }
 
 /// How it ends.
@@ -37,6 +44,7 @@ pub enum End {
     Freed(u32),
     Transaction(TxnEnd),
     LockedMove(LockedEnd),
+    Demotion(DemoteEnd),
 }
 
 /// What a view has drawn.
@@ -47,6 +55,26 @@ fn spent_by(view: &ActorView) -> Spent
         bumps: view.bumps,
         raises: view.raises,
     }
+}
+
+/// The fault on a virtual page that is not mapped. None where it may not begin, or no page is the virtual page's.
+fn missing_fault(
+    rt: &impl Abort,
+    g: &Geometry,
+    state: &mut State,
+    actor: u32,
+    vpage: u32,
+    lines: &[Line],
+) -> Option<(FaultEnd, u32)>
+    requires { IsReached g.now state.old }
+    ensures { IsReached g.now state.new }
+{
+    let page = g.backing(vpage)?;
+    if vpage as usize >= g.vpages.len() || page >= g.pages() || !is_free(g, state, actor) {
+        return None;
+    }
+    let mut part = Composite::new(MissingFault::new(g, FaultMade { vpage, page }));
+    Some(play(rt, g, state, actor, &mut part, lines))
 }
 
 /// The shadow fault of a virtual page. None where it may not begin, or the virtual page is not mapped.
@@ -136,17 +164,39 @@ fn locked_move(
     Some(play(rt, g, state, actor, part, lines))
 }
 
+/// The demotion of a page. None where it may not begin. The only error is want of memory.
+fn demotion(
+    rt: &impl Abort,
+    alloc: Global,
+    g: &Geometry,
+    state: &mut State,
+    actor: u32,
+    page: u32,
+    lines: &[Line],
+) -> Result<Option<(DemoteEnd, u32)>, AllocError>
+    requires { IsReached g.now state.old }
+    ensures { IsReached g.now state.new }
+{
+    if page >= g.pages() || !is_free(g, state, actor) {
+        return Ok(None);
+    }
+    let mut part = DemoteTask::new(alloc, g)?;
+    part.begin(spent_by(state.view(actor)), page);
+    Ok(Some(play(rt, g, state, actor, &mut part, lines)))
+}
+
 /// Runs a piece of work as the lines say, and then to its end: how it ends, and how many actions it made after the last line.
-/// None where it may not begin. The task is for locked moves.
+/// None where it may not begin. The task is for locked moves. The only error is want of memory.
 pub fn run(
     rt: &impl Abort,
+    alloc: Global,
     g: &Geometry,
     state: &mut State,
     task: &mut LockedTask<'_>,
     actor: u32,
     work: Work,
     lines: &[Line],
-) -> Option<(End, u32)>
+) -> Result<Option<(End, u32)>, AllocError>
     requires reached { IsReached g.now state.old }
     requires idle { IsIdle task.old }
     requires geometry { (locked_task_made task.old).0 ≡ g.now }
@@ -154,22 +204,32 @@ pub fn run(
     ensures idle { IsIdle task.new }
     ensures geometry { (locked_task_made task.new).0 ≡ g.now }
 {
-    match work {
-        Work::ShadowFault(vpage) => {
-            let (end, more) = shadow_fault(rt, g, state, actor, vpage, lines)?;
-            Some((End::Fault(end), more))
-        }
-        Work::Reclaim(tier, want) => {
-            let (freed, more) = reclaim(rt, g, state, actor, tier, want, lines)?;
-            Some((End::Freed(freed), more))
-        }
-        Work::Transaction(page, vpage) => {
-            let (end, more) = transaction(rt, g, state, actor, page, vpage, lines)?;
-            Some((End::Transaction(end), more))
-        }
+    let ended = match work {
+        Work::MissingFault(vpage) => missing_fault(rt, g, state, actor, vpage, lines).map(|(
+            end,
+            more,
+        )| (End::Fault(end), more)),
+        Work::ShadowFault(vpage) => shadow_fault(rt, g, state, actor, vpage, lines).map(|(
+            end,
+            more,
+        )| (End::Fault(end), more)),
+        Work::Reclaim(tier, want) => reclaim(rt, g, state, actor, tier, want, lines).map(|(
+            freed,
+            more,
+        )| (End::Freed(freed), more)),
+        Work::Transaction(page, vpage) => transaction(rt, g, state, actor, page, vpage, lines).map(
+            |(end, more)| (End::Transaction(end), more),
+        ),
         Work::LockedMove(page, count) => {
-            let (end, more) = locked_move(rt, g, state, actor, task, page, count, lines)?;
-            Some((End::LockedMove(end), more))
+            locked_move(rt, g, state, actor, task, page, count, lines).map(|(end, more)| (
+                End::LockedMove(end),
+                more,
+            ))
         }
-    }
+        Work::Demotion(page) => demotion(rt, alloc, g, state, actor, page, lines)?.map(|(
+            end,
+            more,
+        )| (End::Demotion(end), more)),
+    };
+    Ok(ended)
 }
