@@ -1,14 +1,19 @@
 -- States that runs reach, and what an actor does there.
-use Rattle.std.specs.Prelude.{◌≡◌, ◌≢◌, ℕ, List, [], None}
+use Rattle.std.specs.Prelude.{◌≡◌, ◌≢◌, ℕ, List, [], All, None}
 use Rattle.nm_base.specs.Geometry.{Geometry, IsGeometry}
+use Rattle.nm_base.specs.Ranges.{IsPage}
 use Rattle.nm_action.specs.declared.action.Action.{Action}
 use Rattle.nm_action.specs.declared.action.Reply.{Reply}
 use Rattle.nm_action.specs.declared.action.Event.{Event}
 use Rattle.nm_action.specs.Own.{Own}
 use Rattle.nm_view.specs.Opening.{IsActor}
+use Rattle.nm_view.specs.Lists.{Once}
 use Rattle.nm_view.specs.Views.{View}
 use Rattle.nm_core.specs.State.{State, view_of}
 use Rattle.nm_core.specs.Runs.{IsRun, state_after}
+use Rattle.nm_shadow_fault.specs.Granting.{MayFault}
+use Rattle.nm_fault.specs.Tasks.{fault_at}
+use Rattle.nm_batch.specs.Leaving.{asked_page}
 use Rattle.nm_actor_rows.specs.Following.{IsMade}
 
 -- some run of a machine leads to this state
@@ -30,6 +35,17 @@ pub record IsFree (g : Geometry) (actor : ℕ) (view : View) : Type 0 where
   pub exists : IsActor g actor
   pub none : view.ops ≡ []
   pub turn : view.turn ≡ None
+
+-- a fault on this virtual page may begin: it is mapped to a page
+pub record IsFaulting (g : Geometry) (actor vpage : ℕ) (view : View) : Type 0 where
+  pub free : IsFree g actor view
+  pub may : MayFault (record { 0 = g; 1 = fault_at g vpage }) g view
+
+-- a batch of these pieces may begin: their pages are there, and none stands twice
+pub record ArePieces (g : Geometry) (actor : ℕ) (pieces : List (ℕ × ℕ)) (view : View) : Type 0 where
+  pub free : IsFree g actor view
+  pub pages : All (λ p. IsPage g (asked_page p)) pieces
+  pub once : Once asked_page pieces
 
 -- a part is over with this outcome, and in the state in which it ends
 pub record IsOver {O : Type 0} (ended : Own → O → Type 0) (outcome : O) : Type 0 where

@@ -10,8 +10,8 @@ use crate::scenes::{ALIASED, ALONE_2, DEMANDED, Deed, Machine, Row, TRANSACTION,
 use crate::works::{End, Work};
 use nm_action::{Action, Cell, Event, Reply};
 use nm_demote_task::DemoteEnd;
+use nm_fault::FaultEnd;
 use nm_locked_task::LockedEnd;
-use nm_shadow_fault::FaultEnd;
 use nm_txn::TxnEnd;
 
 const DEMOTION: Work = Work::Demotion(0);

@@ -7,7 +7,7 @@ use crate::driver::Line;
 use crate::scenes::{ALONE_0, ALONE_2, Deed, MASTER_0, Machine, Row, TRANSACTION};
 use crate::works::{End, Work};
 use nm_action::{Action, Cell, Reply};
-use nm_shadow_fault::FaultEnd;
+use nm_fault::FaultEnd;
 use nm_txn::TxnEnd;
 
 /// A frame gets the words 0.

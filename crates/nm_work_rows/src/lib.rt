@@ -4,6 +4,8 @@
 #[cfg(test)]
 mod actions;
 #[cfg(test)]
+mod batches;
+#[cfg(test)]
 mod demotions;
 #[cfg(test)]
 mod driver;

@@ -5,6 +5,7 @@ ghost use Rattle.nm_base.specs.Geometry.{IsGeometry};
 ghost use Rattle.nm_locked_task.specs.Tasks.{locked_task_made, IsIdle};
 ghost use Rattle.nm_work_rows.specs.Reached.{IsReached};
 
+use crate::batches::batches;
 use crate::demotions::demotions;
 use crate::driver::{Line, act};
 use crate::faults::faults;
@@ -22,6 +23,16 @@ const PAGE: Option<VPage> = Some(VPage {
     writable: true,
 });
 
+const PAGE_1: Option<VPage> = Some(VPage {
+    page: 1,
+    writable: true,
+});
+
+const PAGE_2: Option<VPage> = Some(VPage {
+    page: 2,
+    writable: true,
+});
+
 const READ_ONLY: Option<VPage> = Some(VPage {
     page: 0,
     writable: false,
@@ -35,6 +46,7 @@ fn geometry(alloc: Global, machine: Machine) -> Result<Geometry, Fail>
         Machine::Plain => Geometry::new(alloc, 4, &[2, 10], 1, &[PAGE])?,
         Machine::Aliased => Geometry::new(alloc, 4, &[2, 10], 1, &[PAGE, PAGE])?,
         Machine::ThreeTiers => Geometry::new(alloc, 4, &[2, 2, 8], 1, &[PAGE])?,
+        Machine::ThreePages => Geometry::new(alloc, 4, &[3, 11], 1, &[PAGE, PAGE_1, PAGE_2])?,
         Machine::ReadOnly => Geometry::new(alloc, 4, &[4, 8], 1, &[PAGE, READ_ONLY])?,
     };
     Ok(g)
@@ -146,5 +158,11 @@ fn each_demotion_comes_out(rt: HostRuntime) -> Result<(), Fail> {
 #[test]
 fn each_fault_comes_out(rt: HostRuntime) -> Result<(), Fail> {
     come_out(&rt, rt.alloc(), &faults())?;
+    Ok(())
+}
+
+#[test]
+fn each_batch_comes_out(rt: HostRuntime) -> Result<(), Fail> {
+    come_out(&rt, rt.alloc(), &batches())?;
     Ok(())
 }

@@ -10,8 +10,8 @@ use crate::driver::Line;
 use crate::works::{End, Work};
 use nm_action::{Action, Cell, Event, Reply};
 use nm_core::Role;
+use nm_fault::FaultEnd;
 use nm_locked_task::LockedEnd;
-use nm_shadow_fault::FaultEnd;
 use nm_txn::TxnEnd;
 
 /// The machines of rows.
@@ -25,6 +25,8 @@ pub enum Machine {
     ThreeTiers,
     /// The frames 0 to 3, and then 4 to 11; virtual page 0 maps the page, and virtual page 1 maps it read-only.
     ReadOnly,
+    /// The frames 0 to 2, and then 3 to 13; each of the virtual pages 0 to 2 maps the page of its number.
+    ThreePages,
 }
 
 /// What is done in a row.

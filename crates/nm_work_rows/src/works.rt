@@ -1,20 +1,21 @@
 //! The pieces of work that rows begin, each with its part.
 
-ghost use Rattle.std.specs.Prelude.{◌≡◌};
+ghost use Rattle.std.specs.Prelude.{◌≡◌, [], ◌∷◌, length, IsTrue, IfSome};
 ghost use Rattle.nm_prepare.specs.Ready.{spent_by};
 ghost use Rattle.nm_locked_task.specs.Tasks.{locked_task_made, IsIdle};
-ghost use Rattle.nm_work_rows.specs.Reached.{IsReached};
+ghost use Rattle.nm_core.specs.State.{view_of};
+ghost use Rattle.nm_work_rows.specs.Reached.{IsReached, IsFaulting, ArePieces};
 
 use crate::driver::{Line, is_free, play};
 use nm_action::Spent;
 use nm_base::Geometry;
+use nm_batch::BatchTask;
 use nm_compose::Composite;
 use nm_core::State;
 use nm_demote_task::{DemoteEnd, DemoteTask};
+use nm_fault::{FaultEnd, FaultTask};
 use nm_locked_task::{LockedEnd, LockedTask};
-use nm_missing_fault::MissingFault;
 use nm_reclaim::ReclaimTask;
-use nm_shadow_fault::{FaultEnd, FaultMade, ShadowFault};
 use nm_txn::{Txn, TxnEnd};
 use nm_view::ActorView;
 use std::alloc::{AllocError, Global};
@@ -35,6 +36,8 @@ pub enum Work {
     LockedMove(u32, u32),
     /// The demotion of a page.
     Demotion(u32),
+    /// The batch of three pages, each with a virtual page.
+    Batch([(u32, u32); 3]),
 }
 
 /// How it ends.
@@ -45,6 +48,7 @@ pub enum End {
     Transaction(TxnEnd),
     LockedMove(LockedEnd),
     Demotion(DemoteEnd),
+    Batch([TxnEnd; 3]),
 }
 
 /// What a view has drawn.
@@ -55,6 +59,17 @@ fn spent_by(view: &ActorView) -> Spent
         bumps: view.bumps,
         raises: view.raises,
     }
+}
+
+/// Whether an actor may begin a fault on a virtual page: it is mapped to a page, and the actor may begin work.
+fn is_faulting(g: &Geometry, state: &State, actor: u32, vpage: u32) -> bool
+    requires { IsReached g.now state.now }
+    ensures { IsTrue result → IsFaulting g.now actor vpage (view_of state.now actor) }
+{
+    let Some(page) = g.backing(vpage) else {
+        return false;
+    };
+    (vpage as usize) < g.vpages.len() && page < g.pages() && is_free(g, state, actor)
 }
 
 /// The fault on a virtual page that is not mapped. None where it may not begin, or no page is the virtual page's.
@@ -69,11 +84,11 @@ fn missing_fault(
     requires { IsReached g.now state.old }
     ensures { IsReached g.now state.new }
 {
-    let page = g.backing(vpage)?;
-    if vpage as usize >= g.vpages.len() || page >= g.pages() || !is_free(g, state, actor) {
+    if !is_faulting(g, state, actor, vpage) {
         return None;
     }
-    let mut part = Composite::new(MissingFault::new(g, FaultMade { vpage, page }));
+    let mut part = FaultTask::new(g);
+    part.begin_missing(vpage);
     Some(play(rt, g, state, actor, &mut part, lines))
 }
 
@@ -89,11 +104,11 @@ fn shadow_fault(
     requires { IsReached g.now state.old }
     ensures { IsReached g.now state.new }
 {
-    let page = g.backing(vpage)?;
-    if vpage as usize >= g.vpages.len() || page >= g.pages() || !is_free(g, state, actor) {
+    if !is_faulting(g, state, actor, vpage) {
         return None;
     }
-    let mut part = Composite::new(ShadowFault::new(g, FaultMade { vpage, page }));
+    let mut part = FaultTask::new(g);
+    part.begin_shadow(vpage);
     Some(play(rt, g, state, actor, &mut part, lines))
 }
 
@@ -185,6 +200,51 @@ fn demotion(
     Ok(Some(play(rt, g, state, actor, &mut part, lines)))
 }
 
+/// Whether an actor may begin a batch of these pieces: their pages are there and differ, and the actor may begin work.
+fn are_pieces(g: &Geometry, state: &State, actor: u32, pieces: [(u32, u32); 3]) -> bool
+    requires { IsReached g.now state.now }
+    ensures { IsTrue result → ArePieces g.now actor pieces (view_of state.now actor) }
+{
+    let [(a, _), (b, _), (c, _)] = pieces;
+    let there = a < g.pages() && b < g.pages() && c < g.pages();
+    there && a != b && a != c && b != c && is_free(g, state, actor)
+}
+
+/// How the piece at this place of a batch that is over has ended.
+fn end_at(rt: &impl Abort, part: &BatchTask<'_>, count: u32, i: u32) -> TxnEnd
+    requires { count ≡ length part.now.ends.value }
+{
+    assert!(rt; i < count, "piece {i}");
+    part.end_of(i)
+}
+
+/// The batch of three pieces. None where it may not begin. The only error is want of memory.
+fn batch(
+    rt: &impl Abort,
+    alloc: Global,
+    g: &Geometry,
+    state: &mut State,
+    actor: u32,
+    pieces: [(u32, u32); 3],
+    lines: &[Line],
+) -> Result<Option<([TxnEnd; 3], u32)>, AllocError>
+    requires { IsReached g.now state.old }
+    ensures { IsReached g.now state.new }
+{
+    if !are_pieces(g, state, actor, pieces) {
+        return Ok(None);
+    }
+    let mut part = BatchTask::new(alloc, g)?;
+    part.begin(spent_by(state.view(actor)), &pieces);
+    let (count, more) = play(rt, g, state, actor, &mut part, lines);
+    let ends = [
+        end_at(rt, &part, count, 0),
+        end_at(rt, &part, count, 1),
+        end_at(rt, &part, count, 2),
+    ];
+    Ok(Some((ends, more)))
+}
+
 /// Runs a piece of work as the lines say, and then to its end: how it ends, and how many actions it made after the last line.
 /// None where it may not begin. The task is for locked moves. The only error is want of memory.
 pub fn run(
@@ -230,6 +290,10 @@ pub fn run(
             end,
             more,
         )| (End::Demotion(end), more)),
+        Work::Batch(pieces) => batch(rt, alloc, g, state, actor, pieces, lines)?.map(|(
+            ends,
+            more,
+        )| (End::Batch(ends), more)),
     };
     Ok(ended)
 }
