@@ -1,0 +1,4 @@
+pub mod Owns
+pub mod Steps
+pub mod Marked
+pub mod EachRun
