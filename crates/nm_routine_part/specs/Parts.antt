@@ -1,5 +1,5 @@
 -- An actor's part of the turns of a run, said without the actor: which turns they are, and what is counted of them.
-use Rattle.std.specs.Prelude.{◌≡◌, ◌++◌, Bool, true, false, Option, Some, None}
+use Rattle.std.specs.Prelude.{◌≡◌, ◌++◌, Bool, true, false, Option, Some}
 use Rattle.nm_action.specs.declared.tally.Tally.{Tally}
 use Rattle.nm_action.specs.declared.turn.Turn.{Turn}
 use Rattle.nm_action.specs.declared.turn.Turn.TheVariants as turn
