@@ -47,6 +47,12 @@ IsStageOf g (Inspecting visit) = IsVisit g visit
 IsStageOf g (Demoting visit) = IsVisit g visit
 IsStageOf g Over = Unit {0}
 
+-- a stage that runs a piece of work
+abbrev pub IsRunning : Stage → Type 0
+IsRunning New = ⊥
+IsRunning Over = ⊥
+IsRunning stage = Unit {0}
+
 -- the list for taken words is there, where no demotion has it
 abbrev pub HasWords : Stage → Option (List (ℕ × ℕ)) → Type 0
 HasWords (Demoting visit) taken = Unit {0}
