@@ -1,0 +1,4 @@
+pub mod Ends
+pub mod Planned
+pub mod Migrating
+pub mod Stages
