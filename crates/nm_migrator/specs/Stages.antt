@@ -206,23 +206,25 @@ comes_at m Over n = NothingLeft
 
 -- What is known.
 
--- the geometry is one, there is a count of aborts for each page
-pub record HasCounts (m : Migrating) : Type 0 where
-  pub geometry : IsGeometry m.geometry.now
-  pub counts : length m.aborts.items ≡ page_count m.geometry.now
+-- the geometry is one, and there is a count of aborts for each page
+pub record HasCounts (g : Geometry) (aborts : List ℕ) : Type 0 where
+  pub geometry : IsGeometry g
+  pub counts : length aborts ≡ page_count g
 
 -- and the list for taken words is here
-pub record IsKept (m : Migrating) : Type 0 where
-  pub has : HasCounts m
-  pub words : HoldsWords m.words
+pub record IsKeptIn (g : Geometry) (aborts : List ℕ) (words : Option (List (ℕ × ℕ))) : Type 0 where
+  pub has : HasCounts g aborts
+  pub words : HoldsWords words
+
+abbrev pub IsKept : Migrating → Type 0
+IsKept m = IsKeptIn m.geometry.now m.aborts.items m.words
 
 -- a virtual page is mapped to it
 abbrev pub IsMappedPage : Geometry → ℕ → Type 0
 IsMappedPage g page = vpages_of g page ≢ []
 
-pub record IsCandidate (m : Migrating) (page : ℕ) : Type 0 where
-  pub kept : IsKept m
-  pub page_mapped : IsMappedPage m.geometry.now page
+abbrev pub IsCandidate : Migrating → ℕ → Type 0
+IsCandidate m page = IsKept m × IsMappedPage m.geometry.now page
 
 -- these pages were taken: no more than eight, virtual pages are mapped to them, and none stands twice
 pub record AreTaken (g : Geometry) (pages : List ℕ) : Type 0 where
@@ -230,14 +232,12 @@ pub record AreTaken (g : Geometry) (pages : List ℕ) : Type 0 where
   pub mapped : All (IsMappedPage g) pages
   pub once : Once itself pages
 
-pub record HasTaken (m : Migrating) : Type 0 where
-  pub kept : IsKept m
-  pub taken : AreTaken m.geometry.now m.taken
+abbrev pub HasTaken : Migrating → Type 0
+HasTaken m = IsKept m × AreTaken m.geometry.now m.taken
 
 -- and there is room for one more
-pub record IsTaking (m : Migrating) : Type 0 where
-  pub has : HasTaken m
-  pub room : length m.taken < most_taken
+abbrev pub IsTaking : Migrating → Type 0
+IsTaking m = HasTaken m × (length m.taken < most_taken)
 
 -- a page that is to be moved while it is locked
 pub record IsMove (g : Geometry) (move : ℕ × ℕ) : Type 0 where
@@ -254,38 +254,30 @@ pub record IsPlanWith (g : Geometry) (plan : Plan) (rest : List ℕ) : Type 0 wh
   pub apart : All (λ page. find first page plan.pieces ≡ None) rest
   pub single : Once itself rest
 
-pub record HasPlan (m : Migrating) (index : ℕ) : Type 0 where
-  pub kept : IsKept m
-  pub plan : IsPlanWith m.geometry.now (plan_of m) (drop index m.taken)
+abbrev pub HasPlan : Migrating → ℕ → Type 0
+HasPlan m index = IsKept m × IsPlanWith m.geometry.now (plan_of m) (drop index m.taken)
 
-pub record IsPlanning (m : Migrating) (index page : ℕ) : Type 0 where
-  pub has : HasPlan m index
-  pub next : drop index m.taken ≡ page ∷ drop (index + 1) m.taken
+abbrev pub IsPlanning : Migrating → ℕ → ℕ → Type 0
+IsPlanning m index page = HasPlan m index × (drop index m.taken ≡ page ∷ drop (index + 1) m.taken)
 
 -- all pages were looked at
-pub record HasPlanned (m : Migrating) : Type 0 where
-  pub kept : IsKept m
-  pub plan : IsPlanWith m.geometry.now (plan_of m) []
+abbrev pub HasPlanned : Migrating → Type 0
+HasPlanned m = IsKept m × IsPlanWith m.geometry.now (plan_of m) []
 
--- there is a piece
-pub record IsBatching (m : Migrating) : Type 0 where
-  pub has : HasPlanned m
-  pub some : m.pieces ≢ []
+-- and there is a piece
+abbrev pub IsBatching : Migrating → Type 0
+IsBatching m = HasPlanned m × (m.pieces ≢ [])
 
 -- pages are to be moved while they are locked
-pub record HasMoves (m : Migrating) : Type 0 where
-  pub kept : IsKept m
-  pub moves : All (IsMove m.geometry.now) m.moves
+abbrev pub HasMoves : Migrating → Type 0
+HasMoves m = IsKept m × All (IsMove m.geometry.now) m.moves
 
 -- a page is moved: its move has the list for taken words
-pub record IsMoving (m : Migrating) (page count : ℕ) : Type 0 where
-  pub has : HasCounts m
-  pub moves : All (IsMove m.geometry.now) m.moves
-  pub move : IsMove m.geometry.now (page, count)
+abbrev pub IsMoving : Migrating → ℕ → ℕ → Type 0
+IsMoving m page count = HasCounts m.geometry.now m.aborts.items × All (IsMove m.geometry.now) m.moves × IsMove m.geometry.now (page, count)
 
-pub record IsUnmarking (m : Migrating) (page : ℕ) : Type 0 where
-  pub kept : IsKept m
-  pub range : IsPage m.geometry.now page
+abbrev pub IsUnmarking : Migrating → ℕ → Type 0
+IsUnmarking m page = IsKept m × IsPage m.geometry.now page
 
 -- what is known at a stage, of what is kept
 abbrev pub KnownAt : Migrating → MigratingStage → Type 0

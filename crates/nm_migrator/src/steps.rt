@@ -310,7 +310,7 @@ impl<'a> Migrating<'a> {
         page: u32,
         end: MigratorEnd,
     ) -> Task<MigratorPiece<'a>>
-        requires has { HasCounts self.old }
+        requires has { HasCounts self.old.geometry.now self.old.aborts.items }
         requires moves { All (IsMove self.old.geometry.now) self.old.moves }
         requires words { HoldsWords (words_in end) }
         ensures made { migrating_made self.new ≡ migrating_made self.old }

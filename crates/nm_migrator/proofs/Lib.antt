@@ -1,0 +1,5 @@
+pub mod Looping
+pub mod Ending
+pub mod Coming
+pub mod Giving
+pub mod Resting
