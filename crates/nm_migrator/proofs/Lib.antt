@@ -3,3 +3,5 @@ pub mod Ending
 pub mod Coming
 pub mod Giving
 pub mod Resting
+pub mod Planning
+pub mod Fitting

@@ -2,3 +2,4 @@ pub mod Ends
 pub mod Planned
 pub mod Migrating
 pub mod Stages
+pub mod Parts

@@ -1,7 +1,6 @@
 //! The migrator as a routine: which task comes after which.
 
 ghost use Rattle.std.specs.Prelude.{◌≡◌, IfOk, None};
-ghost use Rattle.nm_base.specs.Geometry.{IsGeometry};
 ghost use Rattle.nm_transfer.specs.Stages.{HoldsWords};
 ghost use Rattle.nm_worker.specs.Routines.{task_data};
 ghost use Rattle.nm_migrator_work.specs.Works.{work_made};
@@ -104,10 +103,11 @@ impl<'a> Migrating<'a> {
         g: &'a Geometry,
         retry: Option<u32>,
     ) -> Result<Migrating<'a>, AllocError>
-        requires { IsGeometry g.now }
-        ensures made { IfOk result (λ m. migrating_made m ≡ record { 0 = g.entry.now; 1 = retry }) }
+        ensures made { IfOk result (λ m. migrating_made m ≡ record { 0 = g.now; 1 = retry }) }
         ensures new { IfOk result (λ m. IsNewMigrating m) }
     {
+        // What a geometry keeps is part of the reasons.
+        prove!(g.cpus <= 16);
         let aborts = vec![in alloc; 0; g.pages() as usize]?;
         Ok(Migrating {
             geometry: g,
