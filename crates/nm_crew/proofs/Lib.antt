@@ -1,0 +1,4 @@
+pub mod Ends
+pub mod Simulating
+pub mod Tallies
+pub mod Crewing
