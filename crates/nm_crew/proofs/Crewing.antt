@@ -1,14 +1,22 @@
 -- What the actors of a crew agree with at the end of a run, and that they may start.
-use Rattle.std.proofs.Common.{◌≡◌, ◌<◌, ◌+◌, ℕ, zero, suc, List, [], ◌∷◌, length, get_or, Option, Some, None, refl, sym, subst, arith}
-use Rattle.nm_base.specs.Geometry.{Geometry}
+use Rattle.std.proofs.Common.{◌≡◌, ◌<◌, ◌+◌, ℕ, zero, suc, List, [], ◌∷◌, length, map, get_or, Option, Some, None, refl, sym, ap, subst, ◌∙◌, arith}
+use Rattle.std.proofs.lemmas.List.{length-map}
+use Rattle.nm_base.specs.Geometry.{Geometry, IsGeometry}
+use Rattle.nm_action.specs.declared.action.Event.{Event}
 use Rattle.nm_action.specs.declared.turn.Turn.TheVariants.{End}
 use Rattle.nm_view.specs.Opening.{IsActor}
+use Rattle.nm_core.specs.State.{State}
+use Rattle.nm_core.specs.EndWords.{EndWords, IsEndOf}
+use Rattle.nm_script.specs.declared.schedule.Schedule.{Schedule}
+use Rattle.nm_script.specs.Script.{IsSchedule}
 use Rattle.nm_schedule.specs.declared.turn.Played.{Played}
+use Rattle.nm_schedule.specs.declared.turn.SimTurn.{SimTurn}
 use Rattle.nm_schedule.specs.Played.{turns_by}
 use Rattle.nm_play.specs.Crews.{AtActor}
-use Rattle.nm_play.specs.Played.{HasPlayed}
-use Rattle.nm_play.proofs.Members.{Kind, Says, machine_of, Agrees, at-cpu, at-migrator, at-reclaimer, at-each, at-never}
-use Rattle.nm_crew.specs.Crewed.{Each, IsAgreedAt}
+use Rattle.nm_play.specs.Played.{HasPlayed, IsRunOf}
+use Rattle.nm_play.proofs.Members.{Kind, Says, machine_of, Agrees, at-cpu, at-migrator, at-reclaimer, at-never}
+use Rattle.nm_crew.specs.Crewed.{Each, IsAgreedAt, IsCrewRun}
+use Rattle.nm_crew.proofs.Simulating.{simulated-of}
 
 -- ---- at the beginning
 
@@ -84,3 +92,21 @@ reclaimer-played kc km kr g played cpus m r many all =
       agreed = (at-reclaimer (λ c. Says kc c machine actor turns (Some h.last)) (Says km m machine actor turns (Some h.last)) (Says kr r machine actor turns (Some h.last)) cpus actor behind h.given.next.agreed).agreed;
       given = h.given.ended;
     }
+
+-- a crew that was made as another has as many processors
+pub as-many : {C CMade : Type 0} (made : C → CMade) (before after : List C) (n : ℕ) → map made after ≡ map made before → length before ≡ n → length after ≡ n
+as-many made before after n same many = sym (length-map after made) ∙ ap length same ∙ length-map before made ∙ many
+
+-- the run of a crew
+pub crew-run : {C CMade M MMade R RMade : Type 0} (kc : Kind C CMade) (km : Kind M MMade) (kr : Kind R RMade) (g : Geometry) (schedule : Schedule) (cpus : List C) (m : M) (r : R) (state : State) (events : List Event) (order : List SimTurn) (turns : ℕ) (end : EndWords)
+    → length cpus ≡ g.cpus → IsGeometry g → IsSchedule g.cpus schedule → (run : IsRunOf g schedule (Agrees kc km kr cpus m r) state events order)
+    → turns ≡ length order → IsEndOf state end
+    → IsCrewRun kc.agrees (km.agrees m) (kr.agrees r) g schedule cpus events order turns end
+crew-run kc km kr g schedule cpus m r state events order turns end many is says run are-many ends = record {
+  played = run.played;
+  simulated = simulated-of g schedule state events order turns end run.played is run.scheduled run.listed run.ordered run.run run.reached are-many ends;
+  many = many;
+  each = each-played kc km kr g run.played cpus m r many run.actors;
+  migrator = migrator-played kc km kr g run.played cpus m r many run.actors;
+  reclaimer = reclaimer-played kc km kr g run.played cpus m r many run.actors;
+}

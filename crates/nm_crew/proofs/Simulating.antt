@@ -71,9 +71,9 @@ tier-at g events end tier is run machine ends room lt =
 -- ---- the run
 
 pub simulated-of : (g : Geometry) (schedule : Schedule) (state : State) (events : List Event) (order : List SimTurn) (turns : ℕ) (end : EndWords) (played : List Played)
-    → IsGeometry g → frame_count g ≤ 4096 → IsScheduled g schedule played → events ≡ events_of played → order ≡ order_of played → IsRun g events → state ≡ state_after g events → turns ≡ length order → IsEndOf state end
+    → IsGeometry g → IsScheduled g schedule played → events ≡ events_of played → order ≡ order_of played → IsRun g events → state ≡ state_after g events → turns ≡ length order → IsEndOf state end
     → IsSimulated g schedule events order turns end played
-simulated-of g schedule state events order turns end played is few scheduled listed ordered run reached many ends =
+simulated-of g schedule state events order turns end played is scheduled listed ordered run reached many ends =
     let s : State = state_after g events in
     let lawful = lawful_run g events is run in
     let End : State → Type 0 = λ t. IsEndOf t end in
@@ -91,6 +91,6 @@ simulated-of g schedule state events order turns end played is few scheduled lis
       facts = facts-at g events is run;
       ends = at-end;
       room = room;
-      names = subst Names lawful.machine (names-of s end lawful.kept at-end (subst Few (sym lawful.machine) few));
+      names = subst Names lawful.machine (names-of s end lawful.kept at-end (subst Few (sym lawful.machine) is.ranges.1.0.1.1.1));
       tiers = λ tier lt. tier-at g events end tier is run lawful.machine at-end room lt;
     }
