@@ -1,5 +1,5 @@
 -- The form has the numbers that the fields say.
-use Rattle.std.proofs.Common.{◌≡◌, Some, ℕ, rules, cc}
+use Rattle.std.proofs.Common.{◌≡◌, Some, ℕ, rules}
 use Rattle.nm_command.specs.declared.form.Form.TheVariants.{Drill}
 use Rattle.nm_command.proofs.Forms.{form_is}
 use Rattle.nm_command.proofs.form.drill_form.Goals as goal
