@@ -6,7 +6,6 @@ mod drill;
 mod facts;
 mod generated;
 mod importing;
-
 mod sim;
 pub mod status;
 mod writing;
