@@ -7,8 +7,8 @@ ghost use Rattle.nm_report.specs.Summary.{HasNoAwait};
 ghost use Rattle.nm_top.specs.Answer.{IsDrillCall};
 ghost use Rattle.nm_top.specs.Output.{IsSummary};
 
-use crate::generated::generated_script;
 use crate::facts::the_facts_hold_of_each_simulation;
+use crate::generated::generated_script;
 use crate::status::Status;
 use crate::writing::write_text;
 use nm_io::Sink;

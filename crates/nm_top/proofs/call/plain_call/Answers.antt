@@ -153,4 +153,3 @@ pub returns-in-Some-Import-clause-unread : goal.returns-in-Some-Import-clause-un
 returns-in-Some-Import-clause-unread g c = λ other none.
     let is : c.in-Ok.form ≡ Some (Import c.in-Some-Import.fast c.in-Some-Import.slow) = search rules in
     absurd (none c.in-Some-Import.fast c.in-Some-Import.slow ((c.in-Ok.ensures.imported c.in-Some-Import.fast c.in-Some-Import.slow).0 is))
-
