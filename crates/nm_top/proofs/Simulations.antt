@@ -1,0 +1,30 @@
+-- What is true of each run of a script.
+use Rattle.std.proofs.Common.{◌≡◌, ℕ, ◌<◌, List, ◌++◌, refl, sym, subst, append-nil}
+use Rattle.nm_action.specs.declared.action.Event.{Event}
+use Rattle.nm_core.specs.Runs.{state_after}
+use Rattle.nm_script.specs.Plain.{Script}
+use Rattle.nm_script.specs.Script.{IsScript}
+use Rattle.nm_laws.specs.Facts.{HoldsOfRun}
+use Rattle.nm_sched.specs.Plain.{SimRun}
+use Rattle.nm_sched.specs.Runs.{IsRunOfScript}
+use Rattle.nm_schedule.specs.Played.{has_ended}
+use Rattle.nm_top.specs.Output.{HoldsAtStep, HoldsOfSimulation}
+use Rattle.nm_top.proofs.Processors.{accesses-below}
+
+-- the facts of the events up to a step
+at_step : (s : Script) (front : List Event) → HoldsOfRun s.geometry front → HoldsAtStep s front
+at_step s front h = record { shadows = h.shadows; roles = h.roles; held = h.held }
+
+pub HoldsOfSimulation-run : (s : Script) (run : SimRun) → IsScript s → IsRunOfScript s run → HoldsOfSimulation s run
+HoldsOfSimulation-run s run is made =
+    let g = s.geometry in
+    let whole : HoldsOfRun g run.events = made.simulated.facts run.events [] (sym (append-nil run.events)) in
+    record {
+      own = λ cpu there. record { ended = has_ended made.played cpu; follows = (made.cpus cpu there).follows };
+      others = accesses-below g run.events is.geometry made.simulated.run;
+      legal = whole.legal;
+      transactions = whole.transactions;
+      steps = λ front rest list. at_step s front (made.simulated.facts front rest list);
+      tiers = made.simulated.tiers;
+      settled = made.simulated.ends.settled;
+    }
