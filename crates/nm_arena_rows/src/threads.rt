@@ -106,5 +106,6 @@ fn two_threads_draw_numbers(rt: HostRuntime) -> Result<(), Fail> {
         two: two.seat,
     };
     let end = close(&rt, rt.alloc(), &g, ended)?;
-    ends_as(&rt, rt.alloc(), &g, &end, &state)
+    assert!(rt; ends_as(rt.alloc(), &g, &end, &state)?);
+    Ok(())
 }

@@ -64,11 +64,11 @@ pub fn follow(rt: &impl Abort, alloc: Global, events: &[Event]) -> Result<RunEnd
     Ok(run_list(state, events))
 }
 
-/// The number of the first event of a list that is no step, if there is one.
-pub fn failure(rt: &impl Abort, alloc: Global, events: &[Event]) -> Result<Option<u32>, Fail> {
+/// The place of the first event of a list that is no step, if there is one.
+pub fn failure(rt: &impl Abort, alloc: Global, events: &[Event]) -> Result<Option<usize>, Fail> {
     match follow(rt, alloc, events)? {
         RunEnd::Whole(_) => Ok(None),
-        RunEnd::Fails(number) => Ok(Some(number)),
+        RunEnd::Fails(number) => Ok(Some(number as usize)),
     }
 }
 
@@ -92,15 +92,14 @@ fn make(law: Law, state: &mut State, event: &Event) -> Option<Reply> {
     })
 }
 
-/// Makes the steps of a list under a law, and asserts each reply.
-pub fn run(rt: &impl Abort, law: Law, state: &mut State, events: &[Event]) {
+/// Makes the steps of a list under a law, up to the first whose reply is another: whether there is none.
+pub fn run(law: Law, state: &mut State, events: &[Event]) -> bool {
     for event in events {
-        assert_eq!(rt;
-            make(law, state, event),
-            Some(event.reply),
-            "{law:?} {event:?}"
-        );
+        if make(law, state, event) != Some(event.reply) {
+            return false;
+        }
     }
+    true
 }
 
 /// Whether the end words have room for those of a state.
@@ -121,11 +120,11 @@ pub fn ending(rt: &impl Abort, alloc: Global, state: &State) -> Result<EndWords,
     Ok(end)
 }
 
-/// Asserts that two states end alike.
-pub fn end_alike(rt: &impl Abort, one: &EndWords, other: &EndWords) {
-    assert_eq!(rt; one.homes.as_slice(), other.homes.as_slice());
-    assert_eq!(rt; one.shadows.as_slice(), other.shadows.as_slice());
-    assert_eq!(rt; one.marks.as_slice(), other.marks.as_slice());
-    assert_eq!(rt; one.roles.as_slice(), other.roles.as_slice());
-    assert_eq!(rt; one.settled, other.settled);
+/// Whether two states end alike.
+pub fn end_alike(one: &EndWords, other: &EndWords) -> bool {
+    one.homes == other.homes
+        && one.shadows == other.shadows
+        && one.marks == other.marks
+        && one.roles == other.roles
+        && one.settled == other.settled
 }

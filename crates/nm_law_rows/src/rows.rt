@@ -40,12 +40,8 @@ fn refuses(rt: &impl Abort, alloc: Global, front: &[Event], refused: &[Event]) -
             list.push(*made)?;
         }
         list.push(*event)?;
-        let place = front.len();
-        assert_eq!(rt;
-            failure(rt, alloc, &list)?.map(|i| i as usize),
-            Some(place),
-            "{event:?}"
-        );
+        let told = failure(rt, alloc, &list)?;
+        assert!(rt; told == Some(front.len()), "{event:?}");
     }
     Ok(())
 }
@@ -54,11 +50,8 @@ fn refuses(rt: &impl Abort, alloc: Global, front: &[Event], refused: &[Event]) -
 fn each_front_is_a_run(rt: HostRuntime) -> Result<(), Fail> {
     let events = joined(rt.alloc(), &stretches())?;
     for length in 0..=events.len() {
-        assert_eq!(rt;
-            failure(&rt, rt.alloc(), &events[..length])?,
-            None,
-            "{length}"
-        );
+        let told = failure(&rt, rt.alloc(), &events[..length])?;
+        assert!(rt; told.is_none(), "{length}");
     }
     Ok(())
 }
@@ -79,7 +72,7 @@ fn another_reply_is_told(rt: HostRuntime) -> Result<(), Fail> {
     for place in 0..events.len() {
         let list = with_other_reply(rt.alloc(), &events, place)?;
         let told = failure(&rt, rt.alloc(), &list)?;
-        assert_eq!(rt; told.map(|i| i as usize), Some(place));
+        assert!(rt; told == Some(place), "{place}");
     }
     Ok(())
 }
@@ -91,7 +84,7 @@ fn the_first_of_two_is_told(rt: HostRuntime) -> Result<(), Fail> {
         let one = with_other_reply(rt.alloc(), &events, place)?;
         let both = with_other_reply(rt.alloc(), &one, place - 1)?;
         let told = failure(&rt, rt.alloc(), &both)?;
-        assert_eq!(rt; told.map(|i| i as usize), Some(place - 1));
+        assert!(rt; told == Some(place - 1), "{place}");
     }
     Ok(())
 }
@@ -120,7 +113,7 @@ fn run_end(rt: &impl Abort, alloc: Global, events: &[Event]) -> Result<EndWords,
 /// The end words where a law makes all steps.
 fn end_under(rt: &impl Abort, alloc: Global, law: Law, events: &[Event]) -> Result<EndWords, Fail> {
     let mut state = machine(alloc)?;
-    run(rt, law, &mut state, events);
+    assert!(rt; run(law, &mut state, events), "{law:?}");
     ending(rt, alloc, &state)
 }
 
@@ -128,9 +121,9 @@ fn end_under(rt: &impl Abort, alloc: Global, law: Law, events: &[Event]) -> Resu
 fn the_list_ends_settled(rt: HostRuntime) -> Result<(), Fail> {
     let events = joined(rt.alloc(), &stretches())?;
     let end = run_end(&rt, rt.alloc(), &events)?;
-    assert_eq!(rt; end.homes.as_slice(), [Some(2)].as_slice());
-    assert_eq!(rt; end.roles.get(2).copied(), Some(Role::Mapped));
-    assert_eq!(rt; end.settled, true);
+    assert!(rt; end.homes.len() == 1 && end.homes[0] == Some(2));
+    assert!(rt; end.roles.get(2).copied() == Some(Role::Mapped));
+    assert!(rt; end.settled);
     Ok(())
 }
 
@@ -140,7 +133,7 @@ fn each_law_makes_the_steps(rt: HostRuntime) -> Result<(), Fail> {
     let wanted = run_end(&rt, rt.alloc(), &events)?;
     for law in laws() {
         let end = end_under(&rt, rt.alloc(), law, &events)?;
-        end_alike(&rt, &end, &wanted);
+        assert!(rt; end_alike(&end, &wanted), "{law:?}");
     }
     Ok(())
 }

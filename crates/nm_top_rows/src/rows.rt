@@ -1,4 +1,4 @@
-//! Rows of sources and sinks, and of calls of the program in which one of theirs fails.
-mod calls;
+//! Rows of sources and sinks, and the line of want of memory.
 mod memory;
 mod standard;
+mod statuses;

@@ -1,17 +1,13 @@
 //! What cases give.
 
+use crate::calls::push_calls;
 use crate::cases::{Ask, Case};
 use crate::faults::Fault;
 use crate::lines::push_lines;
-use nm_io::{MOST_BYTES, MemSink, MemSource};
+use nm_io::MOST_BYTES;
 use nm_script::{ScriptRefusal, parse, print};
-use nm_text::push_number;
-use nm_top::{Status, plain_call};
 use nm_trace::to_trace;
 use std::alloc::Global;
-
-/// The room of a sink, in bytes.
-const ROOM: usize = 40_000_000;
 
 /// Appends what a case gives: its title, how the call ended, the bytes that were written, and a last line.
 pub fn push_answer(alloc: Global, case: &Case, out: &mut Vec<u8>) -> Result<(), Fault> {
@@ -19,34 +15,12 @@ pub fn push_answer(alloc: Global, case: &Case, out: &mut Vec<u8>) -> Result<(), 
     out.extend_from_slice(&case.title)?;
     out.extend_from_slice(b"\n")?;
     match &case.ask {
-        Ask::Words(words) => push_call(alloc, case, words, out)?,
+        Ask::Words(words) => push_calls(alloc, case, words, out)?,
         Ask::Script => push_script(alloc, &case.input, out)?,
         Ask::Trace => push_trace(alloc, &case.input, out)?,
     }
     out.extend_from_slice(b"end\n\n")?;
     Ok(())
-}
-
-/// Appends how a call of the program ended, and what its sink holds.
-fn push_call(alloc: Global, case: &Case, words: &[String], out: &mut Vec<u8>) -> Result<(), Fault> {
-    let source = case.source;
-    let sink = case.sink;
-    let mut source = MemSource::new(alloc, &case.input, source.piece.max(1), &[source.fails])?;
-    let mut sink = MemSink::new(alloc, ROOM, sink.piece.max(1), &[sink.fails])?;
-    let status = plain_call(alloc, words, &mut source, &mut sink);
-    push_status(alloc, status, out)?;
-    Ok(push_lines(out, sink.bytes())?)
-}
-
-/// Appends the number of a status and the line that the program tells of it.
-fn push_status(alloc: Global, status: Status, out: &mut Vec<u8>) -> Result<(), Fault> {
-    out.extend_from_slice(b"status ")?;
-    push_number(out, status.number() as u64)?;
-    if status != Status::Done {
-        out.extend_from_slice(b" ")?;
-        out.extend_from_slice(status.to_string(alloc)?.as_bytes())?;
-    }
-    Ok(out.extend_from_slice(b"\n")?)
 }
 
 /// Appends the canonical text of the script that the input says, or its first fault.

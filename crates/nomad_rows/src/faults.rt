@@ -8,7 +8,9 @@ use std::alloc::AllocError;
 pub enum Fault {
     /// The line of this number, from 1, is not one of a case, or the text ends within the case that it began.
     Line(u64),
-    /// Standard input could not be read, or is longer than `nm_io::MOST_BYTES`.
+    /// A file that a case names is not there.
+    File,
+    /// Standard input or a file could not be read, or is longer than `nm_io::MOST_BYTES`.
     Read,
     /// Standard output could not be written.
     Write,

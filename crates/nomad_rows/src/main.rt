@@ -3,8 +3,10 @@
 #![tactic(auto)]
 
 mod answers;
+mod calls;
 mod cases;
 mod faults;
+mod files;
 mod lines;
 
 use answers::push_answer;
@@ -15,10 +17,10 @@ use nm_io::{StdSink, StdSource, read_all, write_all};
 fn main(rt: HostRuntime) -> Result<(), Fault> {
     let alloc = rt.alloc();
     let text = read_all(alloc, &mut StdSource::new(rt.stdin()))?;
-    let mut reader = CaseReader::new(alloc);
+    let mut reader = CaseReader::new();
     let mut out = Vec::new(alloc);
     for line in text.split(|byte| *byte == b'\n') {
-        if let Some(case) = reader.read_line(line)? {
+        if let Some(case) = reader.read_line(&rt, line)? {
             push_answer(alloc, &case, &mut out)?;
         }
     }

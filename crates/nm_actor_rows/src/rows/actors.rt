@@ -98,8 +98,7 @@ where
         last: None,
     };
     act(rt, &mut state, 1, &mut actor, lines);
-    assert_eq!(rt; actor.last, Some(Turn::End));
-    assert_eq!(rt; actor.tally(), Tally::default());
+    assert!(rt; actor.last == Some(Turn::End) && actor.tally() == Tally::default());
     Ok(())
 }
 

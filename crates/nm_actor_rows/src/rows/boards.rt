@@ -5,7 +5,7 @@ use nm_actor::Board;
 use std::sync::Wait;
 
 /// The seat of an actor.
-#[derive(Clone, Copy, Debug, PartialEq, Eq)]
+#[derive(Clone, Copy)]
 struct LoneSeat {
     sat: bool,
     // After so many bumps.
@@ -70,5 +70,5 @@ fn an_actor_sits_and_stands(rt: HostRuntime) {
     let mut chair = board.sit(&rt, 1);
     board.rest(&rt, &mut chair);
     board.stand(&rt, chair);
-    assert_eq!(rt; board.second.stood, Some(0));
+    assert!(rt; board.second.stood == Some(0));
 }

@@ -95,7 +95,6 @@ impl PagePort for Alone {
 fn refuses_every_page(rt: HostRuntime) {
     let mut chair = Alone::new(1);
     assert!(rt; chair.put(&rt, Lane::Candidates, 3).is_err());
-    assert_eq!(rt; chair.take(&rt, Lane::Pending), None);
-    assert_eq!(rt; chair.candidates.fulls, 1);
-    assert_eq!(rt; chair.pending.empties, 1);
+    assert!(rt; chair.take(&rt, Lane::Pending).is_none());
+    assert!(rt; chair.candidates.fulls == 1 && chair.pending.empties == 1);
 }

@@ -17,7 +17,7 @@ use nm_part::Part;
 use std::process::Abort;
 
 /// A line of a table.
-#[derive(Clone, Copy, Debug)]
+#[derive(Clone, Copy)]
 pub(super) enum Line {
     /// The part, or the actor, gives this action, and hears this reply.
     Gives(Action, Reply),
@@ -140,16 +140,16 @@ pub(super) fn play<P: Part>(
         match *line {
             Line::Other(other, action) => {
                 let made = intrude(state, actor, other, action);
-                assert!(rt; made, "{line:?}");
+                assert!(rt; made, "another actor's action");
             }
             Line::Gives(action, reply) => {
                 let Step::Do(given) = step else {
-                    panic!(rt; "over before {action:?}")
+                    panic!(rt; "over too early")
                 };
-                assert_eq!(rt; given, action);
+                assert!(rt; given == action, "another action");
                 let made = make(state, actor, given, reply);
                 if !made {
-                    panic!(rt; "another reply than {reply:?}");
+                    panic!(rt; "another reply");
                 }
                 step = part.after(reply);
             }
@@ -181,20 +181,20 @@ pub(super) fn act<A: Actor>(
         match *line {
             Line::Other(other, action) => {
                 let made = intrude(state, number, other, action);
-                assert!(rt; made, "{line:?}");
+                assert!(rt; made, "another actor's action");
             }
             Line::Gives(action, reply) => {
                 let Turn::Do(given) = turn else {
-                    panic!(rt; "no action where {action:?}")
+                    panic!(rt; "no action")
                 };
-                assert_eq!(rt; given, action);
+                assert!(rt; given == action, "another action");
                 let made = make(state, number, given, reply);
                 if !made {
-                    panic!(rt; "another reply than {reply:?}");
+                    panic!(rt; "another reply");
                 }
                 turn = actor.next(Heard::Answer(reply));
             }
         }
     }
-    assert_eq!(rt; turn, Turn::End);
+    assert!(rt; turn == Turn::End);
 }

@@ -100,7 +100,8 @@ fn a_shootdown_waits_for_the_number_drawn(rt: HostRuntime) -> Result<(), Fail> {
         Other(1, Action::Ack { to: AckTo::Seen }),
         Gives(Action::SeeAck { cpu: 1 }, Reply::Word(1)),
     ];
-    assert_eq!(rt; shoot(&rt, &mut state, 2, &lines), Some(1));
+    let drawn = shoot(&rt, &mut state, 2, &lines);
+    assert!(rt; drawn == Some(1));
     Ok(())
 }
 
@@ -118,29 +119,24 @@ fn a_frame_is_taken_counted_and_put_back(rt: HostRuntime) -> Result<(), Fail> {
         Gives(Action::GiveFrame { frame: 8 }, Reply::Word(255)),
         Gives(Action::ReleaseTurn { tier: 1 }, Reply::Done),
     ];
-    assert_eq!(rt;
-        take(&rt, &mut state, 1, 1, 7, &busy),
-        Some(PoolEnd::Got(8))
-    );
+    let got = take(&rt, &mut state, 1, 1, 7, &busy);
+    assert!(rt; got == Some(PoolEnd::Got(8)));
     let put = [
         Gives(Action::TakeTurn { tier: 1 }, Reply::Done),
         Gives(Action::PutFrame { frame: 8 }, Reply::Word(254)),
         Gives(Action::ReleaseTurn { tier: 1 }, Reply::Done),
     ];
-    assert_eq!(rt; give_back(&rt, &mut state, 1, 8, &put), Some(PoolEnd::Back));
+    let back = give_back(&rt, &mut state, 1, 8, &put);
+    assert!(rt; back == Some(PoolEnd::Back));
     let counted = [
         Gives(Action::TakeTurn { tier: 1 }, Reply::Done),
         Gives(Action::Scan { tier: 1, index: 0 }, Reply::Word(255)),
         Gives(Action::ReleaseTurn { tier: 1 }, Reply::Done),
     ];
-    assert_eq!(rt;
-        level(&rt, &mut state, 1, 1, &counted),
-        Some(PoolEnd::Level(8))
-    );
+    let free = level(&rt, &mut state, 1, 1, &counted);
+    assert!(rt; free == Some(PoolEnd::Level(8)));
     // No more than the floor are free.
-    assert_eq!(rt;
-        take(&rt, &mut state, 1, 1, 8, &counted),
-        Some(PoolEnd::AtFloor(8))
-    );
+    let none = take(&rt, &mut state, 1, 1, 8, &counted);
+    assert!(rt; none == Some(PoolEnd::AtFloor(8)));
     Ok(())
 }

@@ -88,8 +88,8 @@ fn each_page_once_in_order(rt: HostRuntime) -> Result<(), Fail> {
     line.join(&rt, &mut first, sender);
     line.join(&rt, &mut first, receiver);
     for (page, next) in got.iter().zip(1..=500) {
-        assert_eq!(rt; *page, next);
+        assert!(rt; *page == next, "{next}");
     }
-    assert_eq!(rt; queue.close(&rt, first).len(), 0);
+    assert!(rt; queue.close(&rt, first).is_empty());
     Ok(())
 }
