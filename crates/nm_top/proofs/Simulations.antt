@@ -1,14 +1,18 @@
 -- What is true of each run of a script.
-use Rattle.std.proofs.Common.{◌≡◌, ℕ, ◌<◌, List, ◌++◌, refl, sym, subst, append-nil}
+use Rattle.std.proofs.Common.{◌≡◌, ℕ, List, [], ◌++◌, refl, sym, ap, subst, ◌∙◌, append-nil}
 use Rattle.nm_action.specs.declared.action.Event.{Event}
 use Rattle.nm_core.specs.Runs.{state_after}
 use Rattle.nm_script.specs.Plain.{Script}
 use Rattle.nm_script.specs.Script.{IsScript}
+use Rattle.nm_gen.specs.Generated.{generated}
+use Rattle.nm_report.specs.Plain.{Report}
+use Rattle.nm_report.specs.Texts.{report_text}
+use Rattle.nm_report.specs.Summary.{summary_text}
 use Rattle.nm_laws.specs.Facts.{HoldsOfRun}
 use Rattle.nm_sched.specs.Plain.{SimRun}
-use Rattle.nm_sched.specs.Runs.{IsRunOfScript}
+use Rattle.nm_sched.specs.Runs.{IsRunOfScript, report_of}
 use Rattle.nm_schedule.specs.Played.{has_ended}
-use Rattle.nm_top.specs.Output.{HoldsAtStep, HoldsOfSimulation}
+use Rattle.nm_top.specs.Output.{HoldsAtStep, HoldsOfSimulation, IsReportOf, IsSummary}
 use Rattle.nm_top.proofs.Processors.{accesses-below}
 
 -- the facts of the events up to a step
@@ -28,3 +32,17 @@ HoldsOfSimulation-run s run is made =
       tiers = made.simulated.tiers;
       settled = made.simulated.ends.settled;
     }
+
+-- the report of a run that was made
+pub IsReportOf-made : (s : Script) (run : SimRun) (r : Report) (text : List ℕ) → IsRunOfScript s run → HoldsOfSimulation s run → r ≡ report_of s run → text ≡ report_text r → IsReportOf s text
+IsReportOf-made s run r text made holds same is = record { run = run; scheduled = made; holds = holds; printed = is ∙ ap report_text same }
+
+-- the summary of a run that was made
+pub IsSummary-made : (n size : ℕ) (s : Script) (run : SimRun) (r : Report) (text : List ℕ) → s ≡ generated n size → IsRunOfScript s run → HoldsOfSimulation s run → r ≡ report_of s run
+    → text ≡ summary_text n size r → IsSummary n size text
+IsSummary-made n size s run r text drawn made holds same is = record {
+  run = run;
+  scheduled = subst (λ (t : Script). IsRunOfScript t run) drawn made;
+  holds = subst (λ (t : Script). HoldsOfSimulation t run) drawn holds;
+  printed = is ∙ ap (summary_text n size) (same ∙ ap (λ (t : Script). report_of t run) drawn);
+}

@@ -17,6 +17,11 @@ use std::thread::Threads;
 
 /// The call that the program makes: what it answers to the words behind its name.
 ///
+/// Where `sim` is Done its bytes tell of a run of the script that was read, and where `drill` is, of the generated one: the
+/// accesses, each processor's own once and in order, are one legal history of a flat memory; each transaction commits exactly where
+/// no dirty walk lay between clearing and unmapping, else the old mapping returns; each shadow equals its master at every step;
+/// and the roles of frames that are printed sum to the tiers (`HoldsOfSimulation`).
+///
 /// Every list of words is answered by `plain_call`. The runtime and the gate are for commands that run on threads.
 pub fn nomad_main<T: Threads + Wait + Sync, G: Gate, S: Source, K: Sink>(
     _rt: &T,
@@ -58,11 +63,6 @@ pub fn nomad_main<T: Threads + Wait + Sync, G: Gate, S: Source, K: Sink>(
 /// `gen N SIZE` reads nothing and writes the script of the number N, with SIZE lines of programs, and `drill N SIZE` the summary
 /// of the run of that script. `import F S` reads a trace from the source and writes the text of its script, with tiers of F and
 /// S frames.
-///
-/// Where `sim` is Done its bytes tell of a run of the script that was read, and where `drill` is, of the generated one: the
-/// accesses, each processor's own once and in order, are one legal history of a flat memory; each transaction commits exactly where
-/// no dirty walk lay between clearing and unmapping, else the old mapping returns; each shadow equals its master at every step;
-/// and the roles of frames that are printed sum to the tiers (`HoldsOfSimulation`).
 ///
 /// The order of the answers is: Usage, or Memory where there is none to read the words; then reading, with ReadFault,
 /// Script with TooLong, and Memory as they come; then Script or Trace with the first fault; then Memory; and
