@@ -1,0 +1,5 @@
+pub mod Followed
+pub mod Touched
+pub mod Silent
+pub mod Lines
+pub mod Ends
