@@ -3,3 +3,5 @@ pub mod Touched
 pub mod Silent
 pub mod Lines
 pub mod Ends
+pub mod Mapped
+pub mod Going
