@@ -37,6 +37,7 @@ use Rattle.nm_access.proofs.Ends.{some-heard}
 use Rattle.nm_script.specs.declared.script.Line.{Line}
 use Rattle.nm_report.specs.Follows.{AreMade}
 use Rattle.nm_cpu.specs.declared.actor.Processor.{Processor}
+use Rattle.nm_cpu.specs.declared.actor.CpuStage.{CpuStage}
 use Rattle.nm_cpu.specs.declared.actor.CpuStage.TheVariants.{Accessing, Ending}
 use Rattle.nm_cpu.specs.Programs.{CpuEnd, IsLineOf, IsCpu, line_access, held_with, LinesMade, IsProgramMade}
 use Rattle.nm_cpu.specs.Lines.{own_accesses, AccessLeft, NextLeft, after_access, after_line}
@@ -88,6 +89,10 @@ comes-next kinds g program turns End not begun = tt
 pub sum-as : (a b c d : Tally) → a ≡ c → b ≡ d → sum_of a b ≡ sum_of c d
 sum-as a b c d e f = ap (λ (t : Tally). sum_of t b) e ∙ ap (λ (t : Tally). sum_of c t) f
 
+-- what is between the lines speaks of neither the access nor the stage
+pub between-as : {F : Type 0} (c : Processor F) (a : Access F) (stage : CpuStage) (done lines : List Line) (more : ℕ) (turns : Turns) → IsBetween c done lines more turns → IsBetween (record c { access = a; stage = stage }) done lines more turns
+between-as c a stage done lines more turns b = record { is = b.is; as_many = b.as_many; loads = b.loads; follows = b.follows }
+
 -- a turn that is not End is given
 pub going : {F M X : Type 0} (kinds : FaultKinds M X) (made_of : F → M) (awaits_of : F → Geometry → View → Own → Action → Type 0) (c : Processor F) (turns : Turns) (turn : Turn) (done lines : List Line) (more : ℕ) (ends : List X)
     → turn ≢ End → IsPermittedTurn (geometry_of c) (opened_view c turns) turn → IsTurnBegun (IsProgramMade kinds (geometry_of c) (program_of c)) turns turn
@@ -96,8 +101,7 @@ pub going : {F M X : Type 0} (kinds : FaultKinds M X) (made_of : F → M) (await
 going {F} {M} {X} kinds made_of awaits_of c turns turn done lines more ends not permitted begun cpu room between counted at =
     let P : Tally → Bool → Type 0 = λ counts b. IsCpuPart kinds (geometry_of c) c.made.number (program_of c) turns b c.results.items (sum_of counts c.access.tally) in
     record {
-      permitted = permitted;
-      at = record { cpu = cpu; room = room; next = comes-next kinds (geometry_of c) (program_of c) turns turn not begun; at = at };
+      at = record { cpu = cpu; room = room; next = comes-next kinds (geometry_of c) (program_of c) turns turn not begun; permitted = permitted; at = at };
       part = λ counts is. subst (λ (b : Bool). P counts b) (sym (goes-on turn not)) (record {
         ends = ends;
         sequence = turns-begun (IsProgramMade kinds (geometry_of c) (program_of c)) turns turn begun;
@@ -155,7 +159,7 @@ access-begins {F} {M} {X} kinds made_of awaits_of c a turn line d turns some at 
     let V : Turns → Type 0 = λ l. IsPermittedTurn (geometry_of c) (opened_view c l) turn in
     let W : Turns → Type 0 = λ l. IsBetween c h.done (line ∷ first.rest) h.more l in
     subst T (append-nil turns) (access-given kinds made_of awaits_of (record c { access = a; stage = Accessing }) turns [] turn h.done line first.rest h.more (held_with (kept_of c.access.cache) h.ends)
-    refl h.cpu h.room (subst W (sym (append-nil turns)) between) made (subst L first.is h.due) (subst V (sym (append-nil turns)) step.permitted) step.awaited step.begun)
+    refl h.cpu h.room (between-as c a Accessing h.done (line ∷ first.rest) h.more (turns ++ []) (subst W (sym (append-nil turns)) between)) made (subst L first.is h.due) (subst V (sym (append-nil turns)) step.permitted) step.awaited step.begun)
 
 -- All lines were made.
 
@@ -187,4 +191,4 @@ ending-begins {F} {M} {X} kinds made_of awaits_of c turns all h =
       can = record { rest = []; outcome = last; shown = subst (λ (l : Turns). IsProgramMade kinds (geometry_of c) (program_of c) l last) (sym (append-nil (turns ++ (Do (Ack ack.End), Answer replies.Done) ∷ []))) (due.carry ((Do (Ack ack.End), Answer replies.Done) ∷ []) last
           (record { end = Answer replies.Done; front = (Do (Ack ack.End), Answer replies.Done) ∷ []; back = []; shown = record { is = refl; kind = λ view. tt }; rest = record { none = refl; is = refl }; is = refl })) };
     })
-    h.cpu h.room between h.counted here
+    h.cpu h.room (between-as c c.access Ending h.done [] h.more turns between) h.counted here

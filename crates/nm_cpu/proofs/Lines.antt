@@ -115,6 +115,19 @@ some-load : (max : ℕ) → 1 ≤ max → (more : ℕ) × (max ≡ suc more)
 some-load zero h = absurd (omega (arith, h))
 some-load (suc more) h = (more, refl)
 
+-- whatever line comes first may make its access
+pub some-loads : (g : Geometry) (lines : List Line) → ((line : Line) (rest : List Line) → lines ≡ line ∷ rest → IsLineOf g line) → (more : ℕ) × AreLoadsOf lines 0 more
+some-loads g [] lines = (0, refl)
+some-loads g (Load v w ∷ rest) lines = (0, refl)
+some-loads g (Store v w x ∷ rest) lines = (0, refl)
+some-loads g (Add v w x ∷ rest) lines = (0, refl)
+some-loads g (Await v w x max ∷ rest) lines =
+    let m = some-load max (lines (Await v w x max) rest refl).2 in
+    (m.0, await-of m.0 max m.1)
+  where
+    await-of : (more max : ℕ) → max ≡ suc more → 0 + 1 + more ≡ max
+    await-of more max is = omega (arith, is)
+
 pub lines-begin : {M X : Type 0} (kinds : FaultKinds M X) (g : Geometry) (whole : Turns → CpuEnd X → Type 0) (turns : Turns) (lines : List Line) (results : List LineResult) (held : Carried X) → ((line : Line) (rest : List Line) → lines ≡ line ∷ rest → IsLineOf g line)
     → IsLeft whole turns (LinesMade kinds g lines results held) → BeginsLines kinds g whole turns lines results held
 lines-begin kinds g whole turns [] results held lines due = record { more = 0; of = refl; due = due }

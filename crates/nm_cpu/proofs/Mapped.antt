@@ -12,10 +12,7 @@ use Rattle.nm_script.specs.declared.script.Line.TheVariants.{Load, Store, Add, A
 use Rattle.nm_cpu.specs.Programs.{IsLineOf, IsCpu, page_or, access_to, line_access}
 
 inside : (vs : List (Option VPage)) (v : ℕ) → IsSome (get_or vs v None) → v < length vs
-inside [] v some = absurd (no-some some)
-  where
-    no-some : IsSome {A = VPage} None → ⊥
-    no-some h = h
+inside [] v some = elim some [ ]
 inside (x ∷ vs) zero some = omega arith
 inside (x ∷ vs) (suc v) some = omega (arith, inside vs v some)
 
@@ -23,9 +20,11 @@ mapped : (g : Geometry) (v : ℕ) → IsSome (vpage_at g v) → backing_page g v
 mapped g v some = by-page (vpage_at g v) some
   where
     by-page : (found : Option VPage) → IsSome found → option_map (λ p. p.page) found ≡ Some (page_or (option_map (λ p. p.page) found))
+    by-page None some = elim some [ ]
     by-page (Some p) some = refl
 
 some-and : (found : Option VPage) (P : VPage → Type 0) → IsSomeAnd found P → IsSome found
+some-and None P h = elim h [ ]
 some-and (Some p) P h = tt
 
 access-made : (g : Geometry) (v w : ℕ) (touch : Touch) → IsGeometry g → IsSome (vpage_at g v) → w < g.words → IsTouchWord touch → IsAccessMade g (access_to g v w touch)

@@ -27,13 +27,13 @@ count-more values word loads is = length-append values (word ∷ []) ∙ ap (λ 
 
 -- What an await gives, by two tests.
 
-some-one : {a b : LineResult} → Some a ≡ Some b → a ≡ b
+pub some-one : {a b : LineResult} → Some a ≡ Some b → a ≡ b
 some-one e = cc
 
-none-some : (r : LineResult) → None ≡ Some r → ⊥
+pub none-some : (r : LineResult) → None ≡ Some r → ⊥
 none-some r e = cc
 
-some-none : (r : LineResult) → Some r ≡ None → ⊥
+pub some-none : (r : LineResult) → Some r ≡ None → ⊥
 some-none r e = cc
 
 -- the value was found, or all loads were made

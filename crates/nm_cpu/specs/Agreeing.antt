@@ -19,7 +19,7 @@ use Rattle.nm_part.specs.Patterns.{Ends, Follows, IsLeft}
 use Rattle.nm_tally.specs.Counts.{events_tally}
 use Rattle.nm_tally.specs.Counting.{CountsEvents}
 use Rattle.nm_actor.specs.Turns.{Turns, own_list, turns_view}
-use Rattle.nm_actor.specs.Actors.{IsPermittedTurn, HasHeard, answered}
+use Rattle.nm_actor.specs.Actors.{IsPermittedTurn}
 use Rattle.nm_catchup.specs.Catching.{kept_of, AwaitsCatch}
 use Rattle.nm_access.specs.declared.access.Access.{Access}
 use Rattle.nm_access.specs.Turning.{Hears, action_turns, IsTurnBegun}
@@ -187,11 +187,17 @@ abbrev pub IsKeptTurn : Turn → Option Turn → Type 0
 IsKeptTurn kept None = Unit {0}
 IsKeptTurn kept (Some turn) = turn ≡ kept
 
--- all but what it has counted: the turn comes next in its sequence, and the turns are its part of a run
+-- the action of the last turn is permitted
+abbrev pub IsPermittedLast : Geometry → View → Option Turn → Type 0
+IsPermittedLast g view None = Unit {0}
+IsPermittedLast g view (Some turn) = IsPermittedTurn g view turn
+
+-- how far it has come: the last turn comes next in its sequence, and its action is permitted
 pub record IsAtTurn {F M X : Type 0} (kinds : FaultKinds M X) (made_of : F → M) (awaits_of : F → Geometry → View → Own → Action → Type 0) (c : Processor F) (turns : Turns) (last : Option Turn) : Type 0 where
   pub cpu : IsCpu (geometry_of c) c.made.number (program_of c)
   pub room : length (program_of c) ≤ vec_capacity c.results
   pub next : ComesNext kinds (geometry_of c) (program_of c) turns last
+  pub permitted : IsPermittedLast (geometry_of c) (opened_view c turns) last
   pub at : IsAtCpuStage kinds made_of awaits_of c.stage c turns last
 
 -- it has these answered turns, and this one awaits its answer
@@ -202,9 +208,7 @@ pub record FollowsCpu {F M X : Type 0} (kinds : FaultKinds M X) (made_of : F →
   pub pages : length c.counter.locked.items ≡ page_count (geometry_of c)
   pub kept : IsKeptTurn c.given last
 
--- a turn is given after these turns: it comes next, its action is permitted, and with what the events count the turns are the
--- processor's part of a run
+-- a turn is given after these turns, which with what their events count are the processor's part of a run
 pub record IsAdvanced {F M X : Type 0} (kinds : FaultKinds M X) (made_of : F → M) (awaits_of : F → Geometry → View → Own → Action → Type 0) (c : Processor F) (turns : Turns) (turn : Turn) : Type 0 where
-  pub permitted : IsPermittedTurn (geometry_of c) (opened_view c turns) turn
   pub at : IsAtTurn kinds made_of awaits_of c turns (Some turn)
   pub part : (counts : Tally) → counts ≡ events_tally (own_list turns) → IsCpuPart kinds (geometry_of c) c.made.number (program_of c) turns (is_end (Some turn)) c.results.items (sum_of counts c.access.tally)
