@@ -10,6 +10,7 @@ use Rattle.nm_part.proofs.Patterns.{left-after}
 use Rattle.nm_actor.specs.Turns.{Turns}
 use Rattle.nm_catchup.specs.Catching.{kept_of}
 use Rattle.nm_access.specs.declared.made.AccessMade.{AccessMade}
+use Rattle.nm_access.specs.declared.access.Access.{Access}
 use Rattle.nm_access.specs.Faults.{FaultKinds, ends_tally}
 use Rattle.nm_access.specs.Accesses.{Accessed, IsWholeAccess}
 use Rattle.nm_access.specs.Accessing.{IsAccessReady}
@@ -18,6 +19,7 @@ use Rattle.nm_script.specs.declared.script.Line.{Line}
 use Rattle.nm_script.specs.declared.script.Line.TheVariants.{Load, Store, Add, Await}
 use Rattle.nm_report.specs.declared.line_result.LineResult.{LineResult}
 use Rattle.nm_cpu.specs.declared.actor.Processor.{Processor}
+use Rattle.nm_cpu.specs.declared.made.CpuMade.{CpuMade}
 use Rattle.nm_cpu.specs.Programs.{CpuEnd, IsLineOf, line_access, held_with, LinesMade, IsProgramMade}
 use Rattle.nm_cpu.specs.Lines.{HasLoadsLeft, line_result, IsLoadsOf, after_access, after_line, NextLeft, HasFollowed}
 use Rattle.nm_cpu.specs.Agreeing.{geometry_of, program_of, opened_view, accesses_of_turns, line_touch, IsAtNext, IsUnderWay, HasTouched}
@@ -37,11 +39,11 @@ line-behind [] lines line d = refl
 line-behind (l ∷ done) lines line d = line-behind done lines line d
 
 -- it is the line that is under way
-pub way-line : {F : Type 0} (c : Processor F) (d : Line) → (w : IsUnderWay c) → get_or (program_of c) (length c.results.items) d ≡ w.line
-way-line c d w =
-    let P : List Line → Type 0 = λ l. get_or l (length c.results.items) d ≡ w.line in
+pub way-line : {F : Type 0} (c : Processor F) (d : Line) (n : ℕ) → n ≡ length c.results.items → (w : IsUnderWay c) → get_or (program_of c) n d ≡ w.line
+way-line c d n number w =
+    let P : List Line → Type 0 = λ l. get_or l n d ≡ w.line in
     let N : ℕ → Type 0 = λ n. get_or (w.done ++ w.line ∷ w.lines) n d ≡ w.line in
-    subst P (sym w.is) (subst N w.as_many (line-behind w.done w.lines w.line d))
+    subst P (sym w.is) (subst N (w.as_many ∙ sym number) (line-behind w.done w.lines w.line d))
 
 loads-left : (line : Line) (loads more : ℕ) → IsLoadsOf line loads more → HasLoadsLeft line loads
 loads-left (Load v w) loads more h = tt
@@ -49,8 +51,8 @@ loads-left (Store v w x) loads more h = tt
 loads-left (Add v w x) loads more h = tt
 loads-left (Await v w x max) loads more h = omega (arith, h)
 
-pub way-loads : {F : Type 0} (c : Processor F) (line d : Line) → get_or (program_of c) (length c.results.items) d ≡ line → IsUnderWay c → HasLoadsLeft line c.loads
-way-loads c line d at w = subst (λ (l : Line). HasLoadsLeft l c.loads) (sym (way-line c d w) ∙ at) (loads-left w.line c.loads w.more w.loads)
+pub way-loads : {F : Type 0} (c : Processor F) (line d : Line) (n : ℕ) → n ≡ length c.results.items → get_or (program_of c) n d ≡ line → IsUnderWay c → HasLoadsLeft line c.loads
+way-loads c line d n number at w = subst (λ (l : Line). HasLoadsLeft l c.loads) (sym (way-line c d n number w) ∙ at) (loads-left w.line c.loads w.more w.loads)
 
 -- The access is over.
 
@@ -76,15 +78,15 @@ over-left {F} {M} {X} kinds c word turns t =
     subst (λ (l : Turns). IsLeft whole l (after end)) (sym t.is) (left-after whole t.front t.inner (IsWholeAccess kinds g (line_access g t.way.line) t.held) after end t.due (subst A t.access t.over.shown))
 
 -- the line gave something
-pub line-gave : {F M X : Type 0} (kinds : FaultKinds M X) (c d : Processor F) (line at : Line) (word : ℕ) (result : LineResult) (turns : Turns)
-    → get_or (program_of c) (length c.results.items) at ≡ line → line_result line c.loads word ≡ Some result
-    → d ≡ record c { results = d.results; loads = 0 } → d.results.items ≡ c.results.items ++ result ∷ [] → vec_capacity d.results ≡ vec_capacity c.results
+pub line-gave : {F M X : Type 0} (kinds : FaultKinds M X) (c d : Processor F) (line at : Line) (n word : ℕ) (result : LineResult) (turns : Turns)
+    → n ≡ length c.results.items → get_or (program_of c) n at ≡ line → line_result line c.loads word ≡ Some result
+    → d.made ≡ c.made → d.access ≡ c.access → d.loads ≡ 0 → d.results.items ≡ c.results.items ++ result ∷ [] → vec_capacity d.results ≡ vec_capacity c.results
     → HasTouched kinds c word turns → IsAtNext kinds d turns
-line-gave {F} {M} {X} kinds c d line at word result turns is gives same items capacity t =
+line-gave {F} {M} {X} kinds c d line at n word result turns number is gives made access loads items capacity t =
     let g = geometry_of c in
     let w = t.way in
     let whole = IsProgramMade kinds g (program_of c) in
-    let gives' : line_result w.line c.loads word ≡ Some result = ap (λ (l : Line). line_result l c.loads word) (sym (way-line c at w) ∙ is) ∙ gives in
+    let gives' : line_result w.line c.loads word ≡ Some result = ap (λ (l : Line). line_result l c.loads word) (sym (way-line c at n number w) ∙ is) ∙ gives in
     let program : program_of c ≡ (w.done ++ w.line ∷ []) ++ w.lines = w.is ∙ sym (append_assoc w.done (w.line ∷ []) w.lines) in
     let rest = left-gave kinds g whole turns w.line w.lines c.results.items c.loads w.more (over-end kinds c word turns t) result gives' w.loads (over-left kinds c word turns t) in
     let begins = lines-begin kinds g whole turns w.lines (c.results.items ++ result ∷ []) (held_with (kept_of c.access.cache) t.over.ends) (behind w.done w.line w.lines g (subst (λ (l : List Line). AllByRecursion (IsLineOf g) l) w.is t.cpu.lines)) rest in
@@ -92,8 +94,8 @@ line-gave {F} {M} {X} kinds c d line at word result turns is gives same items ca
     let A : List flat.Access → List LineResult → Type 0 = λ l r. HasFollowed c.made.number (w.done ++ w.line ∷ []) w.lines r 0 l in
     let followed : A (accesses_of_turns c turns) d.results.items = subst (λ (r : List LineResult). A (accesses_of_turns c turns) r) (sym items) (subst (λ (l : List flat.Access). A l (c.results.items ++ result ∷ [])) (sym t.touched)
         (followed-some c.made.number w.done w.line w.lines c.results.items c.loads w.more word result t.list w.as_many gives' w.loads t.follows)) in
-    let e : Processor F = record c { results = d.results; loads = 0 } in
-    let there : IsAtNext kinds e turns = record {
+    let P : CpuMade → Access F → ℕ → Type 0 = λ m a k. IsAtNext kinds (record d { made = m; access = a; loads = k }) turns in
+    let there : P c.made c.access 0 = record {
       done = w.done ++ w.line ∷ [];
       lines = w.lines;
       more = begins.more;
@@ -111,20 +113,20 @@ line-gave {F} {M} {X} kinds c d line at word result turns is gives same items ca
       ready = over-ready kinds c word turns t;
       due = subst L (sym items) begins.due;
     } in
-    subst (λ (x : Processor F). IsAtNext kinds x turns) (sym same) there
+    subst (λ (m : CpuMade). P m d.access d.loads) (sym made) (subst (λ (a : Access F). P c.made a d.loads) (sym access) (subst (λ k. P c.made c.access k) (sym loads) there))
   where
     behind : (done : List Line) (line : Line) (lines : List Line) (g : Geometry) → AllByRecursion (IsLineOf g) (done ++ line ∷ lines) → (l : Line) (rest : List Line) → lines ≡ l ∷ rest → IsLineOf g l
     behind [] line lines g all l rest is = first-of (IsLineOf g) lines all.1 l rest is
     behind (x ∷ done) line lines g all l rest is = behind done line lines g all.1 l rest is
 
 -- the line is tried again
-pub line-again : {F M X : Type 0} (kinds : FaultKinds M X) (c : Processor F) (line at : Line) (word : ℕ) (turns : Turns)
-    → get_or (program_of c) (length c.results.items) at ≡ line → line_result line c.loads word ≡ None → HasTouched kinds c word turns → IsAtNext kinds (record c { loads = c.loads + 1 }) turns
-line-again {F} {M} {X} kinds c line at word turns is gives t =
+pub line-again : {F M X : Type 0} (kinds : FaultKinds M X) (c : Processor F) (line at : Line) (n word : ℕ) (turns : Turns)
+    → n ≡ length c.results.items → get_or (program_of c) n at ≡ line → line_result line c.loads word ≡ None → HasTouched kinds c word turns → IsAtNext kinds (record c { loads = c.loads + 1 }) turns
+line-again {F} {M} {X} kinds c line at n word turns number is gives t =
     let g = geometry_of c in
     let w = t.way in
     let whole = IsProgramMade kinds g (program_of c) in
-    let gives' : line_result w.line c.loads word ≡ None = ap (λ (l : Line). line_result l c.loads word) (sym (way-line c at w) ∙ is) ∙ gives in
+    let gives' : line_result w.line c.loads word ≡ None = ap (λ (l : Line). line_result l c.loads word) (sym (way-line c at n number w) ∙ is) ∙ gives in
     let again = left-again kinds g whole turns w.line w.lines c.results.items c.loads w.more (over-end kinds c word turns t) gives' w.loads (over-left kinds c word turns t) in
     let A : List flat.Access → Type 0 = λ l. HasFollowed c.made.number w.done (w.line ∷ w.lines) c.results.items (c.loads + 1) l in
     record {
@@ -145,7 +147,3 @@ line-again {F} {M} {X} kinds c line at word turns is gives t =
       ready = over-ready kinds c word turns t;
       due = again.due;
     }
-
--- an await that loads again has made fewer loads than it may
-pub again-fits : {F : Type 0} (c : Processor F) (line at : Line) (word : ℕ) → get_or (program_of c) (length c.results.items) at ≡ line → line_result line c.loads word ≡ None → IsUnderWay c → HasLoadsLeft line c.loads
-again-fits c line at word is gives w = way-loads c line at is w

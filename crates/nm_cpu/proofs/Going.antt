@@ -31,7 +31,7 @@ use Rattle.nm_access.specs.declared.access.AccessStep.TheVariants.{Give}
 use Rattle.nm_access.specs.Turning.{Hears, IsTurnBegun}
 use Rattle.nm_access.specs.Faults.{FaultKinds, ends_tally}
 use Rattle.nm_access.specs.Accesses.{Carried, Accessed, IsWholeAccess}
-use Rattle.nm_access.specs.Accessing.{KnownInAccess, IsAtAccessStage}
+use Rattle.nm_access.specs.Accessing.{IsAccessMade, IsAtAccessStage}
 use Rattle.nm_access.specs.Moving.{AwaitsOf, IsStepOf, IsOpening}
 use Rattle.nm_access.proofs.Ends.{some-heard}
 use Rattle.nm_script.specs.declared.script.Line.{Line}
@@ -139,18 +139,18 @@ access-given {F} {M} {X} kinds made_of awaits_of c front inner turn done line li
 
 -- The next access is begun.
 
-pub access-begins : {F M X : Type 0} (kinds : FaultKinds M X) (made_of : F → M) (awaits_of : F → Geometry → View → Own → Action → Type 0) (c : Processor F) (a : Access F) (turn : Turn) (line d : Line) (turns : Turns)
-    → length c.results.items < length (program_of c) → get_or (program_of c) (length c.results.items) d ≡ line → a.made ≡ line_access (geometry_of c) line
-    → ((g : Geometry) (was : Carried X) (view : View) → IsOpening kinds c.access (line_access (geometry_of c) line) g was view → IsStepOf kinds made_of awaits_of a g was view [] (Give turn))
+pub access-begins : {F M X : Type 0} (kinds : FaultKinds M X) (made_of : F → M) (awaits_of : F → Geometry → View → Own → Action → Type 0) (c : Processor F) (a : Access F) (made : AccessMade) (turn : Turn) (line d : Line) (n : ℕ) (turns : Turns)
+    → n ≡ length c.results.items → n < length (program_of c) → get_or (program_of c) n d ≡ line → made ≡ line_access (geometry_of c) line → a.made ≡ made
+    → ((g : Geometry) (was : Carried X) (view : View) → IsOpening kinds c.access made g was view → IsStepOf kinds made_of awaits_of a g was view [] (Give turn))
     → IsAtNext kinds c turns → IsAdvanced kinds made_of awaits_of (record c { access = a; stage = Accessing }) turns turn
-access-begins {F} {M} {X} kinds made_of awaits_of c a turn line d turns some at made begins h =
-    let first = line-at (program_of c) h.done h.lines line d (length c.results.items) h.between.is h.between.as_many some at in
+access-begins {F} {M} {X} kinds made_of awaits_of c a made turn line d n turns number some at access same begins h =
+    let first = line-at (program_of c) h.done h.lines line d n h.between.is (h.between.as_many ∙ sym number) some at in
     let B : List Line → Type 0 = λ l. IsBetween c h.done l h.more turns in
     let between : B (line ∷ first.rest) = subst B first.is h.between in
     let L : List Line → Type 0 = λ l. IsLeft (IsProgramMade kinds (geometry_of c) (program_of c)) turns (NextLeft kinds (geometry_of c) l c.results.items c.loads h.more (held_with (kept_of c.access.cache) h.ends)) in
     let step = begins (geometry_of c) (held_with (kept_of c.access.cache) h.ends) (opened_view c turns) (record {
       same = h.same;
-      may = line-made (geometry_of c) line h.cpu.geometry (one-line _ h.done first.rest line (subst (λ (l : List Line). AllByRecursion (IsLineOf (geometry_of c)) l) between.is h.cpu.lines));
+      may = subst (λ (m : AccessMade). IsAccessMade (geometry_of c) m) (sym access) (line-made (geometry_of c) line h.cpu.geometry (one-line _ h.done first.rest line (subst (λ (l : List Line). AllByRecursion (IsLineOf (geometry_of c)) l) between.is h.cpu.lines)));
       kept = refl;
       counted = h.counted;
       ready = h.ready;
@@ -159,14 +159,14 @@ access-begins {F} {M} {X} kinds made_of awaits_of c a turn line d turns some at 
     let V : Turns → Type 0 = λ l. IsPermittedTurn (geometry_of c) (opened_view c l) turn in
     let W : Turns → Type 0 = λ l. IsBetween c h.done (line ∷ first.rest) h.more l in
     subst T (append-nil turns) (access-given kinds made_of awaits_of (record c { access = a; stage = Accessing }) turns [] turn h.done line first.rest h.more (held_with (kept_of c.access.cache) h.ends)
-    refl h.cpu h.room (between-as c a Accessing h.done (line ∷ first.rest) h.more (turns ++ []) (subst W (sym (append-nil turns)) between)) made (subst L first.is h.due) (subst V (sym (append-nil turns)) step.permitted) step.awaited step.begun)
+    refl h.cpu h.room (between-as c a Accessing h.done (line ∷ first.rest) h.more (turns ++ []) (subst W (sym (append-nil turns)) between)) (same ∙ access) (subst L first.is h.due) (subst V (sym (append-nil turns)) step.permitted) step.awaited step.begun)
 
 -- All lines were made.
 
-pub ending-begins : {F M X : Type 0} (kinds : FaultKinds M X) (made_of : F → M) (awaits_of : F → Geometry → View → Own → Action → Type 0) (c : Processor F) (turns : Turns) → length (program_of c) ≤ length c.results.items
+pub ending-begins : {F M X : Type 0} (kinds : FaultKinds M X) (made_of : F → M) (awaits_of : F → Geometry → View → Own → Action → Type 0) (c : Processor F) (n : ℕ) (turns : Turns) → n ≡ length c.results.items → length (program_of c) ≤ n
     → IsAtNext kinds c turns → IsAdvanced kinds made_of awaits_of (record c { stage = Ending }) turns (Do (Ack ack.End))
-ending-begins {F} {M} {X} kinds made_of awaits_of c turns all h =
-    let none = none-left (program_of c) h.done h.lines (length c.results.items) h.between.is h.between.as_many all in
+ending-begins {F} {M} {X} kinds made_of awaits_of c n turns number all h =
+    let none = none-left (program_of c) h.done h.lines n h.between.is (h.between.as_many ∙ sym number) all in
     let B : List Line → Type 0 = λ l. IsBetween c h.done l h.more turns in
     let between : B [] = subst B none h.between in
     let L : List Line → Type 0 = λ l. IsLeft (IsProgramMade kinds (geometry_of c) (program_of c)) turns (NextLeft kinds (geometry_of c) l c.results.items c.loads h.more (held_with (kept_of c.access.cache) h.ends)) in

@@ -9,3 +9,5 @@ pub mod Opening
 pub mod Accessed
 pub mod Gave
 pub mod Noting
+pub mod Starting
+pub mod Ended

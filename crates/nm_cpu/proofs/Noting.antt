@@ -19,8 +19,10 @@ use Rattle.nm_actor.specs.Actors.{IsAnswer, IsAnswerTo, IsPermittedTurn, IsTurn,
 use Rattle.nm_actor.proofs.TurnLists.{own-push}
 use Rattle.nm_access.specs.Faults.{FaultKinds}
 use Rattle.nm_cpu.specs.declared.actor.Processor.{Processor}
+use Rattle.nm_cpu.specs.declared.actor.CpuStage.{CpuStage}
+use Rattle.nm_cpu.specs.declared.actor.CpuStage.TheVariants.{New, Opening, Accessing, Ending, Over}
 use Rattle.nm_cpu.specs.declared.made.CpuMade.{CpuMade}
-use Rattle.nm_cpu.specs.Agreeing.{geometry_of, opened_view, IsPermittedLast, IsKeptTurn, IsAtTurn, IsAdvanced, FollowsCpu}
+use Rattle.nm_cpu.specs.Agreeing.{geometry_of, opened_view, IsPermittedLast, IsKeptTurn, IsAtCpuStage, IsAtTurn, IsAdvanced, FollowsCpu}
 
 -- The event.
 
@@ -78,13 +80,12 @@ noted-reply kinds made_of awaits_of c counter heard reply action turns last is g
 
 -- nothing was counted, since no reply was heard
 
-pub IsNoReply : Heard → Type 0
-IsNoReply (Answer reply) = ⊥
-IsNoReply heard = Unit {0}
+abbrev pub IsNoReply : Heard → Type 0
+IsNoReply heard = (reply : Reply) → heard ≡ Answer reply → ⊥
 
 no-event : (g : Geometry) (view : View) (turn : Turn) (heard : Heard) → IsNoReply heard → IsAnswer g view turn heard → own_turn turn heard ≡ []
 no-event g view (Do action) Start none h = refl
-no-event g view (Do action) (Answer reply) none h = absurd none
+no-event g view (Do action) (Answer reply) none h = absurd (none reply refl)
 no-event g view (Do action) PutDone none h = refl
 no-event g view (Do action) PutFull none h = refl
 no-event g view (Do action) (Took page) none h = refl
@@ -103,10 +104,51 @@ noted-none kinds made_of awaits_of c heard turns last none h answer = subst (λ 
 
 -- The turn.
 
+-- a stage speaks of neither the counter nor the turn that is kept
+at-kept : {F M X : Type 0} (kinds : FaultKinds M X) (made_of : F → M) (awaits_of : F → Geometry → View → Own → Action → Type 0) (stage : CpuStage) (c : Processor F) (counter : Counter) (turn : Turn) (turns : Turns) (last : Option Turn)
+    → IsAtCpuStage kinds made_of awaits_of stage c turns last → IsAtCpuStage kinds made_of awaits_of stage (record c { counter = counter; given = turn }) turns last
+at-kept kinds made_of awaits_of New c counter turn turns last h = record { none = h.none; start = h.start; fresh = h.fresh; results = h.results; loads = h.loads }
+at-kept kinds made_of awaits_of Opening c counter turn turns last h = record {
+  own = h.own;
+  action = h.action;
+  given = h.given;
+  is = h.is;
+  awaited = h.awaited;
+  same = h.same;
+  counted = h.counted;
+  results = h.results;
+  loads = h.loads;
+  silent = h.silent;
+}
+at-kept kinds made_of awaits_of Accessing c counter turn turns last h = record {
+  turn = h.turn;
+  given = h.given;
+  front = h.front;
+  inner = h.inner;
+  run = record {
+    done = h.run.done;
+    line = h.run.line;
+    lines = h.run.lines;
+    more = h.run.more;
+    between = record { is = h.run.between.is; as_many = h.run.between.as_many; loads = h.run.between.loads; follows = h.run.between.follows };
+    is = h.run.is;
+    access = h.run.access;
+    held = h.run.held;
+    due = h.run.due;
+  };
+  awaited = h.awaited;
+}
+at-kept kinds made_of awaits_of Ending c counter turn turns last h = record { given = h.given; same = h.same; ends = h.ends; counted = h.counted; as_many = h.as_many; follows = h.follows; due = h.due }
+at-kept kinds made_of awaits_of Over c counter turn turns last h = h
+
+pub turn-kept : {F M X : Type 0} (kinds : FaultKinds M X) (made_of : F → M) (awaits_of : F → Geometry → View → Own → Action → Type 0) (c : Processor F) (counter : Counter) (turn : Turn) (turns : Turns) (last : Option Turn)
+    → IsAtTurn kinds made_of awaits_of c turns last → IsAtTurn kinds made_of awaits_of (record c { counter = counter; given = turn }) turns last
+turn-kept kinds made_of awaits_of c counter turn turns last h = record { cpu = h.cpu; room = h.room; next = h.next; permitted = h.permitted; at = at-kept kinds made_of awaits_of c.stage c counter turn turns last h.at }
+
 -- what is agreed with speaks of all but the counter
 pub at-noted : {F M X : Type 0} (kinds : FaultKinds M X) (made_of : F → M) (awaits_of : F → Geometry → View → Own → Action → Type 0) (c n : Processor F) (turns : Turns) (last : Option Turn) → n ≡ record c { counter = n.counter }
     → IsAtTurn kinds made_of awaits_of c turns last → IsAtTurn kinds made_of awaits_of n turns last
-at-noted {F} kinds made_of awaits_of c n turns last rest h = subst (λ (x : Processor F). IsAtTurn kinds made_of awaits_of x turns last) (sym rest) h
+at-noted {F} kinds made_of awaits_of c n turns last rest h = subst (λ (x : Processor F). IsAtTurn kinds made_of awaits_of x turns last) (sym rest) (turn-kept kinds made_of awaits_of c n.counter c.given turns last h)
 
 answer-noted : {F : Type 0} (c n : Processor F) (turns : Turns) (last : Option Turn) (heard : Heard) → n ≡ record c { counter = n.counter } → IsAnswerTo (geometry_of c) (opened_view c turns) last heard → IsAnswerTo (geometry_of n) (opened_view n turns) last heard
 answer-noted {F} c n turns last heard rest h = subst (λ (x : Processor F). IsAnswerTo (geometry_of x) (opened_view x turns) last heard) (sym rest) h
@@ -130,7 +172,7 @@ turn-follows {F} kinds made_of awaits_of c n d turn heard turns last rest pages 
     record {
       agreed = record {
         part = a.part d.counter.tally events.tally;
-        at = a.at;
+        at = turn-kept kinds made_of awaits_of d d.counter turn (answered last heard turns) (Some turn) a.at;
         events = events;
         pages = ap (λ (k : Counter). length k.locked.items) counter ∙ (pages ∙ (h.pages ∙ sym (ap (λ (m : CpuMade). page_count m.geometry.now) same)));
         kept = refl;

@@ -1,5 +1,5 @@
 -- The first catch up of a processor.
-use Rattle.std.proofs.Common.{◌≡◌, ◌≢◌, ℕ, ◌<◌, ◌≤◌, List, [], ◌∷◌, ◌++◌, length, IsSome, Option, Some, None, refl, sym, ap, ◌∙◌, subst, arith}
+use Rattle.std.proofs.Common.{◌≡◌, ◌≢◌, ℕ, ◌<◌, ◌≤◌, List, [], ◌∷◌, ◌++◌, length, Bool, true, false, Option, Some, None, refl, sym, ap, ◌∙◌, subst, arith}
 use Rattle.std.specs.List.{AllByRecursion}
 use Rattle.std.proofs.lemmas.List.{append-nil}
 use Rattle.nm_base.specs.Geometry.{Geometry}
@@ -23,7 +23,6 @@ use Rattle.nm_part.proofs.Patterns.{left-start, left-after}
 use Rattle.nm_actor.specs.Turns.{Turns, own_list}
 use Rattle.nm_actor.specs.Actors.{IsAnswerTo, answered, HasHeard}
 use Rattle.nm_desk.specs.Desk.{desk}
-use Rattle.nm_xlat.specs.declared.translations.Entry.{Entry}
 use Rattle.nm_catchup.specs.declared.cache.TranslationCache.{TranslationCache}
 use Rattle.nm_catchup.specs.declared.cache.CatchStage.TheVariants.{Polling}
 use Rattle.nm_catchup.specs.CatchUp.{Kept, CatchesUp}
@@ -71,17 +70,20 @@ between-first c more turns results loads silent of =
 
 -- The start.
 
+no-true : false ≡ true → ⊥
+no-true e = cc
+
+none-is : {A : Type 0} {x : A} → None ≡ Some x → ⊥
+none-is e = cc
+
 fresh-kept : (g : Geometry) (number : ℕ) (program : List Line) → IsCpu g number program → IsKeptWith g fresh_kept (opening g number)
 fresh-kept g number program cpu = record {
   geometry = cpu.geometry;
   processor = cpu.exists;
-  range = λ page some. elim some [ ];
-  cached = λ page e is. absurd (none e is);
+  range = λ page some. absurd (no-true some);
+  cached = λ page e is. absurd (none-is is);
   acked = tt;
 }
-  where
-    none : (e : Entry) → None ≡ Some e → ⊥
-    none e is = cc
 
 -- the first turn
 pub new-goes : {F M X : Type 0} (kinds : FaultKinds M X) (made_of : F → M) (awaits_of : F → Geometry → View → Own → Action → Type 0) (c : Processor F) (a : Access F) (action : Action) (turns : Turns) (last : Option Turn) (heard : Heard)
