@@ -1,44 +1,31 @@
 -- An access of a line goes on, or is over.
-use Rattle.std.proofs.Common.{◌≡◌, ◌≢◌, ℕ, suc, ◌+◌, ◌<◌, ◌≤◌, List, [], ◌∷◌, ◌++◌, length, get_or, vec_capacity, Option, Some, None, refl, sym, ap, ◌∙◌, subst, append_assoc, arith, length-append}
-use Rattle.std.specs.List.{AllByRecursion}
+use Rattle.std.proofs.Common.{◌≡◌, ℕ, List, [], ◌∷◌, ◌++◌, Option, sym, ap, ◌∙◌, subst, append_assoc}
 use Rattle.std.proofs.lemmas.List.{append-nil}
 use Rattle.nm_base.specs.Geometry.{Geometry}
 use Rattle.nm_action.specs.declared.action.Action.{Action}
-use Rattle.nm_action.specs.declared.action.Reply.TheVariants.{Word}
 use Rattle.nm_action.specs.declared.turn.Turn.{Turn}
 use Rattle.nm_action.specs.declared.turn.Heard.{Heard}
-use Rattle.nm_action.specs.declared.turn.Heard.TheVariants.{Answer}
 use Rattle.nm_action.specs.Own.{Own}
 use Rattle.nm_flat.specs.declared.access.Access as flat
 use Rattle.nm_view.specs.Views.{View}
 use Rattle.nm_view.specs.Opening.{opening}
-use Rattle.nm_part.specs.Patterns.{IsLeft}
-use Rattle.nm_part.proofs.Patterns.{left-after}
 use Rattle.nm_actor.specs.Turns.{Turns, own_turn, own_list}
 use Rattle.nm_actor.specs.Actors.{IsAnswer, IsAnswerTo, IsPermittedTurn, answered, HasHeard}
-use Rattle.nm_catchup.specs.Catching.{kept_of}
-use Rattle.nm_access.specs.declared.made.AccessMade.{AccessMade}
 use Rattle.nm_access.specs.declared.access.Access.{Access}
 use Rattle.nm_access.specs.declared.access.AccessStep.{AccessStep}
 use Rattle.nm_access.specs.declared.access.AccessStep.TheVariants.{Give, Over}
-use Rattle.nm_access.specs.Faults.{FaultKinds, ends_tally}
-use Rattle.nm_access.specs.Accesses.{Carried, Accessed, IsWholeAccess}
-use Rattle.nm_access.specs.Accessing.{IsAccessReady, IsAccessAsked, IsAccessHeard, IsAccessOver, IsTouched, DoesTouch, view_then}
+use Rattle.nm_access.specs.Faults.{FaultKinds}
+use Rattle.nm_access.specs.Accesses.{Carried}
+use Rattle.nm_access.specs.Accessing.{IsAccessHeard, IsTouched, DoesTouch, view_then}
 use Rattle.nm_access.specs.Moving.{AwaitsOf, IsStepOf}
 use Rattle.nm_access.proofs.TurnSteps.{then-append}
-use Rattle.nm_script.specs.declared.script.Line.{Line}
-use Rattle.nm_report.specs.declared.line_result.LineResult.{LineResult}
 use Rattle.nm_cpu.specs.declared.actor.Processor.{Processor}
 use Rattle.nm_cpu.specs.declared.actor.CpuStage.{CpuStage}
 use Rattle.nm_cpu.specs.declared.actor.CpuStage.TheVariants.{Accessing}
-use Rattle.nm_cpu.specs.Programs.{CpuEnd, IsLineOf, IsCpu, line_access, held_with, LinesMade, IsProgramMade}
-use Rattle.nm_cpu.specs.Lines.{own_accesses, line_result, AreLoadsOf, IsLoadsOf, after_access, after_line, AccessLeft, NextLeft, HasFollowed}
-use Rattle.nm_cpu.specs.Agreeing.{geometry_of, program_of, opened_view, accesses_of_turns, line_touch, IsBetween, IsAtNext, IsInAccess, IsUnderWay, HasTouched, IsAtAccess, IsAtCpuStage, IsAtTurn, IsAdvanced}
-use Rattle.nm_cpu.proofs.Touched.{followed-some, followed-again}
+use Rattle.nm_cpu.specs.Lines.{own_accesses, HasFollowed}
+use Rattle.nm_cpu.specs.Agreeing.{geometry_of, opened_view, accesses_of_turns, line_touch, IsBetween, IsUnderWay, HasTouched, IsAtAccess, IsAtCpuStage, IsAtTurn, IsAdvanced}
 use Rattle.nm_cpu.proofs.Silent.{accesses-push, silent-stage, touched-stage}
-use Rattle.nm_cpu.proofs.Lines.{lines-begin, left-gave, left-again}
 use Rattle.nm_cpu.proofs.Going.{access-given}
-use Rattle.nm_cpu.proofs.Opening.{first-of}
 
 -- An access hears an answer.
 
@@ -87,9 +74,9 @@ access-goes-on {F} {M} {X} kinds made_of awaits_of c new heard step turn turns l
     let view = opened_view c a.front in
     let inner : Turns = a.inner ++ (a.turn, heard) ∷ [] in
     let asked : IsStepOf kinds made_of awaits_of new g a.run.held view inner (Give turn) = subst (λ (s : AccessStep). IsStepOf kinds made_of awaits_of new g a.run.held view inner s) is
-        (steps g a.run.held view a.inner a.turn a.awaited (access-answer kinds made_of awaits_of c turns last heard a answer)) in
+    (steps g a.run.held view a.inner a.turn a.awaited (access-answer kinds made_of awaits_of c turns last heard a answer)) in
     let quiet = silent-stage kinds c.access.made c.access.stage c.access.hinted (made_of c.access.fault) (awaits_of c.access.fault) c.access.cache a.awaited.ends g a.run.held view a.inner a.turn
-        (subst (λ (s : AccessStep). DoesTouch c.access.stage heard s) is touch) a.awaited.at c.made.number heard in
+    (subst (λ (s : AccessStep). DoesTouch c.access.stage heard s) is touch) a.awaited.at c.made.number heard in
     let list = access-turns kinds made_of awaits_of c turns last heard a in
     let all : accesses_of_turns c (answered last heard turns) ≡ accesses_of_turns c turns = access-list kinds made_of awaits_of c turns last heard [] a quiet ∙ append-nil (accesses_of_turns c turns) in
     let B : List flat.Access → Type 0 = λ l. HasFollowed c.made.number a.run.done (a.run.line ∷ a.run.lines) c.results.items c.loads l in
@@ -114,10 +101,10 @@ access-over {F} {M} {X} kinds made_of awaits_of c new heard step word turns last
     let view = opened_view c a.front in
     let inner : Turns = a.inner ++ (a.turn, heard) ∷ [] in
     let over : IsStepOf kinds made_of awaits_of new g a.run.held view inner (Over word) = subst (λ (s : AccessStep). IsStepOf kinds made_of awaits_of new g a.run.held view inner s) is
-        (steps g a.run.held view a.inner a.turn a.awaited (access-answer kinds made_of awaits_of c turns last heard a answer)) in
+    (steps g a.run.held view a.inner a.turn a.awaited (access-answer kinds made_of awaits_of c turns last heard a answer)) in
     let told : IsTouched c.access.stage heard word = subst (λ (s : AccessStep). DoesTouch c.access.stage heard s) is touch in
     let one = touched-stage kinds c.access.made c.access.stage c.access.hinted (made_of c.access.fault) (awaits_of c.access.fault) c.access.cache a.awaited.ends g a.run.held view a.inner a.turn heard c.made.number word a.run.line
-        told.last told.told a.run.access a.awaited.at in
+    told.last told.told a.run.access a.awaited.at in
     record {
       cpu = h.cpu;
       way = record { done = a.run.done; line = a.run.line; lines = a.run.lines; more = a.run.more; is = a.run.between.is; as_many = a.run.between.as_many; loads = a.run.between.loads; room = h.room };

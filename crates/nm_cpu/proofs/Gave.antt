@@ -1,5 +1,5 @@
 -- A line gave something, or is tried again.
-use Rattle.std.proofs.Common.{◌≡◌, ℕ, ◌+◌, ◌<◌, ◌≤◌, List, [], ◌∷◌, ◌++◌, length, get_or, vec_capacity, vec_len, Option, Some, None, refl, sym, ap, ◌∙◌, subst, append_assoc, arith, length-append}
+use Rattle.std.proofs.Common.{◌≡◌, ℕ, ◌+◌, ◌<◌, ◌≤◌, List, [], ◌∷◌, ◌++◌, length, get_or, vec_capacity, Some, None, refl, sym, ap, ◌∙◌, subst, append_assoc, arith, length-append}
 use Rattle.std.specs.List.{AllByRecursion}
 use Rattle.nm_base.specs.Geometry.{Geometry}
 use Rattle.nm_flat.specs.declared.access.Access as flat
@@ -11,7 +11,7 @@ use Rattle.nm_actor.specs.Turns.{Turns}
 use Rattle.nm_catchup.specs.Catching.{kept_of}
 use Rattle.nm_access.specs.declared.made.AccessMade.{AccessMade}
 use Rattle.nm_access.specs.declared.access.Access.{Access}
-use Rattle.nm_access.specs.Faults.{FaultKinds, ends_tally}
+use Rattle.nm_access.specs.Faults.{FaultKinds}
 use Rattle.nm_access.specs.Accesses.{Accessed, IsWholeAccess}
 use Rattle.nm_access.specs.Accessing.{IsAccessReady}
 use Rattle.nm_access.proofs.TurnSteps.{then-append}
@@ -20,12 +20,11 @@ use Rattle.nm_script.specs.declared.script.Line.TheVariants.{Load, Store, Add, A
 use Rattle.nm_report.specs.declared.line_result.LineResult.{LineResult}
 use Rattle.nm_cpu.specs.declared.actor.Processor.{Processor}
 use Rattle.nm_cpu.specs.declared.made.CpuMade.{CpuMade}
-use Rattle.nm_cpu.specs.Programs.{CpuEnd, IsLineOf, line_access, held_with, LinesMade, IsProgramMade}
+use Rattle.nm_cpu.specs.Programs.{CpuEnd, IsLineOf, line_access, held_with, IsProgramMade}
 use Rattle.nm_cpu.specs.Lines.{HasLoadsLeft, line_result, IsLoadsOf, after_access, after_line, NextLeft, HasFollowed}
-use Rattle.nm_cpu.specs.Agreeing.{geometry_of, program_of, opened_view, accesses_of_turns, line_touch, IsAtNext, IsUnderWay, HasTouched}
-use Rattle.nm_cpu.proofs.Touched.{followed-some, followed-again, some-none}
+use Rattle.nm_cpu.specs.Agreeing.{geometry_of, program_of, opened_view, accesses_of_turns, IsAtNext, IsUnderWay, HasTouched}
+use Rattle.nm_cpu.proofs.Touched.{followed-some, followed-again}
 use Rattle.nm_cpu.proofs.Lines.{lines-begin, left-gave, left-again}
-use Rattle.nm_cpu.proofs.Mapped.{IsFirstLine, line-at}
 use Rattle.nm_cpu.proofs.Opening.{first-of}
 
 -- What the code needs.
@@ -64,7 +63,7 @@ over-ready kinds c word turns t =
     subst T (sym t.is) (subst R (sym (then-append g (opening g c.made.number) t.front t.inner)) t.over.ready)
 
 -- what the access came to
-over-end : {F M X : Type 0} (kinds : FaultKinds M X) (c : Processor F) (word : ℕ) (turns : Turns) → HasTouched kinds c word turns → Accessed X
+abbrev over-end : {F M X : Type 0} (kinds : FaultKinds M X) (c : Processor F) (word : ℕ) (turns : Turns) → HasTouched kinds c word turns → Accessed X
 over-end kinds c word turns t = record { held = held_with (kept_of c.access.cache) t.over.ends; word = word }
 
 over-left : {F M X : Type 0} (kinds : FaultKinds M X) (c : Processor F) (word : ℕ) (turns : Turns) → (t : HasTouched kinds c word turns)
@@ -93,7 +92,7 @@ line-gave {F} {M} {X} kinds c d line at n word result turns number is gives made
     let L : List LineResult → Type 0 = λ r. IsLeft whole turns (NextLeft kinds g w.lines r 0 begins.more (held_with (kept_of c.access.cache) t.over.ends)) in
     let A : List flat.Access → List LineResult → Type 0 = λ l r. HasFollowed c.made.number (w.done ++ w.line ∷ []) w.lines r 0 l in
     let followed : A (accesses_of_turns c turns) d.results.items = subst (λ (r : List LineResult). A (accesses_of_turns c turns) r) (sym items) (subst (λ (l : List flat.Access). A l (c.results.items ++ result ∷ [])) (sym t.touched)
-        (followed-some c.made.number w.done w.line w.lines c.results.items c.loads w.more word result t.list w.as_many gives' w.loads t.follows)) in
+    (followed-some c.made.number w.done w.line w.lines c.results.items c.loads w.more word result t.list w.as_many gives' w.loads t.follows)) in
     let P : CpuMade → Access F → ℕ → Type 0 = λ m a k. IsAtNext kinds (record d { made = m; access = a; loads = k }) turns in
     let there : P c.made c.access 0 = record {
       done = w.done ++ w.line ∷ [];
@@ -120,16 +119,16 @@ line-gave {F} {M} {X} kinds c d line at n word result turns number is gives made
     behind (x ∷ done) line lines g all l rest is = behind done line lines g all.1 l rest is
 
 -- the line is tried again
-pub line-again : {F M X : Type 0} (kinds : FaultKinds M X) (c : Processor F) (line at : Line) (n word : ℕ) (turns : Turns)
-    → n ≡ length c.results.items → get_or (program_of c) n at ≡ line → line_result line c.loads word ≡ None → HasTouched kinds c word turns → IsAtNext kinds (record c { loads = c.loads + 1 }) turns
-line-again {F} {M} {X} kinds c line at n word turns number is gives t =
+pub line-again : {F M X : Type 0} (kinds : FaultKinds M X) (c d : Processor F) (line at : Line) (n word : ℕ) (turns : Turns)
+    → n ≡ length c.results.items → get_or (program_of c) n at ≡ line → line_result line c.loads word ≡ None → d ≡ record c { loads = c.loads + 1 } → HasTouched kinds c word turns → IsAtNext kinds d turns
+line-again {F} {M} {X} kinds c d line at n word turns number is gives same t =
     let g = geometry_of c in
     let w = t.way in
     let whole = IsProgramMade kinds g (program_of c) in
     let gives' : line_result w.line c.loads word ≡ None = ap (λ (l : Line). line_result l c.loads word) (sym (way-line c at n number w) ∙ is) ∙ gives in
     let again = left-again kinds g whole turns w.line w.lines c.results.items c.loads w.more (over-end kinds c word turns t) gives' w.loads (over-left kinds c word turns t) in
     let A : List flat.Access → Type 0 = λ l. HasFollowed c.made.number w.done (w.line ∷ w.lines) c.results.items (c.loads + 1) l in
-    record {
+    subst (λ (x : Processor F). IsAtNext kinds x turns) (sym same) (record {
       done = w.done;
       lines = w.line ∷ w.lines;
       more = again.more;
@@ -146,4 +145,4 @@ line-again {F} {M} {X} kinds c line at n word turns number is gives t =
       counted = t.over.counted;
       ready = over-ready kinds c word turns t;
       due = again.due;
-    }
+    })

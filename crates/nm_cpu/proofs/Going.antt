@@ -1,5 +1,5 @@
 -- Turns that a processor gives while it goes on.
-use Rattle.std.proofs.Common.{◌≡◌, ◌≢◌, ℕ, ◌<◌, ◌≤◌, Bool, true, false, List, [], ◌∷◌, ◌++◌, length, get_or, vec_capacity, Option, Some, None, refl, sym, ap, ◌∙◌, subst}
+use Rattle.std.proofs.Common.{◌≡◌, ◌≢◌, ℕ, ◌<◌, ◌≤◌, Bool, false, List, [], ◌∷◌, ◌++◌, length, get_or, vec_capacity, Some, refl, sym, ap, ◌∙◌, subst}
 use Rattle.std.specs.List.{AllByRecursion}
 use Rattle.std.proofs.lemmas.List.{append-nil}
 use Rattle.nm_base.specs.Geometry.{Geometry}
@@ -15,12 +15,10 @@ use Rattle.nm_action.specs.declared.turn.Heard.TheVariants.{Answer}
 use Rattle.nm_action.specs.Own.{Own}
 use Rattle.nm_action.specs.Tally.{sum_of}
 use Rattle.nm_view.specs.Views.{View}
-use Rattle.nm_part.specs.Patterns.{Ends, Follows, IsLeft}
-use Rattle.nm_part.proofs.Patterns.{can-ends}
+use Rattle.nm_part.specs.Patterns.{IsLeft}
 use Rattle.nm_tally.specs.Counts.{events_tally}
 use Rattle.nm_actor.specs.Turns.{Turns, own_list}
 use Rattle.nm_actor.specs.Actors.{IsPermittedTurn}
-use Rattle.nm_catchup.specs.CatchUp.{Kept}
 use Rattle.nm_catchup.specs.Catching.{kept_of}
 use Rattle.nm_catchup.specs.declared.cache.TranslationCache.{TranslationCache}
 use Rattle.nm_access.specs.declared.made.AccessMade.{AccessMade}
@@ -28,23 +26,22 @@ use Rattle.nm_access.specs.declared.access.Access.{Access}
 use Rattle.nm_access.specs.declared.access.AccessStage.{AccessStage}
 use Rattle.nm_access.specs.declared.access.AccessStage.TheVariants as accesses
 use Rattle.nm_access.specs.declared.access.AccessStep.TheVariants.{Give}
-use Rattle.nm_access.specs.Turning.{Hears, IsTurnBegun}
+use Rattle.nm_access.specs.Turning.{IsTurnBegun}
 use Rattle.nm_access.specs.Faults.{FaultKinds, ends_tally}
-use Rattle.nm_access.specs.Accesses.{Carried, Accessed, IsWholeAccess}
+use Rattle.nm_access.specs.Accesses.{Carried, IsWholeAccess}
 use Rattle.nm_access.specs.Accessing.{IsAccessMade, IsAtAccessStage}
 use Rattle.nm_access.specs.Moving.{AwaitsOf, IsStepOf, IsOpening}
-use Rattle.nm_access.proofs.Ends.{some-heard}
 use Rattle.nm_script.specs.declared.script.Line.{Line}
 use Rattle.nm_report.specs.Follows.{AreMade}
 use Rattle.nm_cpu.specs.declared.actor.Processor.{Processor}
 use Rattle.nm_cpu.specs.declared.actor.CpuStage.{CpuStage}
 use Rattle.nm_cpu.specs.declared.actor.CpuStage.TheVariants.{Accessing, Ending}
-use Rattle.nm_cpu.specs.Programs.{CpuEnd, IsLineOf, IsCpu, line_access, held_with, LinesMade, IsProgramMade}
-use Rattle.nm_cpu.specs.Lines.{own_accesses, AccessLeft, NextLeft, after_access, after_line}
+use Rattle.nm_cpu.specs.Programs.{CpuEnd, IsLineOf, IsCpu, line_access, held_with, IsProgramMade}
+use Rattle.nm_cpu.specs.Lines.{AccessLeft, NextLeft, after_access, after_line}
 use Rattle.nm_cpu.specs.Parts.{IsCpuPart}
-use Rattle.nm_cpu.specs.Agreeing.{geometry_of, program_of, opened_view, accesses_of_turns, IsBetween, IsAtNext, IsInAccess, IsAtAccess, IsAtEnding, IsAtCpuStage, ComesNext, is_end, IsAdvanced}
+use Rattle.nm_cpu.specs.Agreeing.{geometry_of, program_of, opened_view, accesses_of_turns, IsBetween, IsAtNext, IsAtAccess, IsAtEnding, IsAtCpuStage, ComesNext, is_end, IsAdvanced}
 use Rattle.nm_cpu.proofs.Followed.{followed-part, followed-all}
-use Rattle.nm_cpu.proofs.Mapped.{line-made, one-line, IsFirstLine, line-at, none-left}
+use Rattle.nm_cpu.proofs.Mapped.{line-made, one-line, line-at, none-left}
 use Rattle.nm_cpu.proofs.Ends.{after-access-can, turns-begun, inside-begun}
 
 -- Turns that are not End.
@@ -188,7 +185,11 @@ ending-begins {F} {M} {X} kinds made_of awaits_of c n turns number all h =
     (record { range = tt; permitted = record { processor = h.ready.all.processor; polled = tt } })
     (record {
       heard = Answer replies.Done;
-      can = record { rest = []; outcome = last; shown = subst (λ (l : Turns). IsProgramMade kinds (geometry_of c) (program_of c) l last) (sym (append-nil (turns ++ (Do (Ack ack.End), Answer replies.Done) ∷ []))) (due.carry ((Do (Ack ack.End), Answer replies.Done) ∷ []) last
-          (record { end = Answer replies.Done; front = (Do (Ack ack.End), Answer replies.Done) ∷ []; back = []; shown = record { is = refl; kind = λ view. tt }; rest = record { none = refl; is = refl }; is = refl })) };
+      can = record {
+        rest = [];
+        outcome = last;
+        shown = subst (λ (l : Turns). IsProgramMade kinds (geometry_of c) (program_of c) l last) (sym (append-nil (turns ++ (Do (Ack ack.End), Answer replies.Done) ∷ []))) (due.carry ((Do (Ack ack.End), Answer replies.Done) ∷ []) last
+            (record { end = Answer replies.Done; front = (Do (Ack ack.End), Answer replies.Done) ∷ []; back = []; shown = record { is = refl; kind = λ view. tt }; rest = record { none = refl; is = refl }; is = refl }));
+      };
     })
     h.cpu h.room (between-as c c.access Ending h.done [] h.more turns between) h.counted here

@@ -1,15 +1,14 @@
 -- The accesses of a program's lines may be made.
-use Rattle.std.proofs.Common.{◌≡◌, ℕ, zero, suc, Bool, true, false, ◌<◌, ◌≤◌, List, [], ◌∷◌, ◌++◌, length, get_or, option_map, IsSome, IsSomeAnd, Option, Some, None, refl, sym, ap, ◌∙◌, subst, arith}
+use Rattle.std.proofs.Common.{◌≡◌, ℕ, zero, suc, true, false, ◌<◌, ◌≤◌, List, [], ◌∷◌, ◌++◌, length, get_or, option_map, IsSome, IsSomeAnd, Option, Some, None, refl, sym, ap, subst, arith}
 use Rattle.std.specs.List.{AllByRecursion}
 use Rattle.nm_base.specs.declared.geometry.VPage.{VPage}
-use Rattle.nm_base.specs.Geometry.{Geometry, IsGeometry, vpage_at, backing_page, IsWritable}
-use Rattle.nm_base.specs.Ranges.{IsVPage, IsPage}
+use Rattle.nm_base.specs.Geometry.{Geometry, IsGeometry, vpage_at, backing_page}
 use Rattle.nm_base.proofs.Pages.{backing_page-lt}
 use Rattle.nm_access.specs.declared.made.Touch.{Touch}
 use Rattle.nm_access.specs.Accessing.{IsTouchWord, IsAccessMade}
 use Rattle.nm_script.specs.declared.script.Line.{Line}
 use Rattle.nm_script.specs.declared.script.Line.TheVariants.{Load, Store, Add, Await}
-use Rattle.nm_cpu.specs.Programs.{IsLineOf, IsCpu, page_or, access_to, line_access}
+use Rattle.nm_cpu.specs.Programs.{IsLineOf, page_or, access_to, line_access}
 
 no-true : false ≡ true → ⊥
 no-true e = cc

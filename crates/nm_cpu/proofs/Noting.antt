@@ -1,5 +1,5 @@
 -- The event of an answer is counted, and the next turn is given.
-use Rattle.std.proofs.Common.{◌≡◌, ℕ, ◌<◌, ◌≤◌, List, [], ◌∷◌, ◌++◌, length, vec_capacity, Option, Some, None, refl, sym, ap, ◌∙◌, subst}
+use Rattle.std.proofs.Common.{◌≡◌, ℕ, [], ◌∷◌, ◌++◌, length, Option, Some, None, refl, sym, ap, ◌∙◌, subst}
 use Rattle.std.proofs.lemmas.List.{append-nil}
 use Rattle.nm_base.specs.Geometry.{Geometry, page_count}
 use Rattle.nm_action.specs.declared.action.Action.{Action}
@@ -9,7 +9,6 @@ use Rattle.nm_action.specs.declared.turn.Turn.TheVariants.{Do, Put, Take, End}
 use Rattle.nm_action.specs.declared.turn.Heard.{Heard}
 use Rattle.nm_action.specs.declared.turn.Heard.TheVariants.{Start, Answer, PutDone, PutFull, Took, TookNone}
 use Rattle.nm_action.specs.Own.{Own}
-use Rattle.nm_action.specs.Tally.{sum_of}
 use Rattle.nm_view.specs.Views.{View}
 use Rattle.nm_tally.specs.declared.counter.Counter.{Counter}
 use Rattle.nm_tally.specs.Counting.{IsCountable, CountsEvents}

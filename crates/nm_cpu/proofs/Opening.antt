@@ -1,7 +1,6 @@
 -- The first catch up of a processor.
-use Rattle.std.proofs.Common.{◌≡◌, ◌≢◌, ℕ, ◌<◌, ◌≤◌, List, [], ◌∷◌, ◌++◌, length, Bool, true, false, Option, Some, None, refl, sym, ap, ◌∙◌, subst, arith}
+use Rattle.std.proofs.Common.{◌≡◌, ℕ, List, [], ◌∷◌, ◌++◌, length, true, false, Option, Some, None, refl, sym, ap, ◌∙◌, subst}
 use Rattle.std.specs.List.{AllByRecursion}
-use Rattle.std.proofs.lemmas.List.{append-nil}
 use Rattle.nm_base.specs.Geometry.{Geometry}
 use Rattle.nm_action.specs.declared.action.Action.{Action}
 use Rattle.nm_action.specs.declared.action.Action.TheVariants.{Poll}
@@ -11,8 +10,9 @@ use Rattle.nm_action.specs.declared.turn.Step.TheVariants as steps
 use Rattle.nm_action.specs.declared.turn.Turn.{Turn}
 use Rattle.nm_action.specs.declared.turn.Turn.TheVariants.{Do}
 use Rattle.nm_action.specs.declared.turn.Heard.{Heard}
-use Rattle.nm_action.specs.declared.turn.Heard.TheVariants.{Start, Answer, PutDone, PutFull, Took, TookNone}
+use Rattle.nm_action.specs.declared.turn.Heard.TheVariants.{Answer}
 use Rattle.nm_action.specs.Own.{Own}
+use Rattle.nm_flat.specs.declared.access.Access as flat
 use Rattle.nm_view.specs.Views.{View}
 use Rattle.nm_view.specs.Opening.{opening}
 use Rattle.nm_permit.specs.Permitted.{Allowed}
@@ -20,16 +20,15 @@ use Rattle.nm_event.specs.Fitting.{Fits}
 use Rattle.nm_event.specs.After.{view_after}
 use Rattle.nm_part.specs.Patterns.{IsLeft}
 use Rattle.nm_part.proofs.Patterns.{left-start, left-after}
-use Rattle.nm_actor.specs.Turns.{Turns, own_list}
+use Rattle.nm_actor.specs.Turns.{Turns, own_turn, own_list}
 use Rattle.nm_actor.specs.Actors.{IsAnswerTo, answered, HasHeard}
-use Rattle.nm_desk.specs.Desk.{desk}
 use Rattle.nm_catchup.specs.declared.cache.TranslationCache.{TranslationCache}
 use Rattle.nm_catchup.specs.declared.cache.CatchStage.TheVariants.{Polling}
 use Rattle.nm_catchup.specs.CatchUp.{Kept, CatchesUp}
-use Rattle.nm_catchup.specs.Catching.{kept_of, IsKeptWith, AwaitsCatch, IsCatchHeard, IsCatchAsked, IsCaughtUp, IsCatchStep}
+use Rattle.nm_catchup.specs.Catching.{kept_of, catch_action, IsKeptWith, AwaitsCatch, IsCatchHeard, IsCatchAsked, IsCaughtUp, IsCatchStep}
 use Rattle.nm_access.specs.declared.access.Access.{Access}
 use Rattle.nm_access.specs.Turning.{Acts, action_turns}
-use Rattle.nm_access.specs.Faults.{FaultKinds, HasNothingOpen, ends_tally}
+use Rattle.nm_access.specs.Faults.{FaultKinds, ends_tally}
 use Rattle.nm_access.specs.Accessing.{IsAccessReady}
 use Rattle.nm_access.proofs.TurnSteps.{turns-push, own-turns}
 use Rattle.nm_access.proofs.Trying.{poll-awaits, poll-begun, free-as}
@@ -60,12 +59,13 @@ first-of P (l ∷ lines) all line rest is = (subst (λ (x : List Line). AllByRec
 -- no line was made
 pub between-first : {F : Type 0} (c : Processor F) (more : ℕ) (turns : Turns) → c.results.items ≡ [] → c.loads ≡ 0 → accesses_of_turns c turns ≡ [] → AreLoadsOf (program_of c) 0 more → IsBetween c [] (program_of c) more turns
 between-first c more turns results loads silent of =
-    let R : List LineResult → ℕ → _ → Type 0 = λ r n l. HasFollowed c.made.number [] (program_of c) r n l in
+    let R : List LineResult → ℕ → List flat.Access → Type 0 = λ r n l. HasFollowed c.made.number [] (program_of c) r n l in
+    let list = accesses_of_turns c turns in
     record {
       is = refl;
       as_many = sym (ap (λ (r : List LineResult). length r) results);
       loads = subst (λ n. AreLoadsOf (program_of c) n more) (sym loads) of;
-      follows = rw (results, loads, silent) (followed-none c.made.number (program_of c));
+      follows = subst (λ (r : List LineResult). R r c.loads list) (sym results) (subst (λ n. R [] n list) (sym loads) (subst (λ (l : List flat.Access). R [] 0 l) (sym silent) (followed-none c.made.number (program_of c))));
     }
 
 -- The start.
@@ -146,7 +146,7 @@ opening-silent kinds c turns last reply o =
     let A : Action → Type 0 = λ a. own_accesses p (own_list (turns ++ (Do a, Answer reply) ∷ [])) ≡ [] in
     let stage = c.access.cache.stage in
     let T : Option Turn → Type 0 = λ l. own_accesses p (own_list (answered l (Answer reply) turns)) ≡ [] in
-    subst T (sym o.given) (subst A (sym o.awaited.is) (accesses-push p turns (Do _) (Answer reply) ∙ ap (λ l. l ++ own_accesses p _) o.silent ∙ silent-do _ (silent-catch stage) p (Answer reply)))
+    subst T (sym o.given) (subst A (sym o.awaited.is) (accesses-push p turns (Do (catch_action stage)) (Answer reply) ∙ ap (λ (l : List flat.Access). l ++ own_accesses p (own_turn (Do (catch_action stage)) (Answer reply))) o.silent ∙ silent-do (catch_action stage) (silent-catch stage) p (Answer reply)))
 
 -- what the catch up promises of a step
 abbrev pub Opens : TranslationCache → TranslationCache → Reply → Step (Unit {0}) → Type 0
@@ -164,7 +164,7 @@ opening-goes {F} {M} {X} kinds made_of awaits_of c a reply result next turns las
     let own : Own = o.own ++ (o.action, reply) ∷ [] in
     let list = opening-turns kinds c turns last reply o in
     let asked : IsCatchAsked a.cache fresh_kept g (opening g c.made.number) own next = subst (λ (s : Step (Unit {0})). IsCatchStep a.cache fresh_kept g (opening g c.made.number) own s) is
-        (opens fresh_kept g (opening g c.made.number) o.own o.action o.awaited (opening-fits kinds c turns last reply o answer)) in
+    (opens fresh_kept g (opening g c.made.number) o.own o.action o.awaited (opening-fits kinds c turns last reply o answer)) in
     let counted : a.tally ≡ ends_tally kinds.counts [] = ap (λ (x : Access F). x.tally) rest ∙ o.counted in
     let silent : accesses_of_turns c (action_turns own) ≡ [] = subst (λ (t : Turns). accesses_of_turns c t ≡ []) list (opening-silent kinds c turns last reply o) in
     let loads = some-loads g (program_of c) (first-of (IsLineOf g) (program_of c) h.cpu.lines) in
@@ -199,7 +199,7 @@ opening-over {F} {M} {X} kinds made_of awaits_of c a reply result turns last at 
     let list = opening-turns kinds c turns last reply o in
     let start = opening g c.made.number in
     let over : IsCaughtUp a.cache fresh_kept g start own = subst (λ (s : Step (Unit {0})). IsCatchStep a.cache fresh_kept g start own s) is
-        (opens fresh_kept g start o.own o.action o.awaited (opening-fits kinds c turns last reply o answer)) in
+    (opens fresh_kept g start o.own o.action o.awaited (opening-fits kinds c turns last reply o answer)) in
     let silent : accesses_of_turns c (action_turns own) ≡ [] = subst (λ (t : Turns). accesses_of_turns c t ≡ []) list (opening-silent kinds c turns last reply o) in
     let whole = IsProgramMade kinds g (program_of c) in
     let due = left-after whole [] (action_turns own) (Acts (CatchesUp g fresh_kept)) (λ kept. LinesMade kinds g (program_of c) [] (held_with kept [])) (kept_of a.cache) (left-start whole) (record { own = own; is = refl; shown = over.shown }) in

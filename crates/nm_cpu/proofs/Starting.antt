@@ -1,5 +1,5 @@
 -- A processor that has given no turn.
-use Rattle.std.proofs.Common.{◌≡◌, ℕ, ◌≤◌, List, [], length, vec_capacity, Option, None, refl, sym, subst}
+use Rattle.std.proofs.Common.{◌≡◌, ◌≤◌, [], length, vec_capacity, None, refl, sym, subst}
 use Rattle.nm_base.specs.Geometry.{Geometry, page_count}
 use Rattle.nm_action.specs.declared.action.Action.{Action}
 use Rattle.nm_action.specs.Own.{Own}

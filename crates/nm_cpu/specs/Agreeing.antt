@@ -1,13 +1,11 @@
 -- What a processor agrees with, and how far it has come.
-use Rattle.std.specs.Prelude.{◌≡◌, ℕ, ◌+◌, ◌≤◌, Bool, true, false, List, [], ◌∷◌, ◌++◌, length, vec_capacity, Option, Some, None}
+use Rattle.std.specs.Prelude.{◌≡◌, ℕ, ◌≤◌, Bool, true, false, List, [], ◌∷◌, ◌++◌, length, vec_capacity, Option, Some, None}
 use Rattle.nm_base.specs.Geometry.{Geometry, page_count}
 use Rattle.nm_action.specs.declared.action.Action.{Action}
 use Rattle.nm_action.specs.declared.action.AckTo.TheVariants as ack
 use Rattle.nm_action.specs.declared.action.Action.TheVariants.{Ack}
-use Rattle.nm_action.specs.declared.action.Reply.{Reply}
 use Rattle.nm_action.specs.declared.turn.Turn.{Turn}
 use Rattle.nm_action.specs.declared.turn.Turn.TheVariants.{Do, End}
-use Rattle.nm_action.specs.declared.turn.Heard.{Heard}
 use Rattle.nm_action.specs.Own.{Own}
 use Rattle.nm_action.specs.declared.tally.Tally.{Tally}
 use Rattle.nm_action.specs.Tally.{sum_of}
@@ -21,11 +19,10 @@ use Rattle.nm_tally.specs.Counting.{CountsEvents}
 use Rattle.nm_actor.specs.Turns.{Turns, own_list, turns_view}
 use Rattle.nm_actor.specs.Actors.{IsPermittedTurn}
 use Rattle.nm_catchup.specs.Catching.{kept_of, AwaitsCatch}
-use Rattle.nm_access.specs.declared.access.Access.{Access}
 use Rattle.nm_access.specs.Turning.{Hears, action_turns, IsTurnBegun}
 use Rattle.nm_access.specs.Faults.{FaultKinds, ends_tally}
 use Rattle.nm_access.specs.Accesses.{Carried}
-use Rattle.nm_access.specs.Accessing.{IsAccessReady, IsAccessOver, view_then}
+use Rattle.nm_access.specs.Accessing.{IsAccessReady, IsAccessOver}
 use Rattle.nm_access.specs.Moving.{AwaitsOf, IsFresh}
 use Rattle.nm_script.specs.declared.script.Line.{Line}
 use Rattle.nm_script.specs.declared.script.Line.TheVariants.{Load, Store, Add, Await}
@@ -33,7 +30,7 @@ use Rattle.nm_report.specs.Follows.{access_made, AreMade}
 use Rattle.nm_cpu.specs.declared.actor.Processor.{Processor}
 use Rattle.nm_cpu.specs.declared.actor.CpuStage.{CpuStage}
 use Rattle.nm_cpu.specs.declared.actor.CpuStage.TheVariants.{New, Opening, Accessing, Ending, Over}
-use Rattle.nm_cpu.specs.Programs.{fresh_kept, held_with, line_access, LinesMade, IsProgramMade, IsCpu}
+use Rattle.nm_cpu.specs.Programs.{fresh_kept, held_with, line_access, IsProgramMade, IsCpu}
 use Rattle.nm_cpu.specs.Lines.{own_accesses, AreLoadsOf, IsLoadsOf, AccessLeft, NextLeft, HasFollowed}
 use Rattle.nm_cpu.specs.Parts.{IsCpuPart}
 

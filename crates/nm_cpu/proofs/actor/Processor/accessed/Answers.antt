@@ -12,4 +12,4 @@ returns-in-Give-clause-advanced g c = λ turns last h answer.
 
 pub returns-in-Over-clause-advanced : goal.returns-in-Over-clause-advanced
 returns-in-Over-clause-advanced g c = λ turns last h answer.
-    c.touched.ensures.advanced _ (access-over _ g.F.Part.made g.F.Part.awaits c.args.self.now c.after.new.self c.args.heard c.after.result c.in-Over.field-0 turns last c.requires.stage c.after.ensures.made c.in-Over.is c.after.ensures.touched c.after.ensures.step h answer)
+    c.touched.ensures.advanced _ (access-over _ g.F.Part.made g.F.Part.awaits c.args.self.now c.after.new.self c.args.heard c.after.result c.in-Over.word turns last c.requires.stage c.after.ensures.made c.in-Over.is c.after.ensures.touched c.after.ensures.step h answer)
