@@ -29,7 +29,7 @@ use Rattle.nm_access.specs.declared.access.AccessStep.TheVariants.{Give}
 use Rattle.nm_access.specs.Turning.{IsTurnBegun}
 use Rattle.nm_access.specs.Faults.{FaultKinds, ends_tally}
 use Rattle.nm_access.specs.Accesses.{Carried, IsWholeAccess}
-use Rattle.nm_access.specs.Accessing.{IsAccessMade, IsAtAccessStage}
+use Rattle.nm_access.specs.Accessing.{IsTouchWord, IsAccessMade, IsAtAccessStage}
 use Rattle.nm_access.specs.Moving.{AwaitsOf, IsStepOf, IsOpening}
 use Rattle.nm_script.specs.declared.script.Line.{Line}
 use Rattle.nm_report.specs.Follows.{AreMade}
@@ -137,17 +137,17 @@ access-given {F} {M} {X} kinds made_of awaits_of c front inner turn done line li
 -- The next access is begun.
 
 pub access-begins : {F M X : Type 0} (kinds : FaultKinds M X) (made_of : F → M) (awaits_of : F → Geometry → View → Own → Action → Type 0) (c : Processor F) (a : Access F) (made : AccessMade) (turn : Turn) (line d : Line) (n : ℕ) (turns : Turns)
-    → n ≡ length c.results.items → n < length (program_of c) → get_or (program_of c) n d ≡ line → made ≡ line_access (geometry_of c) line → a.made ≡ made
+    → n ≡ length c.results.items → n < length (program_of c) → get_or (program_of c) n d ≡ line → made ≡ line_access (geometry_of c) line → IsTouchWord made.touch → a.made ≡ made
     → ((g : Geometry) (was : Carried X) (view : View) → IsOpening kinds c.access made g was view → IsStepOf kinds made_of awaits_of a g was view [] (Give turn))
     → IsAtNext kinds c turns → IsAdvanced kinds made_of awaits_of (record c { access = a; stage = Accessing }) turns turn
-access-begins {F} {M} {X} kinds made_of awaits_of c a made turn line d n turns number some at access same begins h =
+access-begins {F} {M} {X} kinds made_of awaits_of c a made turn line d n turns number some at access value same begins h =
     let first = line-at (program_of c) h.done h.lines line d n h.between.is (h.between.as_many ∙ sym number) some at in
     let B : List Line → Type 0 = λ l. IsBetween c h.done l h.more turns in
     let between : B (line ∷ first.rest) = subst B first.is h.between in
     let L : List Line → Type 0 = λ l. IsLeft (IsProgramMade kinds (geometry_of c) (program_of c)) turns (NextLeft kinds (geometry_of c) l c.results.items c.loads h.more (held_with (kept_of c.access.cache) h.ends)) in
     let step = begins (geometry_of c) (held_with (kept_of c.access.cache) h.ends) (opened_view c turns) (record {
       same = h.same;
-      may = subst (λ (m : AccessMade). IsAccessMade (geometry_of c) m) (sym access) (line-made (geometry_of c) line h.cpu.geometry (one-line _ h.done first.rest line (subst (λ (l : List Line). AllByRecursion (IsLineOf (geometry_of c)) l) between.is h.cpu.lines)));
+      may = subst (λ (m : AccessMade). IsAccessMade (geometry_of c) m) (sym access) (line-made (geometry_of c) line h.cpu.geometry (one-line _ h.done first.rest line (subst (λ (l : List Line). AllByRecursion (IsLineOf (geometry_of c)) l) between.is h.cpu.lines)) (subst (λ (m : AccessMade). IsTouchWord m.touch) access value));
       kept = refl;
       counted = h.counted;
       ready = h.ready;
