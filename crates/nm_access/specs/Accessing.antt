@@ -275,8 +275,8 @@ IsTurnGiven (Over word) = ⊥
 
 -- the word was touched, and this is what was heard
 pub record IsTouched (stage : AccessStage) (heard : Heard) (word : ℕ) : Type 0 where
-  pub stage : stage ≡ Touching
-  pub heard : heard ≡ Answer (Word word)
+  pub last : stage ≡ Touching
+  pub told : heard ≡ Answer (Word word)
 
 -- an access is over exactly where the word was touched, and with the word that was heard then
 abbrev pub DoesTouch : AccessStage → Heard → AccessStep → Type 0

@@ -390,7 +390,8 @@ impl<'a, F: Faults<'a> + Drop> Access<'a, F> {
         self.mark(word)
     }
 
-    /// The step after what is heard of the last turn. Condition: it answers that turn, and a reply fits.
+    /// The step after what is heard of the last turn. Condition: it answers that turn, and a reply fits. The access is over
+    /// exactly where its word was touched.
     pub fn after(&mut self, heard: Heard) -> AccessStep
         requires { IsAccessHeard (AwaitsOf (fault_kinds F.shape F.leaves F.waits_at F.missing F.shadowed F.counted) F.made F.awaits self.old) heard }
         ensures step { (g : Geometry) (was : Carried F.Outcome) (view : View) (turns : Turns) (turn : Turn) → AwaitsOf (fault_kinds F.shape F.leaves F.waits_at F.missing F.shadowed F.counted) F.made F.awaits self.old g was view turns turn

@@ -100,7 +100,9 @@ impl<'a> Faults<'a> for ProcessorFault<'a> {
         self.task.waits()
     }
 
-    fn counts(end: FaultEnd) -> Tally {
+    fn counts(end: FaultEnd) -> Tally
+        ensures { result ≡ fault_counts end }
+    {
         fault_counts(end)
     }
 }
