@@ -21,7 +21,10 @@ pub(crate) fn is_among(page: u32, pages: &PieceList<u32>) -> bool
     ensures { result ≡ is_among page pages.now }
 {
     for index in 0..pages.len() {
-        if pages.get(index) == Some(page) {
+        let Some(other) = pages.get(index) else {
+            return false
+        };
+        if other == page {
             return true;
         }
     }
