@@ -155,7 +155,7 @@ words-back over m index page count now later task end at h = move-holds m.geomet
 -- the task that comes next is the one that is given from the view after this task
 pub goes-on : (is_new : MigratorPiece → Type 0) (over : MigratorPiece → Geometry → Own → WorkEnd → Type 0) (old new : Migrating) (stage : MigratingStage) (task given : Task MigratorPiece) (end : Ended WorkEnd) (now later : View)
     → old.stage ≡ stage → IsOver over old now later task end → Gives is_new old.geometry.now (spent_after old stage end) new given (left_at old stage end)
-    → IsNextTask work_made is_new MayWork IsWork work_counts (λ now task. IsMigratingAt new now task) (migrating_left new) (migrating_left old end) old.geometry.now later given
+    → IsNextTask work_made is_new MayWork IsWork work_counts (IsMigratingAt new) (migrating_left new) (migrating_left old end) old.geometry.now later given
 goes-on is_new over old new stage task given end now later at h gives =
-    subst (λ (s : MigratingStage). IsNextTask work_made is_new MayWork IsWork work_counts (λ now task. IsMigratingAt new now task) (migrating_left new) (Sometimes (left_at old s end)) old.geometry.now later given) (sym at)
+    subst (λ (s : MigratingStage). IsNextTask work_made is_new MayWork IsWork work_counts (IsMigratingAt new) (migrating_left new) (Sometimes (left_at old s end)) old.geometry.now later given) (sym at)
     (gives later (rest-at old stage end now later (known-at old stage now (task_data work_made task) at h.0) h.0.resting (after-at over old stage now later task end at h)))

@@ -323,7 +323,7 @@ IsNewTask is_new task = Unit {0}
 -- from a view between two tasks the migrator gives this task, where this is left, with some number of rounds
 abbrev pub Gives : (MigratorPiece → Type 0) → Geometry → Spent → Migrating → Task MigratorPiece → (ℕ → Sequence) → Type 0
 Gives is_new g spent new task was = (view : View) → IsResting g spent view
-    → IsNextTask work_made is_new MayWork IsWork work_counts (λ now task. IsMigratingAt new now task) (migrating_left new) (Sometimes was) g view task
+    → IsNextTask work_made is_new MayWork IsWork work_counts (IsMigratingAt new) (migrating_left new) (Sometimes was) g view task
 
 -- there is a piece for the task of a stage
 abbrev pub MayGo : Migrating → MigratingStage → Type 0

@@ -1,5 +1,5 @@
 -- The pieces of the migrator's work: what they are made with, when they may begin, their finished lists, and what they leave.
-use Rattle.std.specs.Prelude.{ℕ, Bool, List}
+use Rattle.std.specs.Prelude.{◌≡◌, ℕ, Bool, List}
 use Rattle.nm_base.specs.Geometry.{Geometry}
 use Rattle.nm_action.specs.declared.action.Action.{Action}
 use Rattle.nm_action.specs.declared.action.Action.TheVariants as action
@@ -7,6 +7,7 @@ use Rattle.nm_action.specs.declared.action.Reply.{Reply}
 use Rattle.nm_action.specs.declared.spent.Spent.{Spent}
 use Rattle.nm_action.specs.Own.{Own}
 use Rattle.nm_view.specs.Views.{View}
+use Rattle.nm_part.specs.Parts.{NothingTold}
 use Rattle.nm_compose.specs.Acts.{MayAct, IsAct, IsActed}
 use Rattle.nm_compose.specs.declared.act.Act.{Act}
 use Rattle.nm_compose.specs.declared.composite.Composite.{Composite}
@@ -15,6 +16,7 @@ use Rattle.nm_looks.specs.Seeing.{LooksData, IsLooks, MayLooks, HasLooked}
 use Rattle.nm_looks.specs.Parts.{LooksPart, looks_part_data, IsNewLooksPart, page_looks}
 use Rattle.nm_txn.specs.declared.end.TxnEnd.{TxnEnd}
 use Rattle.nm_txn.specs.Batches.{IsBatch}
+use Rattle.nm_txn.specs.Tasks.{ActAwaits}
 use Rattle.nm_cool.specs.declared.cool.Cooled.{Cooled}
 use Rattle.nm_cool.specs.Cooling.{CoolData, IsCooling, MayCool, IsCooledLeft}
 use Rattle.nm_batch.specs.Leaving.{MayBatch, IsBatchLeft}
@@ -25,17 +27,17 @@ use Rattle.nm_locked.specs.Moves.{IsLockedInMove}
 use Rattle.nm_locked.specs.Leaving.{IsLockedLeft}
 use Rattle.nm_ended.specs.declared.ask.AskEnded.{AskEnded}
 use Rattle.nm_ended.specs.Asking.{MayAsk, IsAsking, ask_left, ask_stages}
-use Rattle.nm_compose.specs.Composites.{HasFirst}
+use Rattle.nm_compose.specs.Composites.{HasFirst, IsRunning}
 use Rattle.nm_compose.specs.Stages.{IsPieceAt}
 use Rattle.nm_migrator_work.specs.declared.parts.CoolWork.{CoolWork}
 use Rattle.nm_migrator_work.specs.declared.parts.BatchWork.{BatchWork}
 use Rattle.nm_migrator_work.specs.declared.parts.MoveWork.{MoveWork}
-use Rattle.nm_migrator_work.specs.Wrapped.{BatchData, MoveData, cool_work_made, IsNewCoolWork, batch_work_made, IsNewBatchWork, move_work_made, IsNewMoveWork}
+use Rattle.nm_migrator_work.specs.Wrapped.{BatchData, MoveData, cool_work_made, IsNewCoolWork, batch_work_made, IsNewBatchWork, move_work_made, IsNewMoveWork, LooksAwaits, AwaitsCoolWork, AwaitsBatchWork, AwaitsMoveWork}
 use Rattle.nm_drawing.specs.declared.drawing.Drawn.{Drawn}
 use Rattle.nm_drawing.specs.Draws.{MayDraw, IsDrawingList, IsDrawnLeft}
 use Rattle.nm_migrator_work.specs.declared.work.MigratorWork.{MigratorWork}
 use Rattle.nm_migrator_work.specs.declared.work.MigratorWork.TheVariants as works
-use Rattle.nm_migrator_work.specs.Kinds.{made_by, IsNewBy, MayBy, IsBy, LeavesBy}
+use Rattle.nm_migrator_work.specs.Kinds.{made_by, IsNewBy, MayBy, IsBy, LeavesBy, AwaitsBy, EndedBy}
 
 -- The pieces.
 
@@ -124,3 +126,15 @@ IsWork = IsBy IsAct IsLooks IsCooling IsBatchWork IsMoveWork IsAsking
 abbrev pub WorkLeaves : WorkMade → Geometry → View → WorkEnd → View → Type 0
 WorkLeaves = LeavesBy (λ action g view reply left. IsActed g view action reply left) (λ made g view seen left. HasLooked made view seen left) (λ made g view end left. IsCooledLeft made view end left)
     BatchWorkLeaves MoveWorkLeaves (λ cpus g view all left. left ≡ view)
+
+-- it awaits the answer to an action
+
+abbrev pub AskAwaits : AskPart → Geometry → View → Own → Action → Type 0
+AskAwaits c = IsRunning IsAct (ActAwaits c.piece) (IsPieceAt ask_stages c.plan.cpus c.plan.cpu) (ask_left c.plan.cpus c.plan.cpu) (IsAsking c.plan.cpus) c.piece.action
+
+abbrev pub AwaitsWork : MigratorPiece → Geometry → View → Own → Action → Type 0
+AwaitsWork = AwaitsBy ActAwaits LooksAwaits AwaitsCoolWork AwaitsBatchWork AwaitsMoveWork AskAwaits
+
+-- it is over: there is nothing more that it can be asked for
+abbrev pub WorkEnded : MigratorPiece → Geometry → Own → WorkEnd → Type 0
+WorkEnded = EndedBy (λ p g own reply. NothingTold g own reply) (λ c g own seen. Unit {0}) (λ w g own end. Unit {0}) (λ w g own end. Unit {0}) (λ w g own end. Unit {0}) (λ c g own all. Unit {0})
