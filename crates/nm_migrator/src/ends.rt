@@ -152,9 +152,10 @@ fn pieces_counts(ends: &PieceList<TxnEnd>) -> Tally
 {
     let mut tally = Tally::default();
     for index in 0..ends.len() {
-        if let Some(end) = ends.get(index) {
-            tally = tally.plus(piece_counts(end));
-        }
+        let Some(end) = ends.get(index) else {
+            return tally
+        };
+        tally = tally.plus(piece_counts(end));
     }
     tally
 }
