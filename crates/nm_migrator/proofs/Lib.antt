@@ -5,3 +5,4 @@ pub mod Giving
 pub mod Resting
 pub mod Planning
 pub mod Fitting
+pub mod Counting

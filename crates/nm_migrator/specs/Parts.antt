@@ -6,13 +6,17 @@ use Rattle.nm_action.specs.declared.turn.Turn.{Turn}
 use Rattle.nm_view.specs.Views.{View}
 use Rattle.nm_actor.specs.Turns.{Turns, turns_view}
 use Rattle.nm_worker.specs.declared.worker.Worker.{Worker}
-use Rattle.nm_worker.specs.Routines.{IsLeftEmpty}
+use Rattle.nm_view.specs.Opening.{opening}
+use Rattle.nm_action.specs.Tally.{sum_of}
+use Rattle.nm_worker.specs.Routines.{IsLeftEmpty, IsNextTask}
+use Rattle.nm_worker.specs.Workers.{FollowsRoutine, IsNewWorker}
 use Rattle.nm_routine_part.specs.Parts.{is_end, IsRoutinePart}
-use Rattle.nm_migrator_work.specs.Works.{MigratorPiece}
+use Rattle.nm_migrator_work.specs.Works.{MigratorPiece, work_made, IsNewWork, MayWork, IsWork, AwaitsWork}
+use Rattle.nm_migrator.specs.Ends.{work_counts}
 use Rattle.nm_migrator.specs.declared.migrating.Migrating.{Migrating}
 use Rattle.nm_migrator.specs.declared.actor.MigratorActor.{MigratorActor}
 use Rattle.nm_migrator.specs.Migrating.{IsMigrating}
-use Rattle.nm_migrator.specs.Stages.{migrating_made}
+use Rattle.nm_migrator.specs.Stages.{migrating_made, migrating_left, IsMigratingAt}
 
 -- the migrator stands behind the processors
 abbrev pub migrator_number : Geometry → ℕ
@@ -27,8 +31,6 @@ abbrev pub IsEmptyAtEnd : Bool → View → Type 0
 IsEmptyAtEnd true view = IsLeftEmpty view
 IsEmptyAtEnd false view = Unit {0}
 
--- In these, what the worker inside says of itself is given.
-
 abbrev pub MigratorWorker : Type 0
 MigratorWorker = Worker Migrating MigratorPiece
 
@@ -36,14 +38,27 @@ MigratorWorker = Worker Migrating MigratorPiece
 abbrev pub migrator_made : MigratorActor → Geometry × Option ℕ
 migrator_made a = migrating_made a.worker.routine
 
+-- the worker inside agrees with these turns
+abbrev pub AgreesWorker : MigratorWorker → Turns → Option Turn → Type 0
+AgreesWorker w = FollowsRoutine work_made IsNewWork MayWork IsWork AwaitsWork work_counts (IsMigratingAt w.routine) (migrating_left w.routine) (IsMigrating w.routine.geometry.now w.routine.retry) w.routine.geometry.now w.routine.geometry.now.cpus w.action w.task w.events w.ends w.spent
+
+-- what it has counted
+abbrev pub worker_counted : MigratorWorker → Tally
+worker_counted w = sum_of w.events.tally w.ends
+
+-- it has given no turn
+abbrev pub IsNewMigratorWorker : MigratorWorker → Type 0
+IsNewMigratorWorker w = IsNewWorker (IsNextTask work_made IsNewWork MayWork IsWork work_counts (IsMigratingAt w.routine) (migrating_left w.routine) (IsMigrating w.routine.geometry.now w.routine.retry) w.routine.geometry.now (opening w.routine.geometry.now w.routine.geometry.now.cpus) w.task)
+    w.routine.geometry.now w.routine.geometry.now.cpus w.events w.ends w.spent
+
 -- the actor agrees with these turns, the last of which awaits its answer: they are a migrator's part, and the tally is what it
 -- has counted
-pub record AgreesMigrator (agrees : MigratorWorker → Turns → Option Turn → Type 0) (counted : MigratorWorker → Tally) (a : MigratorActor) (turns : Turns) (last : Option Turn) : Type 0 where
-  pub worker : agrees a.worker turns last
-  pub part : IsMigratorPart (migrator_made a).0 (migrator_made a).1 turns (is_end last) (counted a.worker)
+pub record AgreesMigrator (a : MigratorActor) (turns : Turns) (last : Option Turn) : Type 0 where
+  pub worker : AgreesWorker a.worker turns last
+  pub part : IsMigratorPart (migrator_made a).0 (migrator_made a).1 turns (is_end last) (worker_counted a.worker)
   pub empty : IsEmptyAtEnd (is_end last) (turns_view (migrator_made a).0 (migrator_number (migrator_made a).0) turns)
 
 -- the actor has given no turn
-pub record IsNewMigrator (is_new : MigratorWorker → Type 0) (counted : MigratorWorker → Tally) (a : MigratorActor) : Type 0 where
-  pub worker : is_new a.worker
-  pub part : IsMigratorPart (migrator_made a).0 (migrator_made a).1 [] false (counted a.worker)
+pub record IsNewMigrator (a : MigratorActor) : Type 0 where
+  pub worker : IsNewMigratorWorker a.worker
+  pub part : IsMigratorPart (migrator_made a).0 (migrator_made a).1 [] false (worker_counted a.worker)

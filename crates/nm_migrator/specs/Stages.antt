@@ -212,9 +212,9 @@ pub record HasCounts (g : Geometry) (aborts : List ℕ) : Type 0 where
   pub counts : length aborts ≡ page_count g
 
 -- and the list for taken words is here
-pub record IsKeptIn (g : Geometry) (aborts : List ℕ) (words : Option (List (ℕ × ℕ))) : Type 0 where
+pub record IsKeptIn (g : Geometry) (aborts : List ℕ) (room : Option (List (ℕ × ℕ))) : Type 0 where
   pub has : HasCounts g aborts
-  pub words : HoldsWords words
+  pub words : HoldsWords room
 
 abbrev pub IsKept : Migrating → Type 0
 IsKept m = IsKeptIn m.geometry.now m.aborts.items m.words
@@ -270,11 +270,22 @@ IsBatching m = HasPlanned m × (m.pieces ≢ [])
 
 -- pages are to be moved while they are locked
 abbrev pub HasMoves : Migrating → Type 0
-HasMoves m = IsKept m × All (IsMove m.geometry.now) m.moves
+HasMoves m = IsKept m × All (IsMove m.geometry.now) m.moves × (length m.moves ≤ most_taken)
+
+-- and pages are to be put in the pending ones again
+abbrev pub HasAgain : Migrating → Type 0
+HasAgain m = HasMoves m × (length m.again ≤ most_taken)
+
+-- the page at this place is put in the pending ones
+abbrev pub IsPuttingAgain : Migrating → ℕ → Type 0
+IsPuttingAgain m index = HasAgain m × (index < most_taken)
+
+abbrev pub IsPuttingMoved : Migrating → ℕ → Type 0
+IsPuttingMoved m index = HasMoves m × (index < most_taken)
 
 -- a page is moved: its move has the list for taken words
-abbrev pub IsMoving : Migrating → ℕ → ℕ → Type 0
-IsMoving m page count = HasCounts m.geometry.now m.aborts.items × All (IsMove m.geometry.now) m.moves × IsMove m.geometry.now (page, count)
+abbrev pub IsMoving : Migrating → ℕ → ℕ → ℕ → Type 0
+IsMoving m index page count = HasCounts m.geometry.now m.aborts.items × All (IsMove m.geometry.now) m.moves × IsMove m.geometry.now (page, count) × (length m.moves ≤ most_taken) × (index < most_taken)
 
 abbrev pub IsUnmarking : Migrating → ℕ → Type 0
 IsUnmarking m page = IsKept m × IsPage m.geometry.now page
@@ -293,9 +304,9 @@ KnownAt m TakingPending = IsTaking m
 KnownAt m (PuttingTwice page) = HasTaken m
 KnownAt m (Planning index page) = IsPlanning m index page
 KnownAt m Batching = IsBatching m
-KnownAt m (PuttingAgain index page) = HasMoves m
-KnownAt m (Moving index page count) = IsMoving m page count
-KnownAt m (PuttingMoved index page) = HasMoves m
+KnownAt m (PuttingAgain index page) = IsPuttingAgain m index
+KnownAt m (Moving index page count) = IsMoving m index page count
+KnownAt m (PuttingMoved index page) = IsPuttingMoved m index
 KnownAt m Asking = IsKept m
 KnownAt m TakingLast = IsKept m
 KnownAt m (Unmarking page) = IsUnmarking m page
@@ -323,7 +334,7 @@ IsNewTask is_new task = Unit {0}
 -- from a view between two tasks the migrator gives this task, where this is left, with some number of rounds
 abbrev pub Gives : (MigratorPiece → Type 0) → Geometry → Spent → Migrating → Task MigratorPiece → (ℕ → Sequence) → Type 0
 Gives is_new g spent new task was = (view : View) → IsResting g spent view
-    → IsNextTask work_made is_new MayWork IsWork work_counts (λ now task. IsMigratingAt new now task) (migrating_left new) (Sometimes was) g view task
+    → IsNextTask work_made is_new MayWork IsWork work_counts (IsMigratingAt new) (migrating_left new) (Sometimes was) g view task
 
 -- there is a piece for the task of a stage
 abbrev pub MayGo : Migrating → MigratingStage → Type 0

@@ -30,7 +30,7 @@ impl<'a> MigratorActor<'a> {
         retry: Option<u32>,
     ) -> Result<MigratorActor<'a>, AllocError>
         ensures made { IfOk result (λ a. migrator_made a ≡ record { 0 = g.now; 1 = retry }) }
-        ensures new { IfOk result (IsNewMigrator ⟦<MigratorWorker<'a> as Actor>⟧.is_new ⟦<MigratorWorker<'a> as Actor>⟧.counted) }
+        ensures new { IfOk result IsNewMigrator }
     {
         let routine = Migrating::new(alloc, g, retry)?;
         Ok(MigratorActor {
@@ -42,7 +42,8 @@ impl<'a> MigratorActor<'a> {
 impl<'a> Actor for MigratorActor<'a> {
     type Made = (Geometry, Option<u32>);
 
-    ghost use Rattle.nm_migrator.specs.Parts.{migrator_made, migrator_number, IsNewMigrator, AgreesMigrator};
+    ghost use Rattle.std.specs.Prelude.{[], refl};
+    ghost use Rattle.nm_migrator.specs.Parts.{migrator_made, migrator_number, worker_counted, IsNewMigrator, AgreesMigrator};
 
     ghost made = { migrator_made };
 
@@ -50,11 +51,11 @@ impl<'a> Actor for MigratorActor<'a> {
 
     ghost number = { λ made. migrator_number made.0 };
 
-    ghost is_new = { IsNewMigrator ⟦<MigratorWorker<'a> as Actor>⟧.is_new ⟦<MigratorWorker<'a> as Actor>⟧.counted };
+    ghost is_new = { IsNewMigrator };
 
-    ghost agrees = { AgreesMigrator ⟦<MigratorWorker<'a> as Actor>⟧.agrees ⟦<MigratorWorker<'a> as Actor>⟧.counted };
+    ghost agrees = { AgreesMigrator };
 
-    ghost counted = { λ a. ⟦<MigratorWorker<'a> as Actor>⟧.counted a.worker };
+    ghost counted = { λ a. worker_counted a.worker };
 
     fn next(&mut self, heard: Heard) -> Turn {
         self.worker.next(heard)
@@ -64,5 +65,5 @@ impl<'a> Actor for MigratorActor<'a> {
         self.worker.tally()
     }
 
-    ghost opens = { λ a new. record { worker = ⟦<MigratorWorker<'a> as Actor>⟧.opens a.worker new.worker; part = new.part; empty = tt } };
+    ghost opens = { λ a new. record { worker = record { notes = []; is = refl; next = refl; events = new.worker.events; ends = new.worker.ends; pages = new.worker.pages; drawn = new.worker.drawn; few = new.worker.few; at = new.worker.next }; part = new.part; empty = tt } };
 }

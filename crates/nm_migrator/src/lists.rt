@@ -21,7 +21,10 @@ pub(crate) fn is_among(page: u32, pages: &PieceList<u32>) -> bool
     ensures { result ≡ is_among page pages.now }
 {
     for index in 0..pages.len() {
-        if pages.get(index) == Some(page) {
+        let Some(other) = pages.get(index) else {
+            return false
+        };
+        if other == page {
             return true;
         }
     }
@@ -78,7 +81,8 @@ pub(crate) fn again_of(
     pieces: &PieceList<(u32, u32)>,
     ends: &PieceList<TxnEnd>,
 ) -> PieceList<u32>
-    ensures { result ≡ again_of pieces.now ends.now }
+    ensures pages { result ≡ again_of pieces.now ends.now }
+    ensures few { length result ≤ 8 }
 {
     let mut again = PieceList::new();
     for index in 0..pieces.len() {

@@ -2,10 +2,14 @@
 
 ghost use Rattle.std.specs.Prelude.{◌≡◌, IfOk, None};
 ghost use Rattle.nm_transfer.specs.Stages.{HoldsWords};
-ghost use Rattle.nm_worker.specs.Routines.{task_data};
-ghost use Rattle.nm_migrator_work.specs.Works.{work_made};
+ghost use Rattle.nm_worker.specs.Routines.{task_data, IsNextTask, IsTaskOver, IsDrawn, HasTaskOver};
+ghost use Rattle.nm_view.specs.Views.{View};
+ghost use Rattle.nm_view.specs.Opening.{opening};
+ghost use Rattle.nm_migrator_work.specs.Works.{work_made, IsNewWork, MayWork, IsWork, WorkLeaves, WorkEnded};
 ghost use Rattle.nm_migrator.specs.declared.migrating.MigratingStage.{MigratingStage};
-ghost use Rattle.nm_migrator.specs.Stages.{migrating_made, stage_task, IsNewTask, MayGo, IsNewMigrating};
+ghost use Rattle.nm_migrator.specs.Ends.{work_counts};
+ghost use Rattle.nm_migrator.specs.Migrating.{IsMigrating};
+ghost use Rattle.nm_migrator.specs.Stages.{migrating_made, migrating_left, stage_task, IsNewTask, MayGo, IsNewMigrating, IsMigratingAt};
 
 use crate::ends::{
     all_ended_in, batch_in, cooled_in, full_in, page_in, reply_in, seen_in, work_counts, work_in,
@@ -17,7 +21,6 @@ use nm_event::{Lane, Spent, Tally};
 use nm_migrator_work::{
     MigratorEnd, MigratorPiece, ask_work, batch_work, cool_work, looks_work, mark_work, move_work,
 };
-use nm_part::Part;
 use nm_transfer::TakenWords;
 use nm_worker::{Ended, Routine, Task};
 use std::alloc::{AllocError, Global};
@@ -128,7 +131,7 @@ impl<'a> Migrating<'a> {
         requires { MayGo self.old stage }
         ensures stage { self.new ≡ record self.old { stage = stage } }
         ensures made { task_data work_made result ≡ stage_task self.old stage }
-        ensures new { IsNewTask ⟦<MigratorPiece<'a> as Part>⟧.is_new result }
+        ensures new { IsNewTask IsNewWork result }
     {
         self.stage = stage;
         let g = self.geometry;
@@ -170,7 +173,7 @@ impl<'a> Migrating<'a> {
         requires { HoldsWords self.old.words }
         ensures stage { self.new ≡ record self.old { stage = MigratingStage.Moving index page count; words = None } }
         ensures made { task_data work_made result ≡ stage_task self.old (MigratingStage.Moving index page count) }
-        ensures new { IsNewTask ⟦<MigratorPiece<'a> as Part>⟧.is_new result }
+        ensures new { IsNewTask IsNewWork result }
     {
         let Some(words) = self.words.take() else {
             unreachable!()
@@ -184,11 +187,11 @@ impl<'a> Migrating<'a> {
 impl<'a> Routine<MigratorPiece<'a>> for Migrating<'a> {
     type Made = (Geometry, Option<u32>);
 
-    ghost use Rattle.nm_migrator.specs.Stages.{IsNewMigrating, IsMigratingAt, migrating_left};
+    ghost use Rattle.nm_migrator.specs.Stages.{migrating_made, IsNewMigrating, IsMigratingAt, migrating_left};
     ghost use Rattle.nm_migrator.specs.Migrating.{IsMigrating};
     ghost use Rattle.nm_migrator.specs.Ends.{work_counts};
 
-    ghost made = { λ m. record { 0 = m.geometry.now; 1 = m.retry } };
+    ghost made = { migrating_made };
 
     ghost geometry = { λ made. made.0 };
 
@@ -200,11 +203,16 @@ impl<'a> Routine<MigratorPiece<'a>> for Migrating<'a> {
 
     ghost counts = { work_counts };
 
-    ghost knows = { λ m now task. IsMigratingAt m now task };
+    ghost knows = { IsMigratingAt };
 
-    ghost left = { λ m end. migrating_left m end };
+    ghost left = { migrating_left };
 
-    fn begin(&mut self) -> Task<MigratorPiece<'a>> {
+    fn begin(&mut self) -> Task<MigratorPiece<'a>>
+        requires { IsNewMigrating self.old }
+        ensures made { migrating_made self.new ≡ migrating_made self.old }
+        ensures next { IsNextTask work_made IsNewWork MayWork IsWork work_counts (IsMigratingAt self.new) (migrating_left self.new) (IsMigrating self.old.geometry.now self.old.retry)
+            self.old.geometry.now (opening self.old.geometry.now self.old.geometry.now.cpus) result }
+    {
         self.go(MigratingStage::TakingCandidate)
     }
 
@@ -213,9 +221,16 @@ impl<'a> Routine<MigratorPiece<'a>> for Migrating<'a> {
         _task: &Task<MigratorPiece<'a>>,
         end: Ended<MigratorEnd>,
         _spent: Spent,
-    ) -> Task<MigratorPiece<'a>> {
+    ) -> Task<MigratorPiece<'a>>
+        requires { HasTaskOver work_made IsWork WorkLeaves WorkEnded (IsMigratingAt self.old) self.old.geometry.now _task.now end _spent }
+        ensures made { migrating_made self.new ≡ migrating_made self.old }
+        ensures next { (now later : View) → IsMigratingAt self.old now (task_data work_made _task.now)
+            → IsTaskOver work_made IsWork WorkLeaves WorkEnded self.old.geometry.now now later _task.now end → IsDrawn _spent later
+            → IsNextTask work_made IsNewWork MayWork IsWork work_counts (IsMigratingAt self.new) (migrating_left self.new) (migrating_left self.old end) self.old.geometry.now later result }
+    {
         match self.stage {
-            MigratingStage::New | MigratingStage::Over => unreachable!(),
+            MigratingStage::New => unreachable!(),
+            MigratingStage::Over => unreachable!(),
             MigratingStage::TakingCandidate => self.candidate(page_in(&end)),
             MigratingStage::Judging(page) => self.judged(page, seen_in(work_in(end)).hot),
             MigratingStage::Heating(page) => self.heated(page, reply_in(work_in(end))),
@@ -242,7 +257,9 @@ impl<'a> Routine<MigratorPiece<'a>> for Migrating<'a> {
         }
     }
 
-    fn counts(end: &MigratorEnd) -> Tally {
+    fn counts(end: &MigratorEnd) -> Tally
+        ensures { result ≡ work_counts end.now }
+    {
         work_counts(end)
     }
 }

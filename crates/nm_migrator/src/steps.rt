@@ -4,8 +4,10 @@ ghost use Rattle.std.specs.Prelude.{◌≡◌, ◌+◌, ◌<◌, ◌≤◌, [], 
 ghost use Rattle.nm_base.specs.Geometry.{page_count};
 ghost use Rattle.nm_transfer.specs.Stages.{HoldsWords};
 ghost use Rattle.nm_vpages.specs.VPages.{most_vpages};
+ghost use Rattle.nm_migrator_work.specs.Works.{IsNewWork};
 ghost use Rattle.nm_migrator.specs.Ends.{move_in, drawn_in, words_in};
-ghost use Rattle.nm_migrator.specs.Stages.{kept_of, plan_of, migrating_made, CandidateLeft, LastLeft, JudgedLeft, HeatedLeft, CooledLeft, BackLeft, PutLeft, CandidatesLeft, PendingLeft, TakenLeft, TakesLeft, PageLeft, PlansLeft, PlannedLeft, BatchesLeft, BatchedLeft, AgainLeft, MovesLeft, MovedLeft, AskedLeft, UnmarksLeft, HasCounts, IsKept, IsCandidate, HasTaken, IsTaking, HasPlan, IsPlanning, HasPlanned, IsBatching, HasMoves, IsMove, Gives};
+ghost use Rattle.nm_migrator.specs.Planned.{most_taken};
+ghost use Rattle.nm_migrator.specs.Stages.{kept_of, plan_of, migrating_made, CandidateLeft, LastLeft, JudgedLeft, HeatedLeft, CooledLeft, BackLeft, PutLeft, CandidatesLeft, PendingLeft, TakenLeft, TakesLeft, PageLeft, PlansLeft, PlannedLeft, BatchesLeft, BatchedLeft, AgainLeft, MovesLeft, MovedLeft, AskedLeft, UnmarksLeft, HasCounts, IsKept, IsCandidate, HasTaken, IsTaking, HasPlan, IsPlanning, HasPlanned, IsBatching, HasMoves, HasAgain, IsPuttingAgain, IsPuttingMoved, IsMove, Gives};
 
 use crate::ends::{drawn_in, move_in, words_in};
 use crate::lists::{again_of, count_aborts, first_or, is_among, is_mapped, is_moved_locked};
@@ -16,7 +18,6 @@ use nm_drawing::Drawn;
 use nm_event::Reply;
 use nm_locked::LockedEnd;
 use nm_migrator_work::{MigratorEnd, MigratorPiece};
-use nm_part::Part;
 use nm_txn::TxnEnd;
 use nm_vpages::VPageSet;
 use nm_worker::Task;
@@ -30,7 +31,7 @@ impl<'a> Migrating<'a> {
     pub(crate) fn candidate(&mut self, page: Option<u32>) -> Task<MigratorPiece<'a>>
         requires { IsKept self.old }
         ensures made { migrating_made self.new ≡ migrating_made self.old }
-        ensures next { Gives ⟦<MigratorPiece<'a> as Part>⟧.is_new self.old.geometry.now self.old.spent self.new result (CandidateLeft self.old page) }
+        ensures next { Gives IsNewWork self.old.geometry.now self.old.spent self.new result (CandidateLeft self.old page) }
     {
         match page {
             None => self.begin_pending(),
@@ -48,7 +49,7 @@ impl<'a> Migrating<'a> {
     pub(crate) fn last(&mut self, page: Option<u32>) -> Task<MigratorPiece<'a>>
         requires { IsKept self.old }
         ensures made { migrating_made self.new ≡ migrating_made self.old }
-        ensures next { Gives ⟦<MigratorPiece<'a> as Part>⟧.is_new self.old.geometry.now self.old.spent self.new result (LastLeft self.old page) }
+        ensures next { Gives IsNewWork self.old.geometry.now self.old.spent self.new result (LastLeft self.old page) }
     {
         match page {
             None => self.unmark_from(0),
@@ -66,7 +67,7 @@ impl<'a> Migrating<'a> {
     pub(crate) fn judged(&mut self, page: u32, hot: bool) -> Task<MigratorPiece<'a>>
         requires { IsCandidate self.old page }
         ensures made { migrating_made self.new ≡ migrating_made self.old }
-        ensures next { Gives ⟦<MigratorPiece<'a> as Part>⟧.is_new self.old.geometry.now self.old.spent self.new result (JudgedLeft self.old page hot) }
+        ensures next { Gives IsNewWork self.old.geometry.now self.old.spent self.new result (JudgedLeft self.old page hot) }
     {
         if hot {
             self.aborts[page as usize] = 0;
@@ -80,7 +81,7 @@ impl<'a> Migrating<'a> {
     pub(crate) fn heated(&mut self, page: u32, reply: Reply) -> Task<MigratorPiece<'a>>
         requires { IsCandidate self.old page }
         ensures made { migrating_made self.new ≡ migrating_made self.old }
-        ensures next { Gives ⟦<MigratorPiece<'a> as Part>⟧.is_new self.old.geometry.now self.old.spent self.new result (HeatedLeft self.old page reply) }
+        ensures next { Gives IsNewWork self.old.geometry.now self.old.spent self.new result (HeatedLeft self.old page reply) }
     {
         match reply {
             Reply::Done => self.go(MigratingStage::PuttingHot(page)),
@@ -94,7 +95,7 @@ impl<'a> Migrating<'a> {
     pub(crate) fn put_hot(&mut self, page: u32, full: bool) -> Task<MigratorPiece<'a>>
         requires { IsCandidate self.old page }
         ensures made { migrating_made self.new ≡ migrating_made self.old }
-        ensures next { Gives ⟦<MigratorPiece<'a> as Part>⟧.is_new self.old.geometry.now self.old.spent self.new result (λ n. PutLeft page full (CandidatesLeft self.old n)) }
+        ensures next { Gives IsNewWork self.old.geometry.now self.old.spent self.new result (λ n. PutLeft page full (CandidatesLeft self.old n)) }
     {
         if full {
             self.go(MigratingStage::PuttingHot(page))
@@ -107,7 +108,7 @@ impl<'a> Migrating<'a> {
     pub(crate) fn cooled(&mut self, page: u32, end: Cooled) -> Task<MigratorPiece<'a>>
         requires { IsCandidate self.old page }
         ensures made { migrating_made self.new ≡ migrating_made self.old }
-        ensures next { Gives ⟦<MigratorPiece<'a> as Part>⟧.is_new self.old.geometry.now self.old.spent self.new result (CooledLeft self.old page end) }
+        ensures next { Gives IsNewWork self.old.geometry.now self.old.spent self.new result (CooledLeft self.old page end) }
     {
         match end {
             Cooled::Busy => self.go(MigratingStage::PuttingBack(page)),
@@ -119,7 +120,7 @@ impl<'a> Migrating<'a> {
     pub(crate) fn put_back(&mut self, page: u32, full: bool) -> Task<MigratorPiece<'a>>
         requires { IsCandidate self.old page }
         ensures made { migrating_made self.new ≡ migrating_made self.old }
-        ensures next { Gives ⟦<MigratorPiece<'a> as Part>⟧.is_new self.old.geometry.now self.old.spent self.new result (BackLeft self.old page full) }
+        ensures next { Gives IsNewWork self.old.geometry.now self.old.spent self.new result (BackLeft self.old page full) }
     {
         if full {
             self.go(MigratingStage::Spilling(page))
@@ -132,7 +133,7 @@ impl<'a> Migrating<'a> {
     pub(crate) fn begin_pending(&mut self) -> Task<MigratorPiece<'a>>
         requires { IsKept self.old }
         ensures made { migrating_made self.new ≡ migrating_made self.old }
-        ensures next { Gives ⟦<MigratorPiece<'a> as Part>⟧.is_new self.old.geometry.now self.old.spent self.new result (PendingLeft self.old) }
+        ensures next { Gives IsNewWork self.old.geometry.now self.old.spent self.new result (PendingLeft self.old) }
     {
         self.taken = PieceList::new();
         self.take_pending()
@@ -142,7 +143,7 @@ impl<'a> Migrating<'a> {
     fn take_pending(&mut self) -> Task<MigratorPiece<'a>>
         requires { HasTaken self.old }
         ensures made { migrating_made self.new ≡ migrating_made self.old }
-        ensures next { Gives ⟦<MigratorPiece<'a> as Part>⟧.is_new self.old.geometry.now self.old.spent self.new result (TakesLeft self.old) }
+        ensures next { Gives IsNewWork self.old.geometry.now self.old.spent self.new result (TakesLeft self.old) }
     {
         if self.taken.len() < MOST_TAKEN {
             self.go(MigratingStage::TakingPending)
@@ -156,7 +157,7 @@ impl<'a> Migrating<'a> {
     pub(crate) fn pending(&mut self, page: Option<u32>) -> Task<MigratorPiece<'a>>
         requires { IsTaking self.old }
         ensures made { migrating_made self.new ≡ migrating_made self.old }
-        ensures next { Gives ⟦<MigratorPiece<'a> as Part>⟧.is_new self.old.geometry.now self.old.spent self.new result (PageLeft self.old page) }
+        ensures next { Gives IsNewWork self.old.geometry.now self.old.spent self.new result (PageLeft self.old page) }
     {
         match page {
             None => self.all_taken(),
@@ -178,7 +179,7 @@ impl<'a> Migrating<'a> {
     fn all_taken(&mut self) -> Task<MigratorPiece<'a>>
         requires { HasTaken self.old }
         ensures made { migrating_made self.new ≡ migrating_made self.old }
-        ensures next { Gives ⟦<MigratorPiece<'a> as Part>⟧.is_new self.old.geometry.now self.old.spent self.new result (TakenLeft self.old self.old.taken) }
+        ensures next { Gives IsNewWork self.old.geometry.now self.old.spent self.new result (TakenLeft self.old self.old.taken) }
     {
         match self.taken.get(0) {
             None => self.go(MigratingStage::Asking),
@@ -194,7 +195,7 @@ impl<'a> Migrating<'a> {
     pub(crate) fn put_twice(&mut self, page: u32, full: bool) -> Task<MigratorPiece<'a>>
         requires { HasTaken self.old }
         ensures made { migrating_made self.new ≡ migrating_made self.old }
-        ensures next { Gives ⟦<MigratorPiece<'a> as Part>⟧.is_new self.old.geometry.now self.old.spent self.new result (λ n. PutLeft page full (TakenLeft self.old self.old.taken n)) }
+        ensures next { Gives IsNewWork self.old.geometry.now self.old.spent self.new result (λ n. PutLeft page full (TakenLeft self.old self.old.taken n)) }
     {
         if full {
             self.go(MigratingStage::PuttingTwice(page))
@@ -207,7 +208,7 @@ impl<'a> Migrating<'a> {
     fn plan_from(&mut self, index: usize) -> Task<MigratorPiece<'a>>
         requires { HasPlan self.old index }
         ensures made { migrating_made self.new ≡ migrating_made self.old }
-        ensures next { Gives ⟦<MigratorPiece<'a> as Part>⟧.is_new self.old.geometry.now self.old.spent self.new result (PlansLeft self.old index (plan_of self.old)) }
+        ensures next { Gives IsNewWork self.old.geometry.now self.old.spent self.new result (PlansLeft self.old index (plan_of self.old)) }
     {
         match self.taken.get(index) {
             Some(page) => self.go(MigratingStage::Planning { index, page }),
@@ -224,7 +225,7 @@ impl<'a> Migrating<'a> {
     ) -> Task<MigratorPiece<'a>>
         requires { IsPlanning self.old index page }
         ensures made { migrating_made self.new ≡ migrating_made self.old }
-        ensures next { Gives ⟦<MigratorPiece<'a> as Part>⟧.is_new self.old.geometry.now self.old.spent self.new result (PlannedLeft self.old index page mapped) }
+        ensures next { Gives IsNewWork self.old.geometry.now self.old.spent self.new result (PlannedLeft self.old index page mapped) }
     {
         let count = mapped.len();
         if is_moved_locked(self.retry, self.aborts[page as usize], count) {
@@ -240,7 +241,7 @@ impl<'a> Migrating<'a> {
     fn batch(&mut self) -> Task<MigratorPiece<'a>>
         requires { HasPlanned self.old }
         ensures made { migrating_made self.new ≡ migrating_made self.old }
-        ensures next { Gives ⟦<MigratorPiece<'a> as Part>⟧.is_new self.old.geometry.now self.old.spent self.new result (BatchesLeft self.old) }
+        ensures next { Gives IsNewWork self.old.geometry.now self.old.spent self.new result (BatchesLeft self.old) }
     {
         match self.pieces.get(0) {
             Some(_) => self.go(MigratingStage::Batching),
@@ -253,7 +254,7 @@ impl<'a> Migrating<'a> {
     pub(crate) fn batched(&mut self, told: Drawn<PieceList<TxnEnd>>) -> Task<MigratorPiece<'a>>
         requires { IsBatching self.old }
         ensures made { migrating_made self.new ≡ migrating_made self.old }
-        ensures next { Gives ⟦<MigratorPiece<'a> as Part>⟧.is_new self.old.geometry.now told.spent self.new result (BatchedLeft self.old told) }
+        ensures next { Gives IsNewWork self.old.geometry.now told.spent self.new result (BatchedLeft self.old told) }
     {
         count_aborts(&mut self.aborts, &self.pieces, &told.end);
         self.again = again_of(&self.pieces, &told.end);
@@ -263,9 +264,9 @@ impl<'a> Migrating<'a> {
 
     /// Puts the page at this place in the pending pages again; where there is none, the locked moves begin.
     fn again_from(&mut self, index: usize) -> Task<MigratorPiece<'a>>
-        requires { HasMoves self.old }
+        requires { HasAgain self.old }
         ensures made { migrating_made self.new ≡ migrating_made self.old }
-        ensures next { Gives ⟦<MigratorPiece<'a> as Part>⟧.is_new self.old.geometry.now self.old.spent self.new result (AgainLeft self.old index) }
+        ensures next { Gives IsNewWork self.old.geometry.now self.old.spent self.new result (AgainLeft self.old index) }
     {
         match self.again.get(index) {
             Some(page) => self.go(MigratingStage::PuttingAgain { index, page }),
@@ -280,9 +281,9 @@ impl<'a> Migrating<'a> {
         page: u32,
         full: bool,
     ) -> Task<MigratorPiece<'a>>
-        requires { HasMoves self.old }
+        requires { IsPuttingAgain self.old index }
         ensures made { migrating_made self.new ≡ migrating_made self.old }
-        ensures next { Gives ⟦<MigratorPiece<'a> as Part>⟧.is_new self.old.geometry.now self.old.spent self.new result (λ n. PutLeft page full (AgainLeft self.old (index + 1) n)) }
+        ensures next { Gives IsNewWork self.old.geometry.now self.old.spent self.new result (λ n. PutLeft page full (AgainLeft self.old (index + 1) n)) }
     {
         if full {
             self.go(MigratingStage::PuttingAgain { index, page })
@@ -295,7 +296,7 @@ impl<'a> Migrating<'a> {
     fn move_from(&mut self, index: usize) -> Task<MigratorPiece<'a>>
         requires { HasMoves self.old }
         ensures made { migrating_made self.new ≡ migrating_made self.old }
-        ensures next { Gives ⟦<MigratorPiece<'a> as Part>⟧.is_new self.old.geometry.now self.old.spent self.new result (MovesLeft self.old index (kept_of self.old)) }
+        ensures next { Gives IsNewWork self.old.geometry.now self.old.spent self.new result (MovesLeft self.old index (kept_of self.old)) }
     {
         match self.moves.get(index) {
             Some((page, count)) => self.go_move(index, page, count),
@@ -312,9 +313,11 @@ impl<'a> Migrating<'a> {
     ) -> Task<MigratorPiece<'a>>
         requires has { HasCounts self.old.geometry.now self.old.aborts.items }
         requires moves { All (IsMove self.old.geometry.now) self.old.moves }
+        requires few { length self.old.moves ≤ most_taken }
+        requires index { index < most_taken }
         requires words { HoldsWords (words_in end) }
         ensures made { migrating_made self.new ≡ migrating_made self.old }
-        ensures next { Gives ⟦<MigratorPiece<'a> as Part>⟧.is_new self.old.geometry.now (drawn_in end) self.new result (MovedLeft self.old index page (move_in end) (drawn_in end)) }
+        ensures next { Gives IsNewWork self.old.geometry.now (drawn_in end) self.new result (MovedLeft self.old index page (move_in end) (drawn_in end)) }
     {
         self.spent = drawn_in(&end);
         let busy = move_in(&end) == LockedEnd::Busy;
@@ -333,9 +336,9 @@ impl<'a> Migrating<'a> {
         page: u32,
         full: bool,
     ) -> Task<MigratorPiece<'a>>
-        requires { HasMoves self.old }
+        requires { IsPuttingMoved self.old index }
         ensures made { migrating_made self.new ≡ migrating_made self.old }
-        ensures next { Gives ⟦<MigratorPiece<'a> as Part>⟧.is_new self.old.geometry.now self.old.spent self.new result (λ n. PutLeft page full (MovesLeft self.old (index + 1) (kept_of self.old) n)) }
+        ensures next { Gives IsNewWork self.old.geometry.now self.old.spent self.new result (λ n. PutLeft page full (MovesLeft self.old (index + 1) (kept_of self.old) n)) }
     {
         if full {
             self.go(MigratingStage::PuttingMoved { index, page })
@@ -348,7 +351,7 @@ impl<'a> Migrating<'a> {
     pub(crate) fn asked(&mut self, all: bool) -> Task<MigratorPiece<'a>>
         requires { IsKept self.old }
         ensures made { migrating_made self.new ≡ migrating_made self.old }
-        ensures next { Gives ⟦<MigratorPiece<'a> as Part>⟧.is_new self.old.geometry.now self.old.spent self.new result (AskedLeft self.old all) }
+        ensures next { Gives IsNewWork self.old.geometry.now self.old.spent self.new result (AskedLeft self.old all) }
     {
         if all {
             self.go(MigratingStage::TakingLast)
@@ -361,7 +364,7 @@ impl<'a> Migrating<'a> {
     pub(crate) fn unmark_from(&mut self, page: u32) -> Task<MigratorPiece<'a>>
         requires { IsKept self.old }
         ensures made { migrating_made self.new ≡ migrating_made self.old }
-        ensures next { Gives ⟦<MigratorPiece<'a> as Part>⟧.is_new self.old.geometry.now self.old.spent self.new result (UnmarksLeft self.old page) }
+        ensures next { Gives IsNewWork self.old.geometry.now self.old.spent self.new result (UnmarksLeft self.old page) }
     {
         if page < self.geometry.pages() {
             self.go(MigratingStage::Unmarking(page))
