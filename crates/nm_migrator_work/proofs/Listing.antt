@@ -47,6 +47,7 @@ busy-prepare made g = record {
 }
 
 some-batch : (made : BatchMade) (g : Geometry) → CanEnd (IsBatch made g)
+unfolding busy-prepare
 some-batch made g =
     let m = λ (p : ℕ × ℕ) (now : List Prepared). (let q : PrepareMade = record { page = p.0; vpage = p.1; spent = drawn_with made.spent now } in q) in
     each-can (PreparesNext g made) made.pieces [] (λ ends. AfterPrepares g ends (ready_of made.pieces ends))
@@ -61,6 +62,7 @@ busy-choose made g = record {
 }
 
 busy-move : (made : ChooseMade) (g : Geometry) → CanEnd (IsLockedInMove made g)
+unfolding busy-choose
 busy-move made g = can-follow (IsChoosing made g) (AfterChoosing g made) (busy-choose made g) (can-ends ends.Busy)
 
 -- A list of a piece that tells what was drawn.

@@ -2,41 +2,32 @@
 
 ghost use Rattle.std.specs.Prelude.{◌≡◌, ◌≢◌, []};
 ghost use Rattle.nm_vpages.specs.VPages.{vpages_of};
-ghost use Rattle.nm_migrator_work.specs.Works.{work_made, made_mark, made_looks, made_cool, made_batch, made_move, made_ask};
+ghost use Rattle.nm_migrator_work.specs.Works.{work_made, made_mark, made_looks, made_cool, made_batch, made_move, made_ask, IsNewWork};
 
+use crate::parts::{BatchWork, CoolWork, MoveWork};
 use crate::work::MigratorWork;
 use nm_base::Geometry;
-use nm_batch::{Batch, BatchAsked, PieceList};
+use nm_batch::PieceList;
 use nm_compose::{Act, Composite};
-use nm_cool::{Cool, CoolPiece, Cooled};
-use nm_drawing::{Drawing, Drawn};
+use nm_cool::Cooled;
+use nm_drawing::Drawn;
 use nm_ended::AskEnded;
 use nm_event::{Action, Reply, Spent};
-use nm_locked::{Locked, LockedOver, LockedPiece};
+use nm_locked::LockedOver;
 use nm_looks::{Looks, LooksPart, Seen};
-use nm_part::Part;
 use nm_transfer::TakenWords;
-use nm_txn::{TxnEnd, TxnPiece};
+use nm_txn::TxnEnd;
 use nm_vpages::VPageSet;
 
 /// The tier that Looks of the migrator ask for.
 const FASTEST: u32 = 0;
-
-/// The cooling of a candidate, as a part.
-pub type CoolPart<'a> = Composite<Cool<'a>, CoolPiece<'a>>;
-
-/// A batch of transactions, as a part that tells what it has drawn.
-pub type BatchPart<'a> = Drawing<Composite<Batch<'a>, TxnPiece<'a>>>;
-
-/// A locked move, as a part that tells what it has drawn.
-pub type MovePart<'a> = Drawing<Composite<Locked<'a>, LockedPiece<'a>>>;
 
 /// The question to the processors whether they have ended, as a part.
 pub type AskPart = Composite<AskEnded, Act>;
 
 /// A piece of the migrator's work.
 pub type MigratorPiece<'a> =
-    MigratorWork<Act, LooksPart<'a>, CoolPart<'a>, BatchPart<'a>, MovePart<'a>, AskPart>;
+    MigratorWork<Act, LooksPart<'a>, CoolWork<'a>, BatchWork<'a>, MoveWork<'a>, AskPart>;
 
 /// How a piece of the migrator's work ends: with the reply to a Mark; with what Looks have seen; with how a candidate was
 /// cooled; with how each piece of a batch ended, in order; with how a locked move is over; or with whether all processors have
@@ -47,7 +38,7 @@ pub type MigratorEnd =
 /// The Mark of a page. Where it begins the page is there, and the mark makes a step that needs no operation.
 pub fn mark_work<'a>(page: u32, from: u64, to: u64) -> MigratorPiece<'a>
     ensures made { work_made result ≡ made_mark page from to }
-    ensures new { ⟦<MigratorPiece<'a> as Part>⟧.is_new result }
+    ensures new { IsNewWork result }
 {
     MigratorWork::Mark(Act::new(Action::Mark { page, from, to }))
 }
@@ -56,7 +47,7 @@ pub fn mark_work<'a>(page: u32, from: u64, to: u64) -> MigratorPiece<'a>
 pub fn looks_work<'a>(g: &'a Geometry, page: u32) -> MigratorPiece<'a>
     requires { vpages_of g.now page ≢ [] }
     ensures made { work_made result ≡ made_looks g.now page }
-    ensures new { ⟦<MigratorPiece<'a> as Part>⟧.is_new result }
+    ensures new { IsNewWork result }
 {
     let plan = Looks::new(g, page, FASTEST, VPageSet::of_page(g, page));
     MigratorWork::Looks(Composite::new(plan))
@@ -65,9 +56,9 @@ pub fn looks_work<'a>(g: &'a Geometry, page: u32) -> MigratorPiece<'a>
 /// The cooling of a candidate. Where it begins the page is there, has a virtual page, and may be locked.
 pub fn cool_work<'a>(g: &'a Geometry, page: u32) -> MigratorPiece<'a>
     ensures made { work_made result ≡ made_cool g.now page }
-    ensures new { ⟦<MigratorPiece<'a> as Part>⟧.is_new result }
+    ensures new { IsNewWork result }
 {
-    MigratorWork::Cool(Composite::new(Cool::new(g, page)))
+    MigratorWork::Cool(CoolWork::new(g, page))
 }
 
 /// The batch of these pieces, pages each with a virtual page, by an actor that has drawn so much. Condition: there is a piece.
@@ -80,10 +71,9 @@ pub fn batch_work<'a>(
 ) -> MigratorPiece<'a>
     requires { pieces ≢ [] }
     ensures made { work_made result ≡ made_batch g.now pieces spent }
-    ensures new { ⟦<MigratorPiece<'a> as Part>⟧.is_new result }
+    ensures new { IsNewWork result }
 {
-    let plan = Batch::new(g, BatchAsked { pieces, spent });
-    MigratorWork::Batch(Drawing::new(Composite::new(plan), spent))
+    MigratorWork::Batch(BatchWork::new(g, pieces, spent))
 }
 
 /// The locked move of a page of which so many virtual pages are to have table words, by an actor that has drawn so much;
@@ -97,16 +87,15 @@ pub fn move_work<'a>(
     taken: TakenWords,
 ) -> MigratorPiece<'a>
     ensures made { work_made result ≡ made_move g.now page count spent }
-    ensures new { ⟦<MigratorPiece<'a> as Part>⟧.is_new result }
+    ensures new { IsNewWork result }
 {
-    let plan = Locked::new(g, page, count, spent, taken);
-    MigratorWork::Move(Drawing::new(Composite::new(plan), spent))
+    MigratorWork::Move(MoveWork::new(g, page, count, spent, taken))
 }
 
 /// The question to the processors of a geometry. Where it begins the view has no open operation.
 pub fn ask_work<'a>(g: &Geometry) -> MigratorPiece<'a>
     ensures made { work_made result ≡ made_ask g.now }
-    ensures new { ⟦<MigratorPiece<'a> as Part>⟧.is_new result }
+    ensures new { IsNewWork result }
 {
     MigratorWork::Ask(Composite::new(AskEnded::new(g)))
 }

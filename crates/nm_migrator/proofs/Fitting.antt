@@ -1,0 +1,174 @@
+-- What comes with the stage that is come to is what was left.
+use Rattle.std.proofs.Common.{◌≡◌, ◌≢◌, ℕ, zero, suc, ◌+◌, ◌-◌, ◌<◌, ◌≤◌, Bool, true, false, List, [], ◌∷◌, ◌++◌, length, drop, Option, Some, None, refl, sym, ap, ◌∙◌, subst, arith}
+use Rattle.std.proofs.lemmas.List.{length_push}
+use Rattle.std.specs.List.{range_with_len}
+use Rattle.nm_base.specs.Geometry.{Geometry, page_count}
+use Rattle.nm_action.specs.declared.action.Reply.TheVariants as replies
+use Rattle.nm_action.specs.declared.turn.Lane.TheVariants.{Candidates, Pending}
+use Rattle.nm_part.specs.Patterns.{Ends, Follows, Either, Each, Sometimes}
+use Rattle.nm_part.proofs.Patterns.{ends-now, either-yes, either-other}
+use Rattle.nm_worker.specs.Notes.{Notes}
+use Rattle.nm_migrator_work.specs.Works.{made_mark, made_looks, made_batch, made_move}
+use Rattle.nm_migrator.specs.declared.migrating.Migrating.{Migrating}
+use Rattle.nm_migrator.specs.declared.migrating.MigratingStage.TheVariants.{TakingCandidate, Judging, Heating, PuttingHot, Cooling, PuttingBack, Spilling, TakingPending, PuttingTwice, Planning, Batching, PuttingAgain, Moving, PuttingMoved, Asking, TakingLast, Unmarking, Over}
+use Rattle.nm_migrator.specs.Ends.{seen_in, batch_in, move_in, drawn_in}
+use Rattle.nm_migrator.specs.Planned.{Kept, Plan, no_plan, is_mapped, is_among, most_taken, planned, again_of, batched, is_busy_move, moved}
+use Rattle.nm_migrator.specs.Migrating.{Sequence, Does, Puts, Takes, Heats, Cools, UnmarkNext, Unmarks, AfterLast, Asks, MoveNext, Moves, PutNext, AfterBatch, Batches, PlanNext, Plans, AfterTakes, TakesPending, AfterCandidate}
+use Rattle.nm_migrator.specs.Stages.{kept_of, plan_of, next_of, comes_at, CandidateLeft, LastLeft, JudgedLeft, CandidatesLeft, PendingLeft, TakenLeft, TakesLeft, MoreLeft, PageLeft, PlansLeft, BatchesLeft, AgainLeft, MovesLeft, AskedLeft, UnmarksLeft}
+
+-- every list of the one is a list of the other
+abbrev pub Fits : (ℕ → Sequence) → (ℕ → Sequence) → Type 0
+Fits now was = (notes : Notes) (outcome : Unit {0}) → Sometimes now notes outcome → Sometimes was notes outcome
+
+-- Lanes.
+
+module _ (m : Migrating) where
+  -- candidates are taken again
+  pub candidates-fit : Fits (comes_at m TakingCandidate) (CandidatesLeft m)
+  candidates-fit notes outcome s = record { tries = suc s.tries; is = s.is }
+
+  pub candidate-judged : (page : ℕ) → is_mapped m.geometry.now page ≡ true → Fits (comes_at m (Judging page)) (CandidateLeft m (Some page))
+  candidate-judged page is notes outcome s = record {
+    tries = s.tries;
+    is = either-yes (is_mapped m.geometry.now page) (AfterCandidate m.geometry.now (next_of m s.tries) (kept_of m) (Some page)) (comes_at m TakingCandidate s.tries) notes outcome is s.is;
+  }
+
+  pub candidate-dropped : (page : ℕ) → is_mapped m.geometry.now page ≡ false → Fits (comes_at m TakingCandidate) (CandidateLeft m (Some page))
+  candidate-dropped page is notes outcome s = record {
+    tries = s.tries;
+    is = either-other (is_mapped m.geometry.now page) (AfterCandidate m.geometry.now (next_of m s.tries) (kept_of m) (Some page)) (comes_at m TakingCandidate s.tries) notes outcome is s.is;
+  }
+
+  pub last-judged : (page : ℕ) → is_mapped m.geometry.now page ≡ true → Fits (comes_at m (Judging page)) (LastLeft m (Some page))
+  last-judged page is notes outcome s = record {
+    tries = s.tries;
+    is = either-yes (is_mapped m.geometry.now page) (AfterLast m.geometry.now (next_of m s.tries) (kept_of m) (Some page)) (comes_at m TakingLast s.tries) notes outcome is s.is;
+  }
+
+  pub last-dropped : (page : ℕ) → is_mapped m.geometry.now page ≡ false → Fits (comes_at m TakingLast) (LastLeft m (Some page))
+  last-dropped page is notes outcome s = record {
+    tries = s.tries;
+    is = either-other (is_mapped m.geometry.now page) (AfterLast m.geometry.now (next_of m s.tries) (kept_of m) (Some page)) (comes_at m TakingLast s.tries) notes outcome is s.is;
+  }
+
+  -- Pending pages.
+
+  takes-by : (more n : ℕ) (notes : Notes) (outcome : Unit {0}) → most_taken - length m.taken ≡ more → TakesPending m.geometry.now (λ taken. TakenLeft m taken n) more m.taken notes outcome → TakesLeft m n notes outcome
+  takes-by more n notes outcome is h = rw is h
+
+  pub takes-one : length m.taken < most_taken → Fits (comes_at m TakingPending) (TakesLeft m)
+  takes-one room notes outcome s = record {
+    tries = s.tries;
+    is = takes-by (suc (most_taken - (length m.taken + 1))) s.tries notes outcome (omega arith) s.is;
+  }
+
+  pub takes-all : most_taken ≤ length m.taken → Fits (TakenLeft m m.taken) (TakesLeft m)
+  takes-all full notes outcome s = record { tries = s.tries; is = takes-by zero s.tries notes outcome (omega arith) s.is }
+
+  pub page-dropped : (page : ℕ) → is_mapped m.geometry.now page ≡ false → Fits (comes_at m TakingPending) (PageLeft m (Some page))
+  page-dropped page is notes outcome s = record {
+    tries = s.tries;
+    is = either-other (is_mapped m.geometry.now page) (MoreLeft m (Some page) s.tries) (comes_at m TakingPending s.tries) notes outcome is s.is;
+  }
+
+  more-fits : (page : ℕ) → is_mapped m.geometry.now page ≡ true → Fits (MoreLeft m (Some page)) (PageLeft m (Some page))
+  more-fits page is notes outcome s = record {
+    tries = s.tries;
+    is = either-yes (is_mapped m.geometry.now page) (MoreLeft m (Some page) s.tries) (comes_at m TakingPending s.tries) notes outcome is s.is;
+  }
+
+  pub page-twice : (page : ℕ) → is_mapped m.geometry.now page ≡ true → is_among page m.taken ≡ true → Fits (comes_at m (PuttingTwice page)) (PageLeft m (Some page))
+  page-twice page is among notes outcome s = more-fits page is notes outcome (record {
+    tries = s.tries;
+    is = either-yes (is_among page m.taken) (Puts page (TakenLeft m m.taken s.tries)) (TakesPending m.geometry.now (λ taken. TakenLeft m taken s.tries) (most_taken - (length m.taken + 1)) (m.taken ++ page ∷ [])) notes outcome among s.is;
+  })
+
+  pub page-taken : (page : ℕ) → is_mapped m.geometry.now page ≡ true → is_among page m.taken ≡ false → Fits (TakesLeft (record m { taken = m.taken ++ page ∷ [] })) (PageLeft m (Some page))
+  page-taken page is among notes outcome s = more-fits page is notes outcome (record {
+    tries = s.tries;
+    is = either-other (is_among page m.taken) (Puts page (TakenLeft m m.taken s.tries)) (TakesPending m.geometry.now (λ taken. TakenLeft m taken s.tries) (most_taken - (length m.taken + 1)) (m.taken ++ page ∷ [])) notes outcome among
+      (subst (λ (k : ℕ). TakesPending m.geometry.now (λ taken. TakenLeft m taken s.tries) (most_taken - k) (m.taken ++ page ∷ []) notes outcome) (length_push m.taken page) s.is);
+  })
+
+  -- The plan.
+
+  pub taken-asks : drop 0 m.taken ≡ [] → Fits (comes_at m Asking) (TakenLeft m m.taken)
+  taken-asks none notes outcome s = record { tries = s.tries; is = subst (λ (l : List ℕ). TakenLeft m l s.tries notes outcome) (sym none) s.is }
+
+  taken-plans-by : (taken rest : List ℕ) (page n : ℕ) (notes : Notes) (outcome : Unit {0}) → taken ≡ page ∷ rest → Plans m.geometry.now m.retry (next_of m n) (kept_of m) taken no_plan notes outcome → TakenLeft m taken n notes outcome
+  taken-plans-by taken rest page n notes outcome is h =
+      let P : List ℕ → Type 0 = λ l. Plans m.geometry.now m.retry (next_of m n) (kept_of m) l no_plan notes outcome in
+      subst (λ (l : List ℕ). TakenLeft m l n notes outcome) (sym is) (subst P is h)
+
+  pub taken-plans : (page : ℕ) → drop 0 m.taken ≡ page ∷ drop 1 m.taken → Fits (PlansLeft (record m { pieces = []; moves = [] }) 0 no_plan) (TakenLeft m m.taken)
+  taken-plans page is notes outcome s = record { tries = s.tries; is = taken-plans-by m.taken (drop 1 m.taken) page s.tries notes outcome is s.is }
+
+  pub plans-one : (index page : ℕ) → drop index m.taken ≡ page ∷ drop (index + 1) m.taken → Fits (comes_at m (Planning index page)) (PlansLeft m index (plan_of m))
+  plans-one index page is notes outcome s = record {
+    tries = s.tries;
+    is = subst (λ (l : List ℕ). Plans m.geometry.now m.retry (next_of m s.tries) (kept_of m) l (plan_of m) notes outcome) (sym is) s.is;
+  }
+
+  pub plans-all : (index : ℕ) → drop index m.taken ≡ [] → Fits (BatchesLeft m) (PlansLeft m index (plan_of m))
+  plans-all index none notes outcome s = record {
+    tries = s.tries;
+    is = subst (λ (l : List ℕ). Plans m.geometry.now m.retry (next_of m s.tries) (kept_of m) l (plan_of m) notes outcome) (sym none) s.is;
+  }
+
+  -- The batch.
+
+  batches-by : (pieces rest : List (ℕ × ℕ)) (p : ℕ × ℕ) (n : ℕ) (notes : Notes) (outcome : Unit {0}) → pieces ≡ p ∷ rest
+      → Does m.geometry.now (made_batch m.geometry.now pieces m.spent) (λ end. AfterBatch m.geometry.now (next_of m n) m.moves (again_of pieces (batch_in end).end) (batched pieces (batch_in end) (kept_of m))) notes outcome
+      → Batches m.geometry.now (next_of m n) (kept_of m) m.moves pieces notes outcome
+  batches-by pieces rest p n notes outcome is h =
+      let P : List (ℕ × ℕ) → Type 0 = λ l. Does m.geometry.now (made_batch m.geometry.now l m.spent) (λ end. AfterBatch m.geometry.now (next_of m n) m.moves (again_of l (batch_in end).end) (batched l (batch_in end) (kept_of m))) notes outcome in
+      subst (λ (l : List (ℕ × ℕ)). Batches m.geometry.now (next_of m n) (kept_of m) m.moves l notes outcome) (sym is) (subst P is h)
+
+  pub batches-some : (p : ℕ × ℕ) → drop 0 m.pieces ≡ p ∷ drop 1 m.pieces → Fits (comes_at m Batching) (BatchesLeft m)
+  batches-some p is notes outcome s = record { tries = s.tries; is = batches-by m.pieces (drop 1 m.pieces) p s.tries notes outcome is s.is }
+
+  pub batches-none : drop 0 m.pieces ≡ [] → Fits (MovesLeft m 0 (kept_of m)) (BatchesLeft m)
+  batches-none none notes outcome s = record {
+    tries = s.tries;
+    is = subst (λ (l : List (ℕ × ℕ)). Batches m.geometry.now (next_of m s.tries) (kept_of m) m.moves l notes outcome) (sym none) s.is;
+  }
+
+  pub again-one : (index page : ℕ) → drop index m.again ≡ page ∷ drop (index + 1) m.again → Fits (comes_at m (PuttingAgain index page)) (AgainLeft m index)
+  again-one index page is notes outcome s = record {
+    tries = s.tries;
+    is = subst (λ (l : List ℕ). AfterBatch m.geometry.now (next_of m s.tries) m.moves l (kept_of m) notes outcome) (sym is) s.is;
+  }
+
+  pub again-all : (index : ℕ) → drop index m.again ≡ [] → Fits (MovesLeft m 0 (kept_of m)) (AgainLeft m index)
+  again-all index none notes outcome s = record {
+    tries = s.tries;
+    is = subst (λ (l : List ℕ). AfterBatch m.geometry.now (next_of m s.tries) m.moves l (kept_of m) notes outcome) (sym none) s.is;
+  }
+
+  -- The locked moves.
+
+  pub moves-one : (index page count : ℕ) → drop index m.moves ≡ (page, count) ∷ drop (index + 1) m.moves → Fits (comes_at m (Moving index page count)) (MovesLeft m index (kept_of m))
+  moves-one index page count is notes outcome s = record {
+    tries = s.tries;
+    is = subst (λ (l : List (ℕ × ℕ)). Moves m.geometry.now (next_of m s.tries) l (kept_of m) notes outcome) (sym is) s.is;
+  }
+
+  pub moves-all : (index : ℕ) → drop index m.moves ≡ [] → Fits (comes_at m TakingCandidate) (MovesLeft m index (kept_of m))
+  moves-all index none notes outcome s = record {
+    tries = suc s.tries;
+    is = subst (λ (l : List (ℕ × ℕ)). Moves m.geometry.now (next_of m (suc s.tries)) l (kept_of m) notes outcome) (sym none) s.is;
+  }
+
+  -- The end.
+
+  unmarks-by : (page more n : ℕ) (notes : Notes) (outcome : Unit {0}) → page_count m.geometry.now - page ≡ more → Unmarks m.geometry.now (range_with_len page more) notes outcome → UnmarksLeft m page n notes outcome
+  unmarks-by page more n notes outcome is h = rw is h
+
+  pub unmarks-one : (page : ℕ) → page < page_count m.geometry.now → Fits (comes_at m (Unmarking page)) (UnmarksLeft m page)
+  unmarks-one page within notes outcome s = record {
+    tries = s.tries;
+    is = unmarks-by page (suc (page_count m.geometry.now - (page + 1))) s.tries notes outcome (omega arith) s.is;
+  }
+
+  pub unmarks-all : (page : ℕ) → page_count m.geometry.now ≤ page → Sometimes (UnmarksLeft m page) [] tt
+  unmarks-all page past = record { tries = zero; is = unmarks-by page zero zero [] tt (omega arith) (ends-now tt) }
