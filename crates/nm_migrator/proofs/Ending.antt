@@ -13,7 +13,6 @@ use Rattle.nm_part.specs.Patterns.{Ends, Follows, Either, Each, Sometimes, CanEn
 use Rattle.nm_part.proofs.Patterns.{can-ends, can-follow, can-either, each-can, can-sometimes}
 use Rattle.nm_worker.specs.declared.routine.Ended.{Ended}
 use Rattle.nm_worker.specs.Notes.{Notes, worked, IsWorkDone, IsPut}
-use Rattle.nm_worker.proofs.Routing.{some-put}
 use Rattle.nm_migrator_work.specs.declared.work.MigratorWork.TheVariants as works
 use Rattle.nm_migrator_work.specs.Works.{WorkMade, WorkEnd, IsWork, made_mark, made_looks, made_cool, made_batch, made_move, made_ask}
 use Rattle.nm_migrator_work.proofs.Listing.{all-ended}
@@ -24,7 +23,7 @@ use Rattle.nm_migrator.specs.Ends.{reply_in, seen_in, cooled_in, batch_in, move_
 use Rattle.nm_migrator.specs.Planned.{Kept, nothing_kept, unaborted, is_mapped, is_among, most_taken, Plan, no_plan, planned, again_of, batched, is_busy_move, moved}
 use Rattle.nm_migrator.specs.Migrating.{Sequence, Does, Puts, Taken, Takes, Spills, AfterCool, Cools, AfterHeat, Heats, Judges, UnmarkNext, Unmarks, AfterLast, Asks, MoveNext, Moves, PutNext, AfterBatch, Batches, PlanNext, Plans, AfterTakes, PendingTaken, TakesPending, AfterCandidate, Round, Rounds, IsMigrating}
 use Rattle.nm_migrator.specs.Stages.{kept_of, plan_of, next_of, left_at, migrating_left, TakenLeft, MoreLeft}
-use Rattle.nm_migrator.proofs.Looping.{can-does, can-puts, can-put-left, can-takes, can-taken}
+use Rattle.nm_migrator.proofs.Looping.{page-put, can-does, can-puts, can-put-left, can-takes, can-taken}
 
 -- what comes next has a list, from both places on
 abbrev pub IsNextEnding : (Lane → Kept → Sequence) → Type 0
@@ -40,7 +39,7 @@ module _ (g : Geometry) (retry : Option ℕ) (next : Lane → Kept → Sequence)
       (can-does g (made_mark page 1 0) (λ end. next Pending kept) (λ end. ends Pending kept)) (ends Pending kept)
 
   pub can-after-cool : (kept : Kept) (page : ℕ) (end : Cooled) → CanEnd (AfterCool g next kept page end)
-  can-after-cool kept page Busy = can-follow (IsPut Candidates page) (Spills g next kept page) (some-put Candidates page false) (can-spills kept page false)
+  can-after-cool kept page Busy = can-follow (IsPut Candidates page) (Spills g next kept page) (page-put Candidates page) (can-spills kept page false)
   can-after-cool kept page Cold = ends Candidates kept
 
   pub can-cools : (kept : Kept) (page : ℕ) → CanEnd (Cools g next kept page)

@@ -60,22 +60,22 @@ record Owed (m : Migrating) (view : View) (was : Sequence) (task : Task WorkMade
 given : (is_new : MigratorPiece → Type 0) (m : Migrating) (view : View) (was : Sequence) (task : Task MigratorPiece) (want : Task WorkMade)
     → task_data work_made task ≡ want → IsNewTask is_new task → Owed m view was want
     → IsNextTask work_made is_new MayWork IsWork work_counts (IsMigratingAt m) (migrating_left m) was m.geometry.now view task
-given is_new m view was (Run piece) want data fresh owed =
-    let o : Owed m view was (Run (work_made piece)) = subst (λ (t : Task WorkMade). Owed m view was t) (sym data) owed in
+given is_new m view was (Run piece) want plain fresh owed =
+    let o : Owed m view was (Run (work_made piece)) = subst (λ (t : Task WorkMade). Owed m view was t) (sym plain) owed in
     record { is_new = fresh; may_begin = o.may; run = o.run }
-given is_new m view was (Put lane page) want data fresh owed =
-    let o : Owed m view was (Put lane page) = subst (λ (t : Task WorkMade). Owed m view was t) (sym data) owed in o.run
-given is_new m view was (Take lane) want data fresh owed =
-    let o : Owed m view was (Take lane) = subst (λ (t : Task WorkMade). Owed m view was t) (sym data) owed in o.run
-given is_new m view was Stop want data fresh owed =
-    let o : Owed m view was Stop = subst (λ (t : Task WorkMade). Owed m view was t) (sym data) owed in absurd o.may
+given is_new m view was (Put lane page) want plain fresh owed =
+    let o : Owed m view was (Put lane page) = subst (λ (t : Task WorkMade). Owed m view was t) (sym plain) owed in o.run
+given is_new m view was (Take lane) want plain fresh owed =
+    let o : Owed m view was (Take lane) = subst (λ (t : Task WorkMade). Owed m view was t) (sym plain) owed in o.run
+given is_new m view was Stop want plain fresh owed =
+    let o : Owed m view was Stop = subst (λ (t : Task WorkMade). Owed m view was t) (sym plain) owed in absurd o.may
 
 -- the task of the stage that was come to is given
 pub gives : (is_new : MigratorPiece → Type 0) (m : Migrating) (task : Task MigratorPiece) (was : ℕ → Sequence)
     → task_data work_made task ≡ stage_task m m.stage → IsNewTask is_new task → KnownAt m m.stage → HasTask m.stage
     → ((notes : Notes) (outcome : Unit {0}) → Sometimes (comes_at m m.stage) notes outcome → Sometimes was notes outcome)
     → Gives is_new m.geometry.now m.spent m task was
-gives is_new m task was data fresh known has fits = λ view rest. given is_new m view (Sometimes was) task (stage_task m m.stage) data fresh (record {
+gives is_new m task was plain fresh known has fits = λ view rest. given is_new m view (Sometimes was) task (stage_task m m.stage) plain fresh (record {
   may = may-task m m.stage view known has rest;
   run = record {
     known = record { is = refl; known = known; resting = rest };
@@ -88,15 +88,15 @@ gives is_new m task was data fresh known has fits = λ view rest. given is_new m
 ended : (is_new : MigratorPiece → Type 0) (m : Migrating) (view : View) (was : Sequence) (task : Task MigratorPiece)
     → task_data work_made task ≡ Stop → IsMigratingAt m view Stop → was [] tt
     → IsNextTask work_made is_new MayWork IsWork work_counts (IsMigratingAt m) (migrating_left m) was m.geometry.now view task
-ended is_new m view was (Run piece) data known h = cc
-ended is_new m view was (Put lane page) data known h = cc
-ended is_new m view was (Take lane) data known h = cc
-ended is_new m view was Stop data known h = record { known = known; ended = h }
+ended is_new m view was (Run piece) plain known h = cc
+ended is_new m view was (Put lane page) plain known h = cc
+ended is_new m view was (Take lane) plain known h = cc
+ended is_new m view was Stop plain known h = record { known = known; ended = h }
 
 pub gives-over : (is_new : MigratorPiece → Type 0) (m : Migrating) (task : Task MigratorPiece) (was : ℕ → Sequence)
     → m.stage ≡ Over → task_data work_made task ≡ stage_task m Over → KnownAt m Over → Sometimes was [] tt
     → Gives is_new m.geometry.now m.spent m task was
-gives-over is_new m task was at data known h = λ view rest. ended is_new m view (Sometimes was) task data (record {
+gives-over is_new m task was at plain known h = λ view rest. ended is_new m view (Sometimes was) task plain (record {
   is = ap (stage_task m) (sym at);
   known = subst (λ (s : MigratingStage). KnownAt m s) (sym at) known;
   resting = rest;
@@ -107,8 +107,8 @@ pub gives-stage : (is_new : MigratorPiece → Type 0) (old new : Migrating) (sta
     → new ≡ record old { stage = stage } → task_data work_made task ≡ stage_task old stage → IsNewTask is_new task → KnownAt old stage → HasTask stage
     → ((notes : Notes) (outcome : Unit {0}) → Sometimes (comes_at old stage) notes outcome → Sometimes was notes outcome)
     → Gives is_new old.geometry.now old.spent new task was
-gives-stage is_new old new stage task was is data fresh known has fits =
-    subst (λ (m : Migrating). Gives is_new old.geometry.now old.spent m task was) (sym is) (gives is_new (record old { stage = stage }) task was data fresh known has fits)
+gives-stage is_new old new stage task was is plain fresh known has fits =
+    subst (λ (m : Migrating). Gives is_new old.geometry.now old.spent m task was) (sym is) (gives is_new (record old { stage = stage }) task was plain fresh known has fits)
 
 -- what was left may be more
 pub gives-more : (is_new : MigratorPiece → Type 0) (g : Geometry) (m : Migrating) (view : View) (task : Task MigratorPiece) (was wider : Sequence)

@@ -6,7 +6,9 @@ use Rattle.nm_action.specs.declared.turn.Lane.TheVariants.{Pending}
 use Rattle.nm_part.specs.Patterns.{Follows, Either, Sometimes, CanEnd}
 use Rattle.nm_part.proofs.Patterns.{can-follow, can-either}
 use Rattle.nm_worker.specs.Notes.{Notes, IsWorkDone, IsPut, IsTake}
-use Rattle.nm_worker.proofs.Routing.{some-work, some-put, some-take}
+use Rattle.nm_action.specs.declared.turn.Turn.TheVariants as turn
+use Rattle.nm_worker.specs.Notes.{put_heard, take_heard}
+use Rattle.nm_worker.proofs.Routing.{some-work}
 use Rattle.nm_migrator_work.specs.Works.{WorkMade, WorkEnd, IsWork}
 use Rattle.nm_migrator_work.proofs.Listing.{some-migrator-work}
 use Rattle.nm_migrator.specs.Ends.{work_counts}
@@ -24,6 +26,14 @@ sometimes-out first after own outcome f = record {
 
 -- Puts.
 
+-- a page was put
+abbrev pub page-put : (lane : Lane) (page : ℕ) → CanEnd (IsPut lane page)
+page-put lane page = record { rest = record { turn = turn.Put lane page; heard = put_heard false; counts = None } ∷ []; outcome = false; shown = record { is = refl } }
+
+-- a lane was empty
+abbrev pub none-taken : (lane : Lane) → CanEnd (IsTake lane)
+none-taken lane = record { rest = record { turn = turn.Take lane; heard = take_heard None; counts = None } ∷ []; outcome = None; shown = record { is = refl } }
+
 put-again : (page : ℕ) (after : Sequence) (full : Bool) (back : Notes) (outcome : Unit {0}) → PutLeft page full after back outcome → (n : ℕ) × Either full (PutsTry page after n) after back outcome
 put-again page after true back outcome s = (s.tries, s.is)
 put-again page after false back outcome h = (0, h)
@@ -35,7 +45,7 @@ puts-once page after notes outcome f =
 
 pub can-puts : (page : ℕ) (after : Sequence) → CanEnd after → CanEnd (Puts page after)
 can-puts page after can =
-    let c = can-follow (IsPut Pending page) (λ full. Either full (PutsTry page after zero) after) (some-put Pending page false) can in
+    let c = can-follow (IsPut Pending page) (λ full. Either full (PutsTry page after zero) after) (page-put Pending page) can in
     record { rest = c.rest; outcome = c.outcome; shown = record { tries = suc zero; is = c.shown } }
 
 pub can-put-left : (page : ℕ) (full : Bool) (after : Sequence) → CanEnd after → CanEnd (PutLeft page full after)
@@ -61,7 +71,7 @@ takes-once g lane after notes outcome f =
 
 pub can-takes : (g : Geometry) (lane : Lane) (after : Option ℕ → Sequence) → CanEnd (after None) → CanEnd (Takes g lane after)
 can-takes g lane after can =
-    let c = can-follow (IsTake lane) (λ page. Taken g (TakesTry g lane after zero) after page) (some-take lane None) can in
+    let c = can-follow (IsTake lane) (λ page. Taken g (TakesTry g lane after zero) after page) (none-taken lane) can in
     record { rest = c.rest; outcome = c.outcome; shown = record { tries = suc zero; is = c.shown } }
 
 pub can-taken : (g : Geometry) (again : Sequence) (after : Option ℕ → Sequence) (page : Option ℕ) → CanEnd again → ((page : Option ℕ) → CanEnd (after page)) → CanEnd (Taken g again after page)

@@ -22,26 +22,22 @@ some-any (v ∷ vs) is = λ none. cc
 pub is-mapped : (g : Geometry) (page : ℕ) → is_mapped g page ≡ true → IsMappedPage g page
 is-mapped g page is = some-any (vpages_of g page) is
 
-not-among-by : (page b : ℕ) (pages : List ℕ) (test more : Bool) → (b == page) ≡ test → is_among page pages ≡ more → (test || more) ≡ false → find itself page pages ≡ None → find itself page (b ∷ pages) ≡ None
-not-among-by page b pages true more is m no none = cc
-not-among-by page b pages false more is m no none = rw is none
-
-among-rest : (test more : Bool) → (test || more) ≡ false → more ≡ false
-among-rest true more no = cc
-among-rest false more no = no
+not-among-by : (page b : ℕ) (pages : List ℕ) (test : Bool) → (b == page) ≡ test → (test || is_among page pages) ≡ false → (is_among page pages ≡ false → find itself page pages ≡ None) → find itself page (b ∷ pages) ≡ None
+not-among-by page b pages true is absent rest = cc
+not-among-by page b pages false is absent rest = rw is (rest absent)
 
 pub not-among : (page : ℕ) (pages : List ℕ) → is_among page pages ≡ false → find itself page pages ≡ None
-not-among page [] no = refl
-not-among page (b ∷ pages) no = not-among-by page b pages (b == page) (is_among page pages) refl refl no (not-among page pages (among-rest (b == page) (is_among page pages) no))
+not-among page [] absent = refl
+not-among page (b ∷ pages) absent = not-among-by page b pages (b == page) refl absent (not-among page pages)
 
 pub taken-none : (g : Geometry) → AreTaken g []
 taken-none g = record { few = omega arith; mapped = All-nil (IsMappedPage g); once = tt }
 
 pub taken-more : (g : Geometry) (pages : List ℕ) (page : ℕ) → AreTaken g pages → length pages < most_taken → IsMappedPage g page → is_among page pages ≡ false → AreTaken g (pages ++ page ∷ [])
-taken-more g pages page h room mapped no = record {
+taken-more g pages page h room mapped absent = record {
   few = rw length_push (omega arith);
   mapped = All-push (IsMappedPage g) pages page h.mapped mapped;
-  once = once_join itself page pages h.once (not-among page pages no);
+  once = once_join itself page pages h.once (not-among page pages absent);
 }
 
 -- The plan.
@@ -64,12 +60,12 @@ some-count retry aborts count false false is eq h = cc
 
 -- none of the pages that stand after a page is that page
 others-apart : (page : ℕ) (pieces : List (ℕ × ℕ)) (v : ℕ) (more : List ℕ) → All (λ b. find first b pieces ≡ None) more → find itself page more ≡ None → All (λ b. find first b (pieces ++ (page, v) ∷ []) ≡ None) more
-others-apart page pieces v [] h no = All-nil (λ b. find first b (pieces ++ (page, v) ∷ []) ≡ None)
-others-apart page pieces v (b ∷ more) h no =
+others-apart page pieces v [] h absent = All-nil (λ b. find first b (pieces ++ (page, v) ∷ []) ≡ None)
+others-apart page pieces v (b ∷ more) h absent =
     let N : ℕ → Type 0 = λ b. find first b pieces ≡ None in
     All-cons (λ b. find first b (pieces ++ (page, v) ∷ []) ≡ None) b more
-    (absent_join first (page, v) b pieces (λ e. absent-head itself page b more no (sym e)) (All-head N b more h))
-    (others-apart page pieces v more (All-tail N b more h) (absent-tail itself page b more no))
+    (absent_join first (page, v) b pieces (λ e. absent-head itself page b more absent (sym e)) (All-head N b more h))
+    (others-apart page pieces v more (All-tail N b more h) (absent-tail itself page b more absent))
 
 pub plan-piece : (g : Geometry) (plan : Plan) (page v : ℕ) (more : List ℕ) → IsPlanWith g plan (page ∷ more) → IsPlanWith g (record plan { pieces = plan.pieces ++ (page, v) ∷ [] }) more
 plan-piece g plan page v more h =

@@ -3,6 +3,7 @@ use Rattle.std.proofs.Common.{◌≡◌, ℕ, List, Option, sym, ap, ◌∙◌, 
 use Rattle.nm_base.specs.Geometry.{Geometry}
 use Rattle.nm_action.specs.declared.spent.Spent.{Spent}
 use Rattle.nm_action.specs.declared.turn.Lane.{Lane}
+use Rattle.nm_action.specs.declared.turn.Lane.TheVariants.{Candidates, Pending}
 use Rattle.nm_action.specs.Own.{Own}
 use Rattle.nm_view.specs.Views.{View}
 use Rattle.nm_part.specs.Patterns.{Sometimes}
@@ -114,22 +115,22 @@ module _ (g : Geometry) (spent : Spent) (now later : View) where
 
 rest-at : (m : Migrating) (stage : MigratingStage) (end : Ended WorkEnd) (now later : View) → KnownAt m stage → IsResting m.geometry.now m.spent now → IsAfter m.geometry.now now later (stage_task m stage) end → IsResting m.geometry.now (spent_after m stage end) later
 rest-at m New end now later k r h = absurd k
-rest-at m TakingCandidate end now later k r h = take-rest m.geometry.now m.spent now later _ end r h
+rest-at m TakingCandidate end now later k r h = take-rest m.geometry.now m.spent now later Candidates end r h
 rest-at m (Judging page) end now later k r h = looks-rest m.geometry.now m.spent now later page end r h
 rest-at m (Heating page) end now later k r h = mark-rest m.geometry.now m.spent now later page 1 2 end r h
-rest-at m (PuttingHot page) end now later k r h = put-rest m.geometry.now m.spent now later _ page end r h
+rest-at m (PuttingHot page) end now later k r h = put-rest m.geometry.now m.spent now later Pending page end r h
 rest-at m (Cooling page) end now later k r h = cool-rest m.geometry.now m.spent now later page end r h
-rest-at m (PuttingBack page) end now later k r h = put-rest m.geometry.now m.spent now later _ page end r h
+rest-at m (PuttingBack page) end now later k r h = put-rest m.geometry.now m.spent now later Candidates page end r h
 rest-at m (Spilling page) end now later k r h = mark-rest m.geometry.now m.spent now later page 1 0 end r h
-rest-at m TakingPending end now later k r h = take-rest m.geometry.now m.spent now later _ end r h
-rest-at m (PuttingTwice page) end now later k r h = put-rest m.geometry.now m.spent now later _ page end r h
+rest-at m TakingPending end now later k r h = take-rest m.geometry.now m.spent now later Pending end r h
+rest-at m (PuttingTwice page) end now later k r h = put-rest m.geometry.now m.spent now later Pending page end r h
 rest-at m (Planning index page) end now later k r h = looks-rest m.geometry.now m.spent now later page end r h
 rest-at m Batching end now later k r h = batch-rest m.geometry.now m.spent now later m.pieces end r h
-rest-at m (PuttingAgain index page) end now later k r h = put-rest m.geometry.now m.spent now later _ page end r h
+rest-at m (PuttingAgain index page) end now later k r h = put-rest m.geometry.now m.spent now later Pending page end r h
 rest-at m (Moving index page count) end now later k r h = move-rest m.geometry.now m.spent now later page count end r h
-rest-at m (PuttingMoved index page) end now later k r h = put-rest m.geometry.now m.spent now later _ page end r h
+rest-at m (PuttingMoved index page) end now later k r h = put-rest m.geometry.now m.spent now later Pending page end r h
 rest-at m Asking end now later k r h = ask-rest m.geometry.now m.spent now later end r h
-rest-at m TakingLast end now later k r h = take-rest m.geometry.now m.spent now later _ end r h
+rest-at m TakingLast end now later k r h = take-rest m.geometry.now m.spent now later Candidates end r h
 rest-at m (Unmarking page) end now later k r h = mark-rest m.geometry.now m.spent now later page 1 0 end r h
 rest-at m Over end now later k r h = absurd h
 

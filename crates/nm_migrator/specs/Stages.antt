@@ -212,9 +212,9 @@ pub record HasCounts (g : Geometry) (aborts : List ℕ) : Type 0 where
   pub counts : length aborts ≡ page_count g
 
 -- and the list for taken words is here
-pub record IsKeptIn (g : Geometry) (aborts : List ℕ) (words : Option (List (ℕ × ℕ))) : Type 0 where
+pub record IsKeptIn (g : Geometry) (aborts : List ℕ) (room : Option (List (ℕ × ℕ))) : Type 0 where
   pub has : HasCounts g aborts
-  pub words : HoldsWords words
+  pub words : HoldsWords room
 
 abbrev pub IsKept : Migrating → Type 0
 IsKept m = IsKeptIn m.geometry.now m.aborts.items m.words

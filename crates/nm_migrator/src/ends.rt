@@ -61,7 +61,7 @@ pub(crate) fn seen_in(end: MigratorEnd) -> Seen
 {
     match end {
         MigratorWork::Looks(seen) => seen,
-        _ => Seen::nothing(),
+        _other => Seen::nothing(),
     }
 }
 
@@ -81,7 +81,7 @@ pub(crate) fn batch_in(end: MigratorEnd) -> Drawn<PieceList<TxnEnd>>
 {
     match end {
         MigratorWork::Batch(told) => told,
-        _ => Drawn {
+        _other => Drawn {
             end: PieceList::new(),
             spent: Spent::default(),
         },
@@ -152,9 +152,10 @@ fn pieces_counts(ends: &PieceList<TxnEnd>) -> Tally
 {
     let mut tally = Tally::default();
     for index in 0..ends.len() {
-        if let Some(end) = ends.get(index) {
-            tally = tally.plus(piece_counts(end));
-        }
+        let Some(end) = ends.get(index) else {
+            return tally
+        };
+        tally = tally.plus(piece_counts(end));
     }
     tally
 }
