@@ -73,7 +73,7 @@ pub fn run_crew<C: Actor + Drop, M: Actor + Drop, R: Actor + Drop>(
     ensures migrator { IfOk result (λ run. M.made run.crew.migrator ≡ M.made crew.migrator) }
     ensures reclaimer { IfOk result (λ run. R.made run.crew.reclaimer ≡ R.made crew.reclaimer) }
     ensures run { IfOk result (λ run. IsCrewRun C.agrees (M.agrees run.crew.migrator) (R.agrees run.crew.reclaimer)
-        g.now schedule.now run.crew.cpus.items run.events.items run.order.items run.turns run.end.now) }
+        g.now schedule.now run.crew.cpus.items run.events.items run.order.items run.turns run.end) }
     ensures tally { IfOk result (λ run. run.tally ≡ tally_of (crew_tallies (map C.counted run.crew.cpus.items) (M.counted run.crew.migrator) (R.counted run.crew.reclaimer))) }
 {
     let run = run_schedule(alloc, g, schedule, crew)?;

@@ -1,6 +1,7 @@
 //! Simulations of scripts.
 #![tactic(auto)]
 
+mod cpus;
 pub mod simulation;
 
 pub use nm_schedule::{SimAct, SimTurn};

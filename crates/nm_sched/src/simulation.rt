@@ -4,8 +4,13 @@ ghost use Rattle.std.specs.Prelude.{◌≡◌, IfOk};
 ghost use Rattle.nm_script.specs.Script.{IsScript};
 ghost use Rattle.nm_sched.specs.Runs.{IsRunOfScript};
 
+use crate::cpus::{cpus_of, results_of};
 use nm_action::{Event, Tally};
 use nm_core::EndWords;
+use nm_crew::run_crew;
+use nm_kswap::ReclaimerActor;
+use nm_migrator::MigratorActor;
+use nm_play::Actors;
 use nm_report::LineResult;
 use nm_schedule::SimTurn;
 use nm_script::Script;
@@ -45,5 +50,20 @@ pub fn simulate(alloc: Global, script: &Script) -> Result<SimRun, AllocError>
     requires { IsScript script.now }
     ensures { IfOk result (IsRunOfScript script.now) }
 {
-    Err(AllocError)
+    let g = &script.geometry;
+    let crew = Actors {
+        cpus: cpus_of(alloc, script)?,
+        migrator: MigratorActor::new(alloc, g, script.retry)?,
+        reclaimer: ReclaimerActor::new(alloc, g)?,
+    };
+    let run = run_crew(alloc, g, &script.schedule, crew)?;
+    let results = results_of(alloc, run.crew.cpus)?;
+    Ok(SimRun {
+        events: run.events,
+        order: run.order,
+        results,
+        end: run.end,
+        tally: run.tally,
+        turns: run.turns,
+    })
 }

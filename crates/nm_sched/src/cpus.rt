@@ -1,0 +1,40 @@
+//! The processors of a script: before a simulation, and what they give after it.
+
+ghost use Rattle.std.specs.Prelude.{◌≡◌, map, length, IfOk};
+ghost use Rattle.nm_script.specs.Script.{IsScript};
+ghost use Rattle.nm_crew.specs.Crewed.{Each};
+ghost use Rattle.nm_sched.specs.Cpus.{IsCpuAt};
+
+use nm_cpu::CpuActor;
+use nm_report::LineResult;
+use nm_script::Script;
+use std::alloc::{AllocError, Global};
+
+/// The processors of a script, each with its program.
+pub(crate) fn cpus_of<'a>(alloc: Global, script: &'a Script) -> Result<Vec<CpuActor<'a>>, AllocError>
+    requires { IsScript script.now }
+    ensures many { IfOk result (λ cpus. length cpus.items ≡ script.now.geometry.cpus) }
+    ensures each { IfOk result (λ cpus. Each (IsCpuAt script.now) cpus.items) }
+{
+    let g = &script.geometry;
+    let mut cpus = Vec::with_capacity(alloc, g.cpus as usize)?;
+    for number in 0..g.cpus {
+        let program = &script.programs[number as usize];
+        cpus.push(CpuActor::new(alloc, g, number, program)?)?;
+    }
+    Ok(cpus)
+}
+
+/// What the lines of each processor gave.
+pub(crate) fn results_of(
+    alloc: Global,
+    cpus: Vec<CpuActor<'_>>,
+) -> Result<Vec<Vec<LineResult>>, AllocError>
+    ensures { IfOk result (λ results. map (λ r. r.items) results.items ≡ map (λ c. c.results.items) cpus.items) }
+{
+    let mut results = Vec::with_capacity(alloc, cpus.len())?;
+    for cpu in cpus {
+        results.push(cpu.into_results())?;
+    }
+    Ok(results)
+}
