@@ -1,3 +1,4 @@
 pub mod Plain
 pub mod Parts
 pub mod Runs
+pub mod Cpus
