@@ -15,11 +15,11 @@ use Rattle.nm_part.specs.Parts.{IsBegunWith, IsAsked}
 use Rattle.nm_part.specs.Patterns.{Follows, IsLeft, CanEnd}
 use Rattle.nm_actor.specs.Turns.{turns_view}
 use Rattle.nm_worker.specs.declared.routine.Task.{Task}
-use Rattle.nm_worker.specs.declared.routine.Task.TheVariants.{Run, Put, Take}
+use Rattle.nm_worker.specs.declared.routine.Task.TheVariants.{Run, Put, Take, Stop}
 use Rattle.nm_worker.specs.declared.routine.Ended.{Ended}
 use Rattle.nm_worker.specs.declared.routine.Ended.TheVariants as ended
 use Rattle.nm_worker.specs.Notes.{Noted, Notes, noted_turns, uncounted, counts_last, worked, IsTask}
-use Rattle.nm_worker.specs.Routines.{IsTaskRun, IsWorkRun, IsNextTask}
+use Rattle.nm_worker.specs.Routines.{IsTaskRun, IsWorkRun, IsStop, IsNextTask}
 use Rattle.nm_worker.specs.Workers.{ComesNext, IsAtTask, IsAtWork, IsTurnGiven}
 use Rattle.nm_worker.proofs.NoteLists.{own-uncounted, view-more, worked-with}
 
@@ -133,3 +133,18 @@ take-given {P} {M} {X} made is_new may_begin shape awaits counts knows left whol
       at = record { same = refl; run = run };
       permitted = tt;
     }
+
+-- The end.
+
+-- nothing more is left
+pub stop-given : {P M X : Type 0} (made : P → M) (is_new : P → Type 0) (may_begin : M → Geometry → View → Type 0) (shape : M → Geometry → Own → X → Type 0) (awaits : P → Geometry → View → Own → Action → Type 0) (counts : X → Tally) (knows : View → Task M → Type 0) (left : Ended X → Notes → Unit {0} → Type 0) (whole : Notes → Unit {0} → Type 0) (g : Geometry) (number : ℕ) (kept : Action) (task : Task P)
+    → task ≡ Stop
+    → (notes : Notes) → IsNextTask made is_new may_begin shape counts knows left (λ rest outcome. whole (notes ++ rest) outcome) g (turns_view g number (noted_turns notes)) task
+    → IsTurnGiven made is_new may_begin shape awaits counts knows left whole g number kept task turn.End notes
+stop-given {P} {M} {X} made is_new may_begin shape awaits counts knows left whole g number kept task is notes next =
+    let view = turns_view g number (noted_turns notes) in
+    let N : Task P → Type 0 = λ t. IsNextTask made is_new may_begin shape counts knows left (λ rest outcome. whole (notes ++ rest) outcome) g view t in
+    let G : Task P → Type 0 = λ t. IsTurnGiven made is_new may_begin shape awaits counts knows left whole g number kept t turn.End notes in
+    let W : Notes → Type 0 = λ l. whole l tt in
+    let stop : IsStop (knows view Stop) (λ rest outcome. whole (notes ++ rest) outcome) = subst N is next in
+    subst G (sym is) (record { next = subst W (append-nil notes) stop.ended; at = stop.known; permitted = tt })

@@ -27,7 +27,7 @@ next-due made is_new may_begin shape counts knows left was whole g now notes (Ru
 }
 next-due made is_new may_begin shape counts knows left was whole g now notes (Put lane page) due h = record { known = h.known; can = h.can; fits = λ rest outcome f. due.carry rest outcome (h.fits rest outcome f) }
 next-due made is_new may_begin shape counts knows left was whole g now notes (Take lane) due h = record { known = h.known; can = h.can; fits = λ rest outcome f. due.carry rest outcome (h.fits rest outcome f) }
-next-due made is_new may_begin shape counts knows left was whole g now notes Stop due h = due.carry [] tt h
+next-due made is_new may_begin shape counts knows left was whole g now notes Stop due h = record { known = h.known; ended = due.carry [] tt h.ended }
 
 -- the first turn of the task that comes after one
 pub go-on-given : {P M X R Q : Type 0} (made : P → M) (is_new : P → Type 0) (may_begin : M → Geometry → View → Type 0) (shape : M → Geometry → Own → X → Type 0) (awaits : P → Geometry → View → Own → Action → Type 0) (leaves : M → Geometry → View → X → View → Type 0) (ends : P → Geometry → Own → X → Type 0) (counts : X → Tally) (knows : R → View → Task M → Type 0) (left : R → Ended X → Notes → Unit {0} → Type 0) (data_of : R → Q) (whole : Q → Notes → Unit {0} → Type 0) (geometry : Q → Geometry) (number : Q → ℕ) (old now new : R) (task next given : Task P) (kept : Action) (result : Turn) (end : Ended X) (spent : Spent)

@@ -7,3 +7,4 @@ pub mod Turning
 pub mod Lanes
 pub mod Routing
 pub mod Starting
+pub mod Ending

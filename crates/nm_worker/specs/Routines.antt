@@ -1,5 +1,5 @@
 -- What a routine promises of each task that it gives.
-use Rattle.std.specs.Prelude.{◌≡◌, []}
+use Rattle.std.specs.Prelude.{◌≡◌, [], None}
 use Rattle.nm_base.specs.Geometry.{Geometry}
 use Rattle.nm_action.specs.declared.spent.Spent.{Spent}
 use Rattle.nm_action.specs.declared.tally.Tally.{Tally}
@@ -35,12 +35,17 @@ pub record IsWorkRun {X : Type 0} (new begin knows : Type 0) (done : Notes → E
   pub may_begin : begin
   pub run : IsTaskRun knows done left was
 
--- this task comes next; none does where nothing more was left
+-- the sequence ends: nothing more was left, and what is known holds
+pub record IsStop (knows : Type 0) (was : Notes → Unit {0} → Type 0) : Type 0 where
+  pub known : knows
+  pub ended : was [] tt
+
+-- this task comes next
 abbrev pub IsNextTask : {P M X : Type 0} → (P → M) → (P → Type 0) → (M → Geometry → View → Type 0) → (M → Geometry → Own → X → Type 0) → (X → Tally) → (View → Task M → Type 0) → (Ended X → Notes → Unit {0} → Type 0) → (Notes → Unit {0} → Type 0) → Geometry → View → Task P → Type 0
 IsNextTask made is_new may_begin shape counts knows left was g now (Run piece) = IsWorkRun (is_new piece) (may_begin (made piece) g now) (knows now (Run (made piece))) (IsTask shape counts g (Run (made piece))) left was
 IsNextTask made is_new may_begin shape counts knows left was g now (Put lane page) = IsTaskRun (knows now (Put lane page)) (IsTask shape counts g (Put lane page)) left was
 IsNextTask made is_new may_begin shape counts knows left was g now (Take lane) = IsTaskRun (knows now (Take lane)) (IsTask shape counts g (Take lane)) left was
-IsNextTask made is_new may_begin shape counts knows left was g now Stop = was [] tt
+IsNextTask made is_new may_begin shape counts knows left was g now Stop = IsStop (knows now Stop) was
 
 -- a piece of work is over: it has ended so, begun in the view `now` and left in the view `later`
 pub record IsWorkOver {M X : Type 0} (shape : M → Geometry → Own → X → Type 0) (leaves : M → Geometry → View → X → View → Type 0) (ended : Geometry → Own → X → Type 0) (work : M) (g : Geometry) (now later : View) (end : X) : Type 0 where
@@ -77,3 +82,9 @@ pub record CanBegin (new : Type 0) (may : Geometry → View → Type 0) : Type 0
 abbrev pub CanBeginTask : {P M : Type 0} → (P → M) → (P → Type 0) → (M → Geometry → View → Type 0) → Task P → Type 0
 CanBeginTask made is_new may_begin (Run piece) = CanBegin (is_new piece) (may_begin (made piece))
 CanBeginTask made is_new may_begin task = Unit {0}
+
+-- a view as an actor that has ended leaves it: no operation is open, no frame is owned, and no turn is held
+pub record IsLeftEmpty (view : View) : Type 0 where
+  pub ops : view.ops ≡ []
+  pub owned : view.owned ≡ []
+  pub turn : view.turn ≡ None

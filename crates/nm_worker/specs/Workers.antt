@@ -65,13 +65,14 @@ pub record IsAtLane {X : Type 0} (knows : Type 0) (done : Notes → Ended X → 
   pub same : given ≡ turn
   pub run : IsAtTask knows done left whole notes
 
--- by the turn that waits for its answer, and the task: where there is none the first task comes next
+-- by the turn that waits for its answer, and the task: where there is none the first task comes next; where the sequence has
+-- ended, what was known at its end holds
 abbrev pub AwaitsTurn : {P M X : Type 0} → (P → M) → (P → Type 0) → (M → Geometry → View → Type 0) → (M → Geometry → Own → X → Type 0) → (P → Geometry → View → Own → Action → Type 0) → (X → Tally) → (View → Task M → Type 0) → (Ended X → Notes → Unit {0} → Type 0) → (Notes → Unit {0} → Type 0) → Geometry → ℕ → Action → Notes → Option Turn → Task P → Type 0
 AwaitsTurn made is_new may_begin shape awaits counts knows left whole g number kept notes None task = IsNextTask made is_new may_begin shape counts knows left whole g (opening g number) task
 AwaitsTurn made is_new may_begin shape awaits counts knows left whole g number kept notes (Some (turn.Do action)) (Run piece) = IsAtWork shape (awaits piece) counts knows left whole g number kept notes action (made piece)
 AwaitsTurn made is_new may_begin shape awaits counts knows left whole g number kept notes (Some (turn.Put into b)) (Put lane page) = IsAtLane (knows (turns_view g number (noted_turns notes)) (Put lane page)) (IsTask shape counts g (Put lane page)) left whole notes (turn.Put into b) (turn.Put lane page)
 AwaitsTurn made is_new may_begin shape awaits counts knows left whole g number kept notes (Some (turn.Take from)) (Take lane) = IsAtLane (knows (turns_view g number (noted_turns notes)) (Take lane)) (IsTask shape counts g (Take lane)) left whole notes (turn.Take from) (turn.Take lane)
-AwaitsTurn made is_new may_begin shape awaits counts knows left whole g number kept notes (Some turn.End) Stop = Unit {0}
+AwaitsTurn made is_new may_begin shape awaits counts knows left whole g number kept notes (Some turn.End) Stop = knows (turns_view g number (noted_turns notes)) Stop
 AwaitsTurn made is_new may_begin shape awaits counts knows left whole g number kept notes (Some given) task = ⊥
 
 -- a turn is given after these notes: it goes on with them, its answer is awaited, and its action is permitted

@@ -1,0 +1,49 @@
+-- The reclaimer's part of a run, and what the actor says of itself.
+use Rattle.std.specs.Prelude.{ℕ, ◌+◌, Bool, true, false, [], Option}
+use Rattle.nm_base.specs.Geometry.{Geometry, IsGeometry}
+use Rattle.nm_action.specs.declared.tally.Tally.{Tally}
+use Rattle.nm_action.specs.declared.turn.Turn.{Turn}
+use Rattle.nm_view.specs.Views.{View}
+use Rattle.nm_actor.specs.Turns.{Turns, turns_view}
+use Rattle.nm_worker.specs.declared.worker.Worker.{Worker}
+use Rattle.nm_worker.specs.Routines.{IsLeftEmpty}
+use Rattle.nm_routine_part.specs.Parts.{is_end, IsRoutinePart}
+use Rattle.nm_kswap.specs.declared.reclaiming.Reclaiming.{Reclaiming}
+use Rattle.nm_kswap.specs.declared.actor.ReclaimerActor.{ReclaimerActor}
+use Rattle.nm_kswap.specs.Works.{ReclaimerPiece}
+use Rattle.nm_kswap.specs.Reclaiming.{IsReclaiming}
+
+-- the reclaimer stands behind the processors and the migrator
+abbrev pub reclaimer_number : Geometry → ℕ
+reclaimer_number g = g.cpus + 1
+
+-- these are the answered turns of a reclaimer, which has ended or not, and this is its tally
+abbrev pub IsReclaimerPart : Geometry → Turns → Bool → Tally → Type 0
+IsReclaimerPart g turns has_ended tally = IsRoutinePart (IsReclaiming g) turns has_ended tally
+
+-- a reclaimer that has ended leaves nothing open
+abbrev pub IsEmptyAtEnd : Bool → View → Type 0
+IsEmptyAtEnd true view = IsLeftEmpty view
+IsEmptyAtEnd false view = Unit {0}
+
+-- In these, what the worker inside says of itself is given.
+
+abbrev pub ReclaimerWorker : Type 0
+ReclaimerWorker = Worker Reclaiming ReclaimerPiece
+
+abbrev pub reclaimer_geometry : ReclaimerActor → Geometry
+reclaimer_geometry a = a.worker.routine.geometry.now
+
+-- the actor agrees with these turns, the last of which awaits its answer: they are a reclaimer's part, and the tally is what it
+-- has counted
+pub record AgreesReclaimer (agrees : ReclaimerWorker → Turns → Option Turn → Type 0) (counted : ReclaimerWorker → Tally) (a : ReclaimerActor) (turns : Turns) (last : Option Turn) : Type 0 where
+  pub geometry : IsGeometry (reclaimer_geometry a)
+  pub worker : agrees a.worker turns last
+  pub part : IsReclaimerPart (reclaimer_geometry a) turns (is_end last) (counted a.worker)
+  pub empty : IsEmptyAtEnd (is_end last) (turns_view (reclaimer_geometry a) (reclaimer_number (reclaimer_geometry a)) turns)
+
+-- the actor has given no turn
+pub record IsNewReclaimer (is_new : ReclaimerWorker → Type 0) (counted : ReclaimerWorker → Tally) (a : ReclaimerActor) : Type 0 where
+  pub geometry : IsGeometry (reclaimer_geometry a)
+  pub worker : is_new a.worker
+  pub part : IsReclaimerPart (reclaimer_geometry a) [] false (counted a.worker)
