@@ -4,7 +4,7 @@ ghost use Rattle.std.specs.Prelude.{◌≡◌, ℕ, ◌+◌, [], map, length, If
 ghost use Rattle.nm_action.specs.declared.turn.Turn.TheVariants as turn;
 ghost use Rattle.nm_script.specs.Script.{IsSchedule};
 ghost use Rattle.nm_play.specs.Crews.{IsAgreeing};
-ghost use Rattle.nm_crew.specs.Crewed.{Each, IsCrewRun, tally_of, crew_tallies};
+ghost use Rattle.nm_crew.specs.Crewed.{AtEach, IsCrewRun, tally_of, crew_tallies};
 
 use nm_action::{Event, Tally};
 use nm_actor::Actor;
@@ -62,7 +62,7 @@ pub fn run_crew<C: Actor + Drop, M: Actor + Drop, R: Actor + Drop>(
     crew: Actors<C, M, R>,
 ) -> Result<CrewRun<C, M, R>, AllocError>
     requires many { length crew.cpus.items ≡ g.now.cpus }
-    requires each { Each (λ cpu c. IsAgreeing C.geometry C.number (C.made c) (C.agrees c) g.now cpu [] None) crew.cpus.items }
+    requires each { AtEach (λ cpu c. IsAgreeing C.geometry C.number (C.made c) (C.agrees c) g.now cpu [] None) crew.cpus.items }
     requires migrator { IsAgreeing M.geometry M.number (M.made crew.migrator) (M.agrees crew.migrator) g.now g.now.cpus [] None }
     requires reclaimer { IsAgreeing R.geometry R.number (R.made crew.reclaimer) (R.agrees crew.reclaimer) g.now (g.now.cpus + 1) [] None }
     requires cpu_acts { (c : C) → ¬ C.agrees c [] (Some turn.End) }

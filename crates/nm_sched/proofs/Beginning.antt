@@ -11,7 +11,7 @@ use Rattle.nm_script.specs.Plain.{Script}
 use Rattle.nm_script.specs.Script.{IsAccess, IsScript}
 use Rattle.nm_schedule.proofs.Snoc.{length-snoc}
 use Rattle.nm_cpu.specs.Programs.{IsLineOf, IsCpu}
-use Rattle.nm_crew.specs.Crewed.{Each}
+use Rattle.nm_crew.specs.Crewed.{AtEach}
 use Rattle.nm_sched.specs.Runs.{program_of}
 
 -- ---- programs
@@ -43,7 +43,7 @@ cpu-of script cpu program is lt same =
 
 -- ---- one processor more
 
-pub each-more : {C : Type 0} (said : ℕ → C → Type 0) (cpus : List C) (c : C) → Each said cpus → said (length cpus) c → Each said (cpus ++ c ∷ [])
+pub each-more : {C : Type 0} (said : ℕ → C → Type 0) (cpus : List C) (c : C) → AtEach said cpus → said (length cpus) c → AtEach said (cpus ++ c ∷ [])
 each-more said cpus c each is place d lt = elim (cases_eq place (length cpus)) [
   | inl e ↦ (
       let At : ℕ → Type 0 = λ i. said i (get_or (cpus ++ c ∷ []) i d) in

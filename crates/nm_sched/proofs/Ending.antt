@@ -20,7 +20,7 @@ use Rattle.nm_cpu.specs.Agreeing.{FollowsCpu}
 use Rattle.nm_cpu.specs.Agreeing as agreeing
 use Rattle.nm_cpu.specs.Parts.{IsCpuPart}
 use Rattle.nm_routine_part.specs.Parts as routine
-use Rattle.nm_crew.specs.Crewed.{Each, IsAgreed}
+use Rattle.nm_crew.specs.Crewed.{AtEach, IsAgreed}
 use Rattle.nm_sched.specs.Runs.{program_of}
 use Rattle.nm_sched.specs.Cpus.{IsCpuMade, IsCpuAt}
 
@@ -59,7 +59,7 @@ cpu-agreed kinds made_of awaits_of script cpu c turns ended made h =
 
 -- the processors after a simulation were made as those before it
 pub made-after : {C : Type 0} (made : C → CpuMade) (agrees : C → Turns → Option Turn → Type 0) (script : Script) (before after : List C) (cpu : ℕ) (d : C)
-    → Each (IsCpuAt made agrees script) before → map made after ≡ map made before → cpu < length after → IsCpuMade script cpu (made (get_or after cpu d))
+    → AtEach (IsCpuAt made agrees script) before → map made after ≡ map made before → cpu < length after → IsCpuMade script cpu (made (get_or after cpu d))
 made-after made agrees script before after cpu d each same lt =
     let there : cpu < length before = omega (arith, lt, sym (length-map after made) ∙ ap length same ∙ length-map before made) in
     let Made : CpuMade → Type 0 = λ m. IsCpuMade script cpu m in

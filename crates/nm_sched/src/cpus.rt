@@ -2,7 +2,7 @@
 
 ghost use Rattle.std.specs.Prelude.{◌≡◌, map, length, IfOk};
 ghost use Rattle.nm_script.specs.Script.{IsScript};
-ghost use Rattle.nm_crew.specs.Crewed.{Each};
+ghost use Rattle.nm_crew.specs.Crewed.{AtEach};
 ghost use Rattle.nm_sched.specs.Cpus.{IsCpuAt};
 
 use nm_actor::Actor;
@@ -15,7 +15,7 @@ use std::alloc::{AllocError, Global};
 pub(crate) fn cpus_of<'a>(alloc: Global, script: &'a Script) -> Result<Vec<CpuActor<'a>>, AllocError>
     requires { IsScript script.now }
     ensures many { IfOk result (λ cpus. length cpus.items ≡ script.now.geometry.cpus) }
-    ensures each { IfOk result (λ cpus. Each (IsCpuAt ⟦<CpuActor<'a> as Actor>⟧.made ⟦<CpuActor<'a> as Actor>⟧.agrees script.now) cpus.items) }
+    ensures each { IfOk result (λ cpus. AtEach (IsCpuAt ⟦<CpuActor<'a> as Actor>⟧.made ⟦<CpuActor<'a> as Actor>⟧.agrees script.now) cpus.items) }
 {
     let g = &script.geometry;
     let mut cpus = Vec::with_capacity(alloc, g.cpus as usize)?;
