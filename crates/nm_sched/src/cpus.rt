@@ -2,26 +2,31 @@
 
 ghost use Rattle.std.specs.Prelude.{◌≡◌, map, length, IfOk};
 ghost use Rattle.nm_script.specs.Script.{IsScript};
+ghost use Rattle.nm_access.specs.Faults.{fault_kinds};
+ghost use Rattle.nm_cpu.specs.Agreeing.{FollowsCpu};
 ghost use Rattle.nm_crew.specs.Crewed.{AtEach};
 ghost use Rattle.nm_sched.specs.Cpus.{IsCpuAt};
 
-use nm_actor::Actor;
-use nm_cpu::CpuActor;
+use nm_access::Faults;
+use nm_cpu::{CpuActor, Processor};
 use nm_report::LineResult;
 use nm_script::Script;
 use std::alloc::{AllocError, Global};
 
 /// The processors of a script, each with its program.
-pub(crate) fn cpus_of<'a>(alloc: Global, script: &'a Script) -> Result<Vec<CpuActor<'a>>, AllocError>
+pub(crate) fn cpus_of<'a, F: Faults<'a> + Drop>(
+    alloc: Global,
+    script: &'a Script,
+) -> Result<Vec<Processor<'a, F>>, AllocError>
     requires { IsScript script.now }
     ensures many { IfOk result (λ cpus. length cpus.items ≡ script.now.geometry.cpus) }
-    ensures each { IfOk result (λ cpus. AtEach (IsCpuAt ⟦<CpuActor<'a> as Actor>⟧.made ⟦<CpuActor<'a> as Actor>⟧.agrees script.now) cpus.items) }
+    ensures each { IfOk result (λ cpus. AtEach (IsCpuAt (λ c. c.made) (FollowsCpu (fault_kinds F.shape F.leaves F.waits_at F.missing F.shadowed F.counted) F.made F.awaits) script.now) cpus.items) }
 {
     let g = &script.geometry;
     let mut cpus = Vec::with_capacity(alloc, g.cpus as usize)?;
     for number in 0..g.cpus {
         let program = &script.programs[number as usize];
-        cpus.push(CpuActor::new(alloc, g, number, program)?)?;
+        cpus.push(Processor::new(alloc, g, number, program)?)?;
     }
     Ok(cpus)
 }
