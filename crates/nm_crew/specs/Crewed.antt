@@ -19,6 +19,12 @@ use Rattle.nm_crew.specs.Simulated.{IsSimulated}
 abbrev pub AtEach : {A : Type 0} → (ℕ → A → Type 0) → List A → Type 0
 AtEach {A} said list = (place : ℕ) (beyond : A) → place < length list → said place (slice_index_or list place beyond)
 
+-- an actor is the one of a place in a machine, and has given no turn
+pub record IsNewAt {M : Type 0} (geometry : M → Geometry) (number : M → ℕ) (made : M) (is_new : Type 0) (g : Geometry) (actor : ℕ) : Type 0 where
+  pub machine : geometry made ≡ g
+  pub same : number made ≡ actor
+  pub new : is_new
+
 -- an actor agrees with these answered turns, and has given a turn since, which is End where it has ended
 pub record IsAgreed (agrees : Turns → Option Turn → Type 0) (turns : Turns) (ended : Bool) : Type 0 where
   pub last : Turn

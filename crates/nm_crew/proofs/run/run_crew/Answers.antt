@@ -10,7 +10,10 @@ run_schedule-requires-clause-may g c =
     let km : Kind g.row.M.Denot g.row.M-Made.Denot = record { geometry = g.M.Actor.geometry; number = g.M.Actor.number; made = g.M.Actor.made; agrees = g.M.Actor.agrees } in
     let kr : Kind g.row.R.Denot g.row.R-Made.Denot = record { geometry = g.R.Actor.geometry; number = g.R.Actor.number; made = g.R.Actor.made; agrees = g.R.Actor.agrees } in
     record {
-      opens = opens-all kc km kr c.args.g.now c.args.crew.cpus.items c.args.crew.migrator c.args.crew.reclaimer c.requires.many c.requires.each c.requires.migrator c.requires.reclaimer;
+      opens = opens-all kc km kr c.args.g.now c.args.crew.cpus.items c.args.crew.migrator c.args.crew.reclaimer c.requires.many
+          (λ cpu d lt. (let n = c.requires.each cpu d lt in record { machine = n.machine; same = n.same; agreed = g.C.Actor.opens _ n.new }))
+          (record { machine = c.requires.migrator.machine; same = c.requires.migrator.same; agreed = g.M.Actor.opens _ c.requires.migrator.new })
+          (record { machine = c.requires.reclaimer.machine; same = c.requires.reclaimer.same; agreed = g.R.Actor.opens _ c.requires.reclaimer.new });
       acts = λ other actor. acts-all kc km kr other.cpus.items other.migrator other.reclaimer actor c.requires.cpu_acts c.requires.migrator_acts c.requires.reclaimer_acts;
     }
 
