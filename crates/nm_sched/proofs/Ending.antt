@@ -14,6 +14,8 @@ use Rattle.nm_play.specs.Played as play
 use Rattle.nm_script.specs.declared.script.Line.{Line}
 use Rattle.nm_script.specs.Plain.{Script}
 use Rattle.nm_access.specs.Faults.{FaultKinds}
+use Rattle.nm_fault.specs.Tasks.{FaultBegun}
+use Rattle.nm_cpu_fault.specs.ProcessorFaults.{processor_faults}
 use Rattle.nm_cpu.specs.declared.actor.Processor.{Processor}
 use Rattle.nm_cpu.specs.declared.made.CpuMade.{CpuMade}
 use Rattle.nm_cpu.specs.Agreeing.{FollowsCpu}
@@ -23,6 +25,7 @@ use Rattle.nm_routine_part.specs.Parts as routine
 use Rattle.nm_crew.specs.Crewed.{AtEach, IsAgreed}
 use Rattle.nm_sched.specs.Runs.{program_of}
 use Rattle.nm_sched.specs.Cpus.{IsCpuMade, IsCpuAt}
+use Rattle.nm_sched.proofs.Running.{IsCpuDone}
 
 -- ---- End
 
@@ -65,3 +68,11 @@ made-after made agrees script before after cpu d each same lt =
     let Made : CpuMade → Type 0 = λ m. IsCpuMade script cpu m in
     let is : made (get_or before cpu d) ≡ made (get_or after cpu d) = sym (get_or-map made before cpu d) ∙ ap (λ l. get_or l cpu (made d)) (sym same) ∙ get_or-map made after cpu d in
     subst Made is (each cpu d there).made_so
+
+-- with its accesses
+pub cpu-done : {F : Type 0} (made_of : F → FaultBegun) (awaits_of : F → Geometry → View → Own → Action → Type 0) (script : Script) (cpu : ℕ) (c : Processor F) (turns : Turns) (ended : Bool)
+    → IsCpuMade script cpu c.made → IsAgreed (FollowsCpu processor_faults made_of awaits_of c) turns ended
+    → IsCpuDone script cpu turns ended c.results.items (sum_of c.counter.tally c.access.tally)
+cpu-done made_of awaits_of script cpu c turns ended made h =
+    let part = cpu-agreed processor_faults made_of awaits_of script cpu c turns ended made h in
+    record { part = part; follows = part.follows }
