@@ -1,9 +1,7 @@
 -- No actor of a script ends at once: no whole sequence of it is empty.
-use Rattle.std.proofs.Common.{◌≡◌, ◌<◌, ◌++◌, ℕ, zero, suc, Bool, true, List, [], ◌∷◌, Option, arith, refl, sym, subst, ◌∙◌}
+use Rattle.std.proofs.Common.{◌≡◌, ◌<◌, ◌++◌, ℕ, zero, suc, Bool, true, List, [], ◌∷◌, arith, refl, sym, subst, ◌∙◌}
 use Rattle.nm_base.specs.Geometry.{Geometry}
 use Rattle.nm_action.specs.Own.{Own}
-use Rattle.nm_action.specs.declared.turn.Lane.{Lane}
-use Rattle.nm_action.specs.declared.turn.Lane.TheVariants.{Candidates}
 use Rattle.nm_action.specs.declared.tally.Tally.{Tally}
 use Rattle.nm_compose.specs.declared.or.Or.TheVariants.{This, Other}
 use Rattle.nm_worker.specs.Notes.{Notes, worked, noted_turns}
@@ -13,13 +11,10 @@ use Rattle.nm_script.specs.declared.script.Line.{Line}
 use Rattle.nm_access.specs.Faults.{FaultKinds}
 use Rattle.nm_access.specs.Turning.{action_turns}
 use Rattle.nm_cpu.specs.Programs.{CpuEnd, IsProgramMade}
-use Rattle.nm_migrator.specs.Planned.{Kept}
-use Rattle.nm_migrator.specs.Migrating as migrating
-use Rattle.nm_migrator.specs.Migrating.{Sequence, TakesTry, IsMigrating}
 use Rattle.nm_kswap.specs.Works.{WorkEnd, IsWork, made_ask}
 use Rattle.nm_kswap.specs.Reclaiming.{Rounds, fresh_kept, IsReclaiming}
 
-front-none : {A : Type 0} (front back : List A) → [] ≡ front ++ back → front ≡ []
+pub front-none : {A : Type 0} (front back : List A) → [] ≡ front ++ back → front ≡ []
 front-none [] back is = refl
 front-none (a ∷ front) back is = cc
 
@@ -62,22 +57,6 @@ rounds-act g (suc more) some h =
 
 pub reclaiming-acts : (g : Geometry) → 0 < g.cpus → ¬ IsReclaiming g [] tt
 reclaiming-acts g some h = rounds-act g h.tries some h.is
-
--- ---- the migrator takes a candidate first
-
-takes-act : (g : Geometry) (lane : Lane) (after : Option ℕ → Sequence) (tries : ℕ) → ¬ TakesTry g lane after tries [] tt
-takes-act g lane after zero h = h
-takes-act g lane after (suc tries) h =
-    let take = front-none h.front h.back h.is in
-    let acts = sym take ∙ h.shown.is in
-    cc
-
-turns-act : (g : Geometry) (retry : Option ℕ) (rounds : ℕ) (kept : Kept) → ¬ migrating.Rounds g retry rounds Candidates kept [] tt
-turns-act g retry zero kept h = h
-turns-act g retry (suc rounds) kept h = takes-act g Candidates _ h.tries h.is
-
-pub migrating-acts : (g : Geometry) (retry : Option ℕ) → ¬ IsMigrating g retry [] tt
-migrating-acts g retry h = turns-act g retry h.tries _ h.is
 
 -- ---- an actor that follows a routine
 

@@ -4,6 +4,7 @@ use Rattle.std.proofs.Math.ListN.{get_or-map}
 use Rattle.std.proofs.lemmas.List.{length-map}
 use Rattle.nm_base.specs.Geometry.{Geometry}
 use Rattle.nm_action.specs.declared.action.Action.{Action}
+use Rattle.nm_action.specs.declared.tally.Tally.{Tally}
 use Rattle.nm_action.specs.declared.turn.Turn.{Turn}
 use Rattle.nm_action.specs.declared.turn.Turn.TheVariants.{Do, Put, Take, End}
 use Rattle.nm_action.specs.Own.{Own}
@@ -22,6 +23,8 @@ use Rattle.nm_cpu.specs.Agreeing.{FollowsCpu}
 use Rattle.nm_cpu.specs.Agreeing as agreeing
 use Rattle.nm_cpu.specs.Parts.{IsCpuPart}
 use Rattle.nm_routine_part.specs.Parts as routine
+use Rattle.nm_kswap.specs.declared.actor.ReclaimerActor.{ReclaimerActor}
+use Rattle.nm_kswap.specs.Parts.{ReclaimerWorker, reclaimer_geometry, AgreesReclaimer, IsReclaimerPart}
 use Rattle.nm_crew.specs.Crewed.{AtEach, IsAgreed}
 use Rattle.nm_sched.specs.Runs.{program_of}
 use Rattle.nm_sched.specs.Cpus.{IsCpuMade, IsCpuAt}
@@ -76,3 +79,12 @@ pub cpu-done : {F : Type 0} (made_of : F → FaultBegun) (awaits_of : F → Geom
 cpu-done made_of awaits_of script cpu c turns ended made h =
     let part = cpu-agreed processor_faults made_of awaits_of script cpu c turns ended made h in
     record { part = part; follows = part.follows }
+
+-- ---- the reclaimer
+
+pub reclaimer-agreed : (agrees : ReclaimerWorker → Turns → Option Turn → Type 0) (counted : ReclaimerWorker → Tally) (a : ReclaimerActor) (script : Script) (turns : Turns) (ended : Bool)
+    → reclaimer_geometry a ≡ script.geometry → IsAgreed (AgreesReclaimer agrees counted a) turns ended
+    → IsReclaimerPart script.geometry turns ended (counted a.worker)
+reclaimer-agreed agrees counted a script turns ended made h =
+    let Made : Geometry → Type 0 = λ g. IsReclaimerPart g turns ended (counted a.worker) in
+    subst Made made (routine-agreed (AgreesReclaimer agrees counted a) (λ turns ended. IsReclaimerPart (reclaimer_geometry a) turns ended (counted a.worker)) turns ended (λ turns last k. k.part) h)

@@ -51,10 +51,13 @@ pub fn simulate(alloc: Global, script: &Script) -> Result<SimRun, AllocError>
     ensures { IfOk result (IsRunOfScript script.now) }
 {
     let g = &script.geometry;
+    let cpus = cpus_of(alloc, script)?;
+    let migrator = MigratorActor::new(alloc, g, script.retry)?;
+    let reclaimer = ReclaimerActor::new(alloc, g)?;
     let crew = Actors {
-        cpus: cpus_of(alloc, script)?,
-        migrator: MigratorActor::new(alloc, g, script.retry)?,
-        reclaimer: ReclaimerActor::new(alloc, g)?,
+        cpus,
+        migrator,
+        reclaimer,
     };
     let run = run_crew(alloc, g, &script.schedule, crew)?;
     let results = results_of(alloc, run.crew.cpus)?;
