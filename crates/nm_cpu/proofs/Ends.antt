@@ -1,6 +1,5 @@
 -- Each pattern of a sequence has a list, and a turn of a piece begins one.
-use Rattle.std.proofs.Common.{◌≡◌, ◌≢◌, ℕ, zero, suc, ◌+◌, ◌==◌, List, [], ◌∷◌, ◌++◌, Bool, false, Option, Some, refl, sym, ap, ◌∙◌, subst, append_assoc}
-use Rattle.std.proofs.lemmas.List.{append-nil}
+use Rattle.std.proofs.Common.{◌≡◌, ℕ, zero, suc, ◌+◌, ◌==◌, List, [], ◌∷◌, ◌++◌, false, refl, subst, append_assoc}
 use Rattle.nm_base.specs.Geometry.{Geometry}
 use Rattle.nm_action.specs.declared.action.AckTo.TheVariants as ack
 use Rattle.nm_action.specs.declared.action.Action.{Action}
@@ -8,8 +7,7 @@ use Rattle.nm_action.specs.declared.action.Action.TheVariants.{Ack}
 use Rattle.nm_action.specs.declared.action.Reply.{Reply}
 use Rattle.nm_action.specs.declared.action.Reply.TheVariants as replies
 use Rattle.nm_action.specs.declared.turn.Turn.{Turn}
-use Rattle.nm_action.specs.declared.turn.Turn.TheVariants.{Do, Put, Take, End}
-use Rattle.nm_action.specs.declared.turn.Heard.{Heard}
+use Rattle.nm_action.specs.declared.turn.Turn.TheVariants.{Do}
 use Rattle.nm_action.specs.declared.turn.Heard.TheVariants.{Answer}
 use Rattle.nm_action.specs.Own.{Own}
 use Rattle.nm_part.specs.Parts.{IsBegunWith}
@@ -29,8 +27,8 @@ use Rattle.nm_script.specs.declared.script.Line.{Line}
 use Rattle.nm_script.specs.declared.script.Line.TheVariants.{Load, Store, Add, Await}
 use Rattle.nm_report.specs.declared.line_result.LineResult.{LineResult}
 use Rattle.nm_report.specs.declared.line_result.LineResult.TheVariants.{Loaded, Stored, Added, Met, Missed}
-use Rattle.nm_cpu.specs.Programs.{CpuEnd, AfterLine, access_to, line_access, Awaits, LineMade, LinesMade, fresh_kept, held_with, IsProgramMade}
-use Rattle.nm_cpu.specs.Lines.{after_access, after_line, AccessLeft}
+use Rattle.nm_cpu.specs.Programs.{CpuEnd, AfterLine, access_to, Awaits, LineMade, LinesMade, fresh_kept, held_with, IsProgramMade}
+use Rattle.nm_cpu.specs.Lines.{after_access, after_line}
 
 -- Patterns that have a list.
 
@@ -46,8 +44,8 @@ awaits-can kinds g access x made zero after held can = can (Missed made) held
 awaits-can {M} {X} kinds g access x made (suc more) after held can =
     let some = access-can kinds g access held in
     let c = can-follow (IsWholeAccess kinds g access held) _ some
-        (can-either (some.outcome.word == x) (after (Met (made + 1)) some.outcome.held) (Awaits kinds g access x (made + 1) more after some.outcome.held) (can (Met (made + 1)) some.outcome.held)
-        (awaits-can kinds g access x (made + 1) more after some.outcome.held can)) in
+    (can-either (some.outcome.word == x) (after (Met (made + 1)) some.outcome.held) (Awaits kinds g access x (made + 1) more after some.outcome.held) (can (Met (made + 1)) some.outcome.held)
+    (awaits-can kinds g access x (made + 1) more after some.outcome.held can)) in
     record { rest = c.rest; outcome = c.outcome; shown = c.shown }
 
 one-can : {M X : Type 0} (kinds : FaultKinds M X) (g : Geometry) (access : AccessMade) (held : Carried X) (after : Accessed X → Turns → CpuEnd X → Type 0) → ((end : Accessed X) → CanEnd (after end)) → CanEnd (Follows (IsWholeAccess kinds g access held) after)

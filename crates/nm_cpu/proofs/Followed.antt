@@ -1,16 +1,12 @@
 -- The accesses of the lines so far follow the program.
-use Rattle.std.proofs.Common.{◌≡◌, ◌≢◌, ℕ, zero, suc, ◌+◌, ◌<◌, ◌≤◌, ◌==◌, Bool, true, false, List, [], ◌∷◌, ◌++◌, map, length, Option, Some, None, refl, sym, ap, ◌∙◌, subst, append_assoc, arith, length-append}
-use Rattle.std.specs.List.{AllByRecursion}
-use Rattle.std.proofs.lemmas.List.{append-nil, map-append}
+use Rattle.std.proofs.Common.{◌≡◌, ℕ, suc, true, false, List, [], ◌∷◌, ◌++◌, length, refl, sym, ap, ◌∙◌, subst, append_assoc, arith}
+use Rattle.std.proofs.lemmas.List.{append-nil}
 use Rattle.nm_flat.specs.declared.access.Access.{Access}
-use Rattle.nm_flat.specs.declared.access.AccessKind.TheVariants as kind
 use Rattle.nm_script.specs.declared.script.Line.{Line}
 use Rattle.nm_script.specs.declared.script.Line.TheVariants.{Load, Store, Add, Await}
 use Rattle.nm_report.specs.declared.line_result.LineResult.{LineResult}
-use Rattle.nm_report.specs.declared.line_result.LineResult.TheVariants.{Loaded, Stored, Added, Met, Missed}
-use Rattle.nm_report.specs.Follows.{access_made, loads_of, AllOther, IsPiece, IsCut, AreMade, FollowsProgram}
-use Rattle.nm_cpu.specs.Lines.{line_result, IsLoadsOf, AreLoadsOf, AreLoads, IsTried, HasFollowed}
-use Rattle.nm_cpu.specs.Agreeing.{line_touch}
+use Rattle.nm_report.specs.Follows.{IsPiece, IsCut, AreMade, FollowsProgram}
+use Rattle.nm_cpu.specs.Lines.{AreLoadsOf, IsTried, HasFollowed}
 
 -- Lines that were made.
 

@@ -1,5 +1,5 @@
 -- Turns that a processor gives while it goes on.
-use Rattle.std.proofs.Common.{◌≡◌, ◌≢◌, ℕ, ◌<◌, ◌≤◌, Bool, true, false, List, [], ◌∷◌, ◌++◌, length, get_or, vec_capacity, Option, Some, None, refl, sym, ap, ◌∙◌, subst}
+use Rattle.std.proofs.Common.{◌≡◌, ◌≢◌, ℕ, ◌<◌, ◌≤◌, Bool, false, List, [], ◌∷◌, ◌++◌, length, get_or, vec_capacity, Some, refl, sym, ap, ◌∙◌, subst}
 use Rattle.std.specs.List.{AllByRecursion}
 use Rattle.std.proofs.lemmas.List.{append-nil}
 use Rattle.nm_base.specs.Geometry.{Geometry}
@@ -15,12 +15,10 @@ use Rattle.nm_action.specs.declared.turn.Heard.TheVariants.{Answer}
 use Rattle.nm_action.specs.Own.{Own}
 use Rattle.nm_action.specs.Tally.{sum_of}
 use Rattle.nm_view.specs.Views.{View}
-use Rattle.nm_part.specs.Patterns.{Ends, Follows, IsLeft}
-use Rattle.nm_part.proofs.Patterns.{can-ends}
+use Rattle.nm_part.specs.Patterns.{IsLeft}
 use Rattle.nm_tally.specs.Counts.{events_tally}
 use Rattle.nm_actor.specs.Turns.{Turns, own_list}
 use Rattle.nm_actor.specs.Actors.{IsPermittedTurn}
-use Rattle.nm_catchup.specs.CatchUp.{Kept}
 use Rattle.nm_catchup.specs.Catching.{kept_of}
 use Rattle.nm_catchup.specs.declared.cache.TranslationCache.{TranslationCache}
 use Rattle.nm_access.specs.declared.made.AccessMade.{AccessMade}
@@ -28,22 +26,22 @@ use Rattle.nm_access.specs.declared.access.Access.{Access}
 use Rattle.nm_access.specs.declared.access.AccessStage.{AccessStage}
 use Rattle.nm_access.specs.declared.access.AccessStage.TheVariants as accesses
 use Rattle.nm_access.specs.declared.access.AccessStep.TheVariants.{Give}
-use Rattle.nm_access.specs.Turning.{Hears, IsTurnBegun}
+use Rattle.nm_access.specs.Turning.{IsTurnBegun}
 use Rattle.nm_access.specs.Faults.{FaultKinds, ends_tally}
-use Rattle.nm_access.specs.Accesses.{Carried, Accessed, IsWholeAccess}
-use Rattle.nm_access.specs.Accessing.{KnownInAccess, IsAtAccessStage}
+use Rattle.nm_access.specs.Accesses.{Carried, IsWholeAccess}
+use Rattle.nm_access.specs.Accessing.{IsAccessMade, IsAtAccessStage}
 use Rattle.nm_access.specs.Moving.{AwaitsOf, IsStepOf, IsOpening}
-use Rattle.nm_access.proofs.Ends.{some-heard}
 use Rattle.nm_script.specs.declared.script.Line.{Line}
 use Rattle.nm_report.specs.Follows.{AreMade}
 use Rattle.nm_cpu.specs.declared.actor.Processor.{Processor}
+use Rattle.nm_cpu.specs.declared.actor.CpuStage.{CpuStage}
 use Rattle.nm_cpu.specs.declared.actor.CpuStage.TheVariants.{Accessing, Ending}
-use Rattle.nm_cpu.specs.Programs.{CpuEnd, IsLineOf, IsCpu, line_access, held_with, LinesMade, IsProgramMade}
-use Rattle.nm_cpu.specs.Lines.{own_accesses, AccessLeft, NextLeft, after_access, after_line}
+use Rattle.nm_cpu.specs.Programs.{CpuEnd, IsLineOf, IsCpu, line_access, held_with, IsProgramMade}
+use Rattle.nm_cpu.specs.Lines.{AccessLeft, NextLeft, after_access, after_line}
 use Rattle.nm_cpu.specs.Parts.{IsCpuPart}
-use Rattle.nm_cpu.specs.Agreeing.{geometry_of, program_of, opened_view, accesses_of_turns, IsBetween, IsAtNext, IsInAccess, IsAtAccess, IsAtEnding, IsAtCpuStage, ComesNext, is_end, IsAdvanced}
+use Rattle.nm_cpu.specs.Agreeing.{geometry_of, program_of, opened_view, accesses_of_turns, IsBetween, IsAtNext, IsAtAccess, IsAtEnding, IsAtCpuStage, ComesNext, is_end, IsAdvanced}
 use Rattle.nm_cpu.proofs.Followed.{followed-part, followed-all}
-use Rattle.nm_cpu.proofs.Mapped.{line-made, one-line, IsFirstLine, line-at, none-left}
+use Rattle.nm_cpu.proofs.Mapped.{line-made, one-line, line-at, none-left}
 use Rattle.nm_cpu.proofs.Ends.{after-access-can, turns-begun, inside-begun}
 
 -- Turns that are not End.
@@ -88,6 +86,10 @@ comes-next kinds g program turns End not begun = tt
 pub sum-as : (a b c d : Tally) → a ≡ c → b ≡ d → sum_of a b ≡ sum_of c d
 sum-as a b c d e f = ap (λ (t : Tally). sum_of t b) e ∙ ap (λ (t : Tally). sum_of c t) f
 
+-- what is between the lines speaks of neither the access nor the stage
+pub between-as : {F : Type 0} (c : Processor F) (a : Access F) (stage : CpuStage) (done lines : List Line) (more : ℕ) (turns : Turns) → IsBetween c done lines more turns → IsBetween (record c { access = a; stage = stage }) done lines more turns
+between-as c a stage done lines more turns b = record { is = b.is; as_many = b.as_many; loads = b.loads; follows = b.follows }
+
 -- a turn that is not End is given
 pub going : {F M X : Type 0} (kinds : FaultKinds M X) (made_of : F → M) (awaits_of : F → Geometry → View → Own → Action → Type 0) (c : Processor F) (turns : Turns) (turn : Turn) (done lines : List Line) (more : ℕ) (ends : List X)
     → turn ≢ End → IsPermittedTurn (geometry_of c) (opened_view c turns) turn → IsTurnBegun (IsProgramMade kinds (geometry_of c) (program_of c)) turns turn
@@ -96,8 +98,7 @@ pub going : {F M X : Type 0} (kinds : FaultKinds M X) (made_of : F → M) (await
 going {F} {M} {X} kinds made_of awaits_of c turns turn done lines more ends not permitted begun cpu room between counted at =
     let P : Tally → Bool → Type 0 = λ counts b. IsCpuPart kinds (geometry_of c) c.made.number (program_of c) turns b c.results.items (sum_of counts c.access.tally) in
     record {
-      permitted = permitted;
-      at = record { cpu = cpu; room = room; next = comes-next kinds (geometry_of c) (program_of c) turns turn not begun; at = at };
+      at = record { cpu = cpu; room = room; next = comes-next kinds (geometry_of c) (program_of c) turns turn not begun; permitted = permitted; at = at };
       part = λ counts is. subst (λ (b : Bool). P counts b) (sym (goes-on turn not)) (record {
         ends = ends;
         sequence = turns-begun (IsProgramMade kinds (geometry_of c) (program_of c)) turns turn begun;
@@ -135,18 +136,18 @@ access-given {F} {M} {X} kinds made_of awaits_of c front inner turn done line li
 
 -- The next access is begun.
 
-pub access-begins : {F M X : Type 0} (kinds : FaultKinds M X) (made_of : F → M) (awaits_of : F → Geometry → View → Own → Action → Type 0) (c : Processor F) (a : Access F) (turn : Turn) (line d : Line) (turns : Turns)
-    → length c.results.items < length (program_of c) → get_or (program_of c) (length c.results.items) d ≡ line → a.made ≡ line_access (geometry_of c) line
-    → ((g : Geometry) (was : Carried X) (view : View) → IsOpening kinds c.access (line_access (geometry_of c) line) g was view → IsStepOf kinds made_of awaits_of a g was view [] (Give turn))
+pub access-begins : {F M X : Type 0} (kinds : FaultKinds M X) (made_of : F → M) (awaits_of : F → Geometry → View → Own → Action → Type 0) (c : Processor F) (a : Access F) (made : AccessMade) (turn : Turn) (line d : Line) (n : ℕ) (turns : Turns)
+    → n ≡ length c.results.items → n < length (program_of c) → get_or (program_of c) n d ≡ line → made ≡ line_access (geometry_of c) line → a.made ≡ made
+    → ((g : Geometry) (was : Carried X) (view : View) → IsOpening kinds c.access made g was view → IsStepOf kinds made_of awaits_of a g was view [] (Give turn))
     → IsAtNext kinds c turns → IsAdvanced kinds made_of awaits_of (record c { access = a; stage = Accessing }) turns turn
-access-begins {F} {M} {X} kinds made_of awaits_of c a turn line d turns some at made begins h =
-    let first = line-at (program_of c) h.done h.lines line d (length c.results.items) h.between.is h.between.as_many some at in
+access-begins {F} {M} {X} kinds made_of awaits_of c a made turn line d n turns number some at access same begins h =
+    let first = line-at (program_of c) h.done h.lines line d n h.between.is (h.between.as_many ∙ sym number) some at in
     let B : List Line → Type 0 = λ l. IsBetween c h.done l h.more turns in
     let between : B (line ∷ first.rest) = subst B first.is h.between in
     let L : List Line → Type 0 = λ l. IsLeft (IsProgramMade kinds (geometry_of c) (program_of c)) turns (NextLeft kinds (geometry_of c) l c.results.items c.loads h.more (held_with (kept_of c.access.cache) h.ends)) in
     let step = begins (geometry_of c) (held_with (kept_of c.access.cache) h.ends) (opened_view c turns) (record {
       same = h.same;
-      may = line-made (geometry_of c) line h.cpu.geometry (one-line _ h.done first.rest line (subst (λ (l : List Line). AllByRecursion (IsLineOf (geometry_of c)) l) between.is h.cpu.lines));
+      may = subst (λ (m : AccessMade). IsAccessMade (geometry_of c) m) (sym access) (line-made (geometry_of c) line h.cpu.geometry (one-line _ h.done first.rest line (subst (λ (l : List Line). AllByRecursion (IsLineOf (geometry_of c)) l) between.is h.cpu.lines)));
       kept = refl;
       counted = h.counted;
       ready = h.ready;
@@ -155,14 +156,14 @@ access-begins {F} {M} {X} kinds made_of awaits_of c a turn line d turns some at 
     let V : Turns → Type 0 = λ l. IsPermittedTurn (geometry_of c) (opened_view c l) turn in
     let W : Turns → Type 0 = λ l. IsBetween c h.done (line ∷ first.rest) h.more l in
     subst T (append-nil turns) (access-given kinds made_of awaits_of (record c { access = a; stage = Accessing }) turns [] turn h.done line first.rest h.more (held_with (kept_of c.access.cache) h.ends)
-    refl h.cpu h.room (subst W (sym (append-nil turns)) between) made (subst L first.is h.due) (subst V (sym (append-nil turns)) step.permitted) step.awaited step.begun)
+    refl h.cpu h.room (between-as c a Accessing h.done (line ∷ first.rest) h.more (turns ++ []) (subst W (sym (append-nil turns)) between)) (same ∙ access) (subst L first.is h.due) (subst V (sym (append-nil turns)) step.permitted) step.awaited step.begun)
 
 -- All lines were made.
 
-pub ending-begins : {F M X : Type 0} (kinds : FaultKinds M X) (made_of : F → M) (awaits_of : F → Geometry → View → Own → Action → Type 0) (c : Processor F) (turns : Turns) → length (program_of c) ≤ length c.results.items
+pub ending-begins : {F M X : Type 0} (kinds : FaultKinds M X) (made_of : F → M) (awaits_of : F → Geometry → View → Own → Action → Type 0) (c : Processor F) (n : ℕ) (turns : Turns) → n ≡ length c.results.items → length (program_of c) ≤ n
     → IsAtNext kinds c turns → IsAdvanced kinds made_of awaits_of (record c { stage = Ending }) turns (Do (Ack ack.End))
-ending-begins {F} {M} {X} kinds made_of awaits_of c turns all h =
-    let none = none-left (program_of c) h.done h.lines (length c.results.items) h.between.is h.between.as_many all in
+ending-begins {F} {M} {X} kinds made_of awaits_of c n turns number all h =
+    let none = none-left (program_of c) h.done h.lines n h.between.is (h.between.as_many ∙ sym number) all in
     let B : List Line → Type 0 = λ l. IsBetween c h.done l h.more turns in
     let between : B [] = subst B none h.between in
     let L : List Line → Type 0 = λ l. IsLeft (IsProgramMade kinds (geometry_of c) (program_of c)) turns (NextLeft kinds (geometry_of c) l c.results.items c.loads h.more (held_with (kept_of c.access.cache) h.ends)) in
@@ -184,7 +185,11 @@ ending-begins {F} {M} {X} kinds made_of awaits_of c turns all h =
     (record { range = tt; permitted = record { processor = h.ready.all.processor; polled = tt } })
     (record {
       heard = Answer replies.Done;
-      can = record { rest = []; outcome = last; shown = subst (λ (l : Turns). IsProgramMade kinds (geometry_of c) (program_of c) l last) (sym (append-nil (turns ++ (Do (Ack ack.End), Answer replies.Done) ∷ []))) (due.carry ((Do (Ack ack.End), Answer replies.Done) ∷ []) last
-          (record { end = Answer replies.Done; front = (Do (Ack ack.End), Answer replies.Done) ∷ []; back = []; shown = record { is = refl; kind = λ view. tt }; rest = record { none = refl; is = refl }; is = refl })) };
+      can = record {
+        rest = [];
+        outcome = last;
+        shown = subst (λ (l : Turns). IsProgramMade kinds (geometry_of c) (program_of c) l last) (sym (append-nil (turns ++ (Do (Ack ack.End), Answer replies.Done) ∷ []))) (due.carry ((Do (Ack ack.End), Answer replies.Done) ∷ []) last
+            (record { end = Answer replies.Done; front = (Do (Ack ack.End), Answer replies.Done) ∷ []; back = []; shown = record { is = refl; kind = λ view. tt }; rest = record { none = refl; is = refl }; is = refl }));
+      };
     })
-    h.cpu h.room between h.counted here
+    h.cpu h.room (between-as c c.access Ending h.done [] h.more turns between) h.counted here

@@ -5,3 +5,9 @@ pub mod Lines
 pub mod Ends
 pub mod Mapped
 pub mod Going
+pub mod Opening
+pub mod Accessed
+pub mod Gave
+pub mod Noting
+pub mod Starting
+pub mod Ended

@@ -1,20 +1,20 @@
 -- What is left after an access of a line.
-use Rattle.std.proofs.Common.{◌≡◌, ℕ, zero, suc, ◌+◌, ◌≤◌, ◌==◌, Bool, true, false, List, [], ◌∷◌, ◌++◌, length, Option, Some, None, refl, sym, ap, ◌∙◌, subst, arith}
+use Rattle.std.proofs.Common.{◌≡◌, ℕ, zero, suc, ◌+◌, ◌≤◌, ◌==◌, Bool, true, false, List, [], ◌∷◌, ◌++◌, Some, None, refl, sym, subst, arith}
 use Rattle.std.specs.Prelude.{if◌then◌else◌}
 use Rattle.std.proofs.lemmas.Bool.{eqb-true, eqb-false}
 use Rattle.nm_base.specs.Geometry.{Geometry}
-use Rattle.nm_part.specs.Patterns.{Follows, IsLeft, CanEnd}
+use Rattle.nm_part.specs.Patterns.{IsLeft}
 use Rattle.nm_part.proofs.Patterns.{left-as, either-yes, either-other}
 use Rattle.nm_actor.specs.Turns.{Turns}
 use Rattle.nm_access.specs.declared.made.Touch.TheVariants as touches
 use Rattle.nm_access.specs.Faults.{FaultKinds}
-use Rattle.nm_access.specs.Accesses.{Carried, Accessed, IsWholeAccess}
+use Rattle.nm_access.specs.Accesses.{Carried, Accessed}
 use Rattle.nm_script.specs.declared.script.Line.{Line}
 use Rattle.nm_script.specs.declared.script.Line.TheVariants.{Load, Store, Add, Await}
 use Rattle.nm_report.specs.declared.line_result.LineResult.{LineResult}
 use Rattle.nm_report.specs.declared.line_result.LineResult.TheVariants.{Loaded, Stored, Added, Met, Missed}
-use Rattle.nm_cpu.specs.Programs.{CpuEnd, IsLineOf, access_to, line_access, Awaits, LinesMade}
-use Rattle.nm_cpu.specs.Lines.{line_result, HasLoadsLeft, IsLoadsOf, AreLoadsOf, after_access, after_line, AccessLeft, NextLeft}
+use Rattle.nm_cpu.specs.Programs.{CpuEnd, IsLineOf, access_to, Awaits, LinesMade}
+use Rattle.nm_cpu.specs.Lines.{line_result, IsLoadsOf, AreLoadsOf, after_access, after_line, AccessLeft, NextLeft}
 use Rattle.nm_cpu.proofs.Touched.{some-one, none-some, some-none}
 
 -- A pattern of a sequence.
@@ -114,6 +114,19 @@ pub record BeginsLines {M X : Type 0} (kinds : FaultKinds M X) (g : Geometry) (w
 some-load : (max : ℕ) → 1 ≤ max → (more : ℕ) × (max ≡ suc more)
 some-load zero h = absurd (omega (arith, h))
 some-load (suc more) h = (more, refl)
+
+-- whatever line comes first may make its access
+pub some-loads : (g : Geometry) (lines : List Line) → ((line : Line) (rest : List Line) → lines ≡ line ∷ rest → IsLineOf g line) → (more : ℕ) × AreLoadsOf lines 0 more
+some-loads g [] lines = (0, refl)
+some-loads g (Load v w ∷ rest) lines = (0, refl)
+some-loads g (Store v w x ∷ rest) lines = (0, refl)
+some-loads g (Add v w x ∷ rest) lines = (0, refl)
+some-loads g (Await v w x max ∷ rest) lines =
+    let m = some-load max (lines (Await v w x max) rest refl).2 in
+    (m.0, await-of m.0 max m.1)
+  where
+    await-of : (more max : ℕ) → max ≡ suc more → 0 + 1 + more ≡ max
+    await-of more max is = omega (arith, is)
 
 pub lines-begin : {M X : Type 0} (kinds : FaultKinds M X) (g : Geometry) (whole : Turns → CpuEnd X → Type 0) (turns : Turns) (lines : List Line) (results : List LineResult) (held : Carried X) → ((line : Line) (rest : List Line) → lines ≡ line ∷ rest → IsLineOf g line)
     → IsLeft whole turns (LinesMade kinds g lines results held) → BeginsLines kinds g whole turns lines results held

@@ -1,21 +1,20 @@
 -- The accesses of a program's lines may be made.
-use Rattle.std.proofs.Common.{◌≡◌, ℕ, zero, suc, ◌<◌, ◌≤◌, List, [], ◌∷◌, ◌++◌, length, get_or, option_map, IsSome, IsSomeAnd, Option, Some, None, refl, sym, ap, ◌∙◌, subst, arith}
+use Rattle.std.proofs.Common.{◌≡◌, ℕ, zero, suc, true, false, ◌<◌, ◌≤◌, List, [], ◌∷◌, ◌++◌, length, get_or, option_map, IsSome, IsSomeAnd, Option, Some, None, refl, sym, ap, subst, arith}
 use Rattle.std.specs.List.{AllByRecursion}
 use Rattle.nm_base.specs.declared.geometry.VPage.{VPage}
-use Rattle.nm_base.specs.Geometry.{Geometry, IsGeometry, vpage_at, backing_page, IsWritable}
-use Rattle.nm_base.specs.Ranges.{IsVPage, IsPage}
+use Rattle.nm_base.specs.Geometry.{Geometry, IsGeometry, vpage_at, backing_page}
 use Rattle.nm_base.proofs.Pages.{backing_page-lt}
 use Rattle.nm_access.specs.declared.made.Touch.{Touch}
 use Rattle.nm_access.specs.Accessing.{IsTouchWord, IsAccessMade}
 use Rattle.nm_script.specs.declared.script.Line.{Line}
 use Rattle.nm_script.specs.declared.script.Line.TheVariants.{Load, Store, Add, Await}
-use Rattle.nm_cpu.specs.Programs.{IsLineOf, IsCpu, page_or, access_to, line_access}
+use Rattle.nm_cpu.specs.Programs.{IsLineOf, page_or, access_to, line_access}
+
+no-true : false ≡ true → ⊥
+no-true e = cc
 
 inside : (vs : List (Option VPage)) (v : ℕ) → IsSome (get_or vs v None) → v < length vs
-inside [] v some = absurd (no-some some)
-  where
-    no-some : IsSome {A = VPage} None → ⊥
-    no-some h = h
+inside [] v some = absurd (no-true some)
 inside (x ∷ vs) zero some = omega arith
 inside (x ∷ vs) (suc v) some = omega (arith, inside vs v some)
 
@@ -23,10 +22,12 @@ mapped : (g : Geometry) (v : ℕ) → IsSome (vpage_at g v) → backing_page g v
 mapped g v some = by-page (vpage_at g v) some
   where
     by-page : (found : Option VPage) → IsSome found → option_map (λ p. p.page) found ≡ Some (page_or (option_map (λ p. p.page) found))
+    by-page None some = absurd (no-true some)
     by-page (Some p) some = refl
 
 some-and : (found : Option VPage) (P : VPage → Type 0) → IsSomeAnd found P → IsSome found
-some-and (Some p) P h = tt
+some-and None P h = elim h [ ]
+some-and (Some p) P h = refl
 
 access-made : (g : Geometry) (v w : ℕ) (touch : Touch) → IsGeometry g → IsSome (vpage_at g v) → w < g.words → IsTouchWord touch → IsAccessMade g (access_to g v w touch)
 access-made g v w touch geometry some word value = record {

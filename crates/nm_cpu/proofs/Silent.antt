@@ -1,18 +1,16 @@
 -- Which turns of an access are accesses of the own list.
-use Rattle.std.proofs.Common.{◌≡◌, ◌≢◌, ℕ, List, [], ◌∷◌, ◌++◌, Option, Some, None, refl, sym, ap, ◌∙◌, subst}
-use Rattle.std.proofs.lemmas.List.{append-nil}
+use Rattle.std.proofs.Common.{◌≡◌, ◌≢◌, ℕ, List, [], ◌∷◌, ◌++◌, None, refl, sym, ap, ◌∙◌, subst}
 use Rattle.std.proofs.lemmas.List.Elements.{filter_map-append}
 use Rattle.nm_base.specs.Geometry.{Geometry}
 use Rattle.nm_action.specs.declared.action.Action.{Action}
 use Rattle.nm_action.specs.declared.action.Action.TheVariants.{Load, Store, Add}
 use Rattle.nm_action.specs.declared.action.Reply.{Reply}
-use Rattle.nm_action.specs.declared.action.Reply.TheVariants.{Done, Word, Busy, Lost}
+use Rattle.nm_action.specs.declared.action.Reply.TheVariants.{Word}
 use Rattle.nm_action.specs.declared.turn.Turn.{Turn}
-use Rattle.nm_action.specs.declared.turn.Turn.TheVariants.{Do, Put, Take, End}
+use Rattle.nm_action.specs.declared.turn.Turn.TheVariants.{Do, Put}
 use Rattle.nm_action.specs.declared.turn.Heard.{Heard}
 use Rattle.nm_action.specs.declared.turn.Heard.TheVariants.{Start, Answer, PutDone, PutFull, Took, TookNone}
 use Rattle.nm_action.specs.Own.{Own}
-use Rattle.nm_flat.specs.declared.access.Access as flat
 use Rattle.nm_core.specs.Runs.{access_by}
 use Rattle.nm_view.specs.Views.{View}
 use Rattle.nm_part.specs.Parts.{IsQuiet}
@@ -21,7 +19,6 @@ use Rattle.nm_actor.proofs.TurnLists.{own-push}
 use Rattle.nm_catchup.specs.declared.cache.CatchStage.{CatchStage}
 use Rattle.nm_catchup.specs.declared.cache.CatchStage.TheVariants as catches
 use Rattle.nm_catchup.specs.declared.cache.TranslationCache.{TranslationCache}
-use Rattle.nm_catchup.specs.CatchUp.{Kept}
 use Rattle.nm_catchup.specs.Catching.{catch_action}
 use Rattle.nm_access.specs.declared.made.AccessMade.{AccessMade}
 use Rattle.nm_access.specs.declared.access.AccessStage.{AccessStage}

@@ -1,5 +1,5 @@
 -- The accesses with one more, and what the line gave.
-use Rattle.std.proofs.Common.{◌≡◌, ◌≢◌, ℕ, suc, ◌+◌, ◌<◌, ◌≤◌, ◌==◌, Bool, true, false, List, [], ◌∷◌, ◌++◌, map, length, Option, Some, None, refl, sym, ap, ◌∙◌, subst, append_assoc, arith, length-append}
+use Rattle.std.proofs.Common.{◌≡◌, ◌≢◌, ℕ, ◌+◌, ◌==◌, Bool, true, false, List, [], ◌∷◌, ◌++◌, length, Some, None, refl, sym, ap, ◌∙◌, subst, append_assoc, arith, length-append}
 use Rattle.std.specs.Prelude.{if◌then◌else◌}
 use Rattle.std.proofs.lemmas.List.{append-nil, map-append}
 use Rattle.std.proofs.lemmas.Bool.{eqb-true, eqb-false}
@@ -27,13 +27,13 @@ count-more values word loads is = length-append values (word ∷ []) ∙ ap (λ 
 
 -- What an await gives, by two tests.
 
-some-one : {a b : LineResult} → Some a ≡ Some b → a ≡ b
+pub some-one : {a b : LineResult} → Some a ≡ Some b → a ≡ b
 some-one e = cc
 
-none-some : (r : LineResult) → None ≡ Some r → ⊥
+pub none-some : (r : LineResult) → None ≡ Some r → ⊥
 none-some r e = cc
 
-some-none : (r : LineResult) → Some r ≡ None → ⊥
+pub some-none : (r : LineResult) → Some r ≡ None → ⊥
 some-none r e = cc
 
 -- the value was found, or all loads were made

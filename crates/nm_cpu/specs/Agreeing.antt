@@ -1,13 +1,11 @@
 -- What a processor agrees with, and how far it has come.
-use Rattle.std.specs.Prelude.{◌≡◌, ℕ, ◌+◌, ◌≤◌, Bool, true, false, List, [], ◌∷◌, ◌++◌, length, vec_capacity, Option, Some, None}
+use Rattle.std.specs.Prelude.{◌≡◌, ℕ, ◌≤◌, Bool, true, false, List, [], ◌∷◌, ◌++◌, length, vec_capacity, Option, Some, None}
 use Rattle.nm_base.specs.Geometry.{Geometry, page_count}
 use Rattle.nm_action.specs.declared.action.Action.{Action}
 use Rattle.nm_action.specs.declared.action.AckTo.TheVariants as ack
 use Rattle.nm_action.specs.declared.action.Action.TheVariants.{Ack}
-use Rattle.nm_action.specs.declared.action.Reply.{Reply}
 use Rattle.nm_action.specs.declared.turn.Turn.{Turn}
 use Rattle.nm_action.specs.declared.turn.Turn.TheVariants.{Do, End}
-use Rattle.nm_action.specs.declared.turn.Heard.{Heard}
 use Rattle.nm_action.specs.Own.{Own}
 use Rattle.nm_action.specs.declared.tally.Tally.{Tally}
 use Rattle.nm_action.specs.Tally.{sum_of}
@@ -19,13 +17,12 @@ use Rattle.nm_part.specs.Patterns.{Ends, Follows, IsLeft}
 use Rattle.nm_tally.specs.Counts.{events_tally}
 use Rattle.nm_tally.specs.Counting.{CountsEvents}
 use Rattle.nm_actor.specs.Turns.{Turns, own_list, turns_view}
-use Rattle.nm_actor.specs.Actors.{IsPermittedTurn, HasHeard, answered}
+use Rattle.nm_actor.specs.Actors.{IsPermittedTurn}
 use Rattle.nm_catchup.specs.Catching.{kept_of, AwaitsCatch}
-use Rattle.nm_access.specs.declared.access.Access.{Access}
 use Rattle.nm_access.specs.Turning.{Hears, action_turns, IsTurnBegun}
 use Rattle.nm_access.specs.Faults.{FaultKinds, ends_tally}
 use Rattle.nm_access.specs.Accesses.{Carried}
-use Rattle.nm_access.specs.Accessing.{IsAccessReady, IsAccessOver, view_then}
+use Rattle.nm_access.specs.Accessing.{IsAccessReady, IsAccessOver}
 use Rattle.nm_access.specs.Moving.{AwaitsOf, IsFresh}
 use Rattle.nm_script.specs.declared.script.Line.{Line}
 use Rattle.nm_script.specs.declared.script.Line.TheVariants.{Load, Store, Add, Await}
@@ -33,7 +30,7 @@ use Rattle.nm_report.specs.Follows.{access_made, AreMade}
 use Rattle.nm_cpu.specs.declared.actor.Processor.{Processor}
 use Rattle.nm_cpu.specs.declared.actor.CpuStage.{CpuStage}
 use Rattle.nm_cpu.specs.declared.actor.CpuStage.TheVariants.{New, Opening, Accessing, Ending, Over}
-use Rattle.nm_cpu.specs.Programs.{fresh_kept, held_with, line_access, LinesMade, IsProgramMade, IsCpu}
+use Rattle.nm_cpu.specs.Programs.{fresh_kept, held_with, line_access, IsProgramMade, IsCpu}
 use Rattle.nm_cpu.specs.Lines.{own_accesses, AreLoadsOf, IsLoadsOf, AccessLeft, NextLeft, HasFollowed}
 use Rattle.nm_cpu.specs.Parts.{IsCpuPart}
 
@@ -187,11 +184,17 @@ abbrev pub IsKeptTurn : Turn → Option Turn → Type 0
 IsKeptTurn kept None = Unit {0}
 IsKeptTurn kept (Some turn) = turn ≡ kept
 
--- all but what it has counted: the turn comes next in its sequence, and the turns are its part of a run
+-- the action of the last turn is permitted
+abbrev pub IsPermittedLast : Geometry → View → Option Turn → Type 0
+IsPermittedLast g view None = Unit {0}
+IsPermittedLast g view (Some turn) = IsPermittedTurn g view turn
+
+-- how far it has come: the last turn comes next in its sequence, and its action is permitted
 pub record IsAtTurn {F M X : Type 0} (kinds : FaultKinds M X) (made_of : F → M) (awaits_of : F → Geometry → View → Own → Action → Type 0) (c : Processor F) (turns : Turns) (last : Option Turn) : Type 0 where
   pub cpu : IsCpu (geometry_of c) c.made.number (program_of c)
   pub room : length (program_of c) ≤ vec_capacity c.results
   pub next : ComesNext kinds (geometry_of c) (program_of c) turns last
+  pub permitted : IsPermittedLast (geometry_of c) (opened_view c turns) last
   pub at : IsAtCpuStage kinds made_of awaits_of c.stage c turns last
 
 -- it has these answered turns, and this one awaits its answer
@@ -202,9 +205,7 @@ pub record FollowsCpu {F M X : Type 0} (kinds : FaultKinds M X) (made_of : F →
   pub pages : length c.counter.locked.items ≡ page_count (geometry_of c)
   pub kept : IsKeptTurn c.given last
 
--- a turn is given after these turns: it comes next, its action is permitted, and with what the events count the turns are the
--- processor's part of a run
+-- a turn is given after these turns, which with what their events count are the processor's part of a run
 pub record IsAdvanced {F M X : Type 0} (kinds : FaultKinds M X) (made_of : F → M) (awaits_of : F → Geometry → View → Own → Action → Type 0) (c : Processor F) (turns : Turns) (turn : Turn) : Type 0 where
-  pub permitted : IsPermittedTurn (geometry_of c) (opened_view c turns) turn
   pub at : IsAtTurn kinds made_of awaits_of c turns (Some turn)
   pub part : (counts : Tally) → counts ≡ events_tally (own_list turns) → IsCpuPart kinds (geometry_of c) c.made.number (program_of c) turns (is_end (Some turn)) c.results.items (sum_of counts c.access.tally)

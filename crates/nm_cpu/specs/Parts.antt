@@ -10,7 +10,7 @@ use Rattle.nm_access.specs.Faults.{FaultKinds, ends_tally}
 use Rattle.nm_script.specs.declared.script.Line.{Line}
 use Rattle.nm_report.specs.declared.line_result.LineResult.{LineResult}
 use Rattle.nm_report.specs.Follows.{FollowsProgram}
-use Rattle.nm_cpu.specs.Programs.{CpuEnd, IsProgramMade}
+use Rattle.nm_cpu.specs.Programs.{IsProgramMade}
 use Rattle.nm_cpu.specs.Lines.{own_accesses}
 
 -- the turns are a whole sequence that shows the results and the ends of the faults, where the processor has ended, and else

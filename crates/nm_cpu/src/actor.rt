@@ -60,7 +60,12 @@ impl<'a, F: Faults<'a> + Drop> Processor<'a, F> {
     /// A processor that has given no turn. All its memory is taken here, with room for one result for each line; the only
     /// error is its want. Conditions: the processor exists; each line's virtual page is mapped, and writable for a store or
     /// an add; its word is one of the page; an await may make a load.
-    pub fn new(alloc: Global, g: &'a Geometry, number: u32, program: &'a [Line]) -> Result<Processor<'a, F>, AllocError>
+    pub fn new(
+        alloc: Global,
+        g: &'a Geometry,
+        number: u32,
+        program: &'a [Line],
+    ) -> Result<Processor<'a, F>, AllocError>
         requires { IsCpu g.now number program.now }
         ensures geometry { IfOk result (λ c. c.made.geometry.now ≡ g.now) }
         ensures number { IfOk result (λ c. c.made.number ≡ number) }
@@ -124,12 +129,15 @@ impl<'a, F: Faults<'a> + Drop> Processor<'a, F> {
             → IsAdvanced (fault_kinds F.shape F.leaves F.waits_at F.missing F.shadowed F.counted) F.made F.awaits self.new turns result }
     {
         let CpuMade {
-            geometry, program, ..
+            geometry,
+            program,
+            ..
         } = self.made;
         let next = self.results.len();
         if next < program.len() {
             self.stage = CpuStage::Accessing;
-            let AccessStep::Give(turn) = self.access.begin(line_access(geometry, program[next])) else {
+            let AccessStep::Give(turn) = self.access.begin(line_access(geometry, program[next]))
+            else {
                 unreachable!()
             };
             turn

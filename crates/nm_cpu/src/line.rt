@@ -1,6 +1,6 @@
 //! The accesses of a line, and what it gives.
 
-ghost use Rattle.std.specs.Prelude.{◌≡◌};
+ghost use Rattle.std.specs.Prelude.{◌≡◌, ◌+◌, ◌<◌, ◌^◌, IfNone};
 ghost use Rattle.nm_cpu.specs.Programs.{page_or, line_access};
 ghost use Rattle.nm_cpu.specs.Lines.{line_result, HasLoadsLeft};
 
@@ -41,7 +41,8 @@ pub(crate) fn line_access(g: &Geometry, line: Line) -> AccessMade
 /// await that loads again. Condition: an await may make one load more.
 pub(crate) fn line_result(line: Line, loads: u32, word: u64) -> Option<LineResult>
     requires { HasLoadsLeft line loads }
-    ensures { result ≡ line_result line loads word }
+    ensures gives { result ≡ line_result line loads word }
+    ensures fits { IfNone result (loads + 1 < 2 ^ 32) }
 {
     match line {
         Line::Load { .. } => Some(LineResult::Loaded(word)),

@@ -9,7 +9,7 @@ use Rattle.nm_action.specs.declared.turn.Step.{Step}
 use Rattle.nm_action.specs.declared.turn.Step.TheVariants.{Do, Over}
 use Rattle.nm_action.specs.Own.{Own}
 use Rattle.nm_view.specs.Views.{View}
-use Rattle.nm_part.specs.Parts.{IsHeard, IsAsked, IsEnded, IsPartStep}
+use Rattle.nm_part.specs.Parts.{IsHeard, IsAsked, IsPartStep}
 use Rattle.nm_shadow_fault.specs.Granting.{FaultsMade, fault_made, MayFault, IsFaulted}
 use Rattle.nm_fault.specs.Tasks.{page_or, fault_at}
 use Rattle.nm_access.specs.Faults.{HasNothingOpen, MayFaultOn}

@@ -1,5 +1,4 @@
 -- The faults of a processor, as its accesses see them.
-use Rattle.std.specs.Prelude.{◌≡◌, ℕ}
 use Rattle.nm_base.specs.Geometry.{Geometry}
 use Rattle.nm_action.specs.declared.action.Action.{Action}
 use Rattle.nm_action.specs.declared.tally.Tally.{Tally}
