@@ -1,5 +1,4 @@
 pub mod Running
 pub mod Ending
-pub mod Beginning
 pub mod Acting
 pub mod Migrators

@@ -1,4 +1,3 @@
 pub mod Plain
 pub mod Parts
 pub mod Runs
-pub mod Cpus

@@ -1,7 +1,6 @@
 //! Simulations of scripts.
 #![tactic(auto)]
 
-mod cpus;
 pub mod simulation;
 
 pub use nm_schedule::{SimAct, SimTurn};

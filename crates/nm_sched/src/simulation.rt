@@ -4,13 +4,13 @@ ghost use Rattle.std.specs.Prelude.{◌≡◌, IfOk};
 ghost use Rattle.nm_script.specs.Script.{IsScript};
 ghost use Rattle.nm_sched.specs.Runs.{IsRunOfScript};
 
-use crate::cpus::{cpus_of, results_of};
 use nm_action::{Event, Tally};
 use nm_core::EndWords;
 use nm_crew::run_crew;
 use nm_kswap::ReclaimerActor;
 use nm_migrator::MigratorActor;
 use nm_play::Actors;
+use nm_programs::{cpus_of, results_of};
 use nm_report::LineResult;
 use nm_schedule::SimTurn;
 use nm_script::Script;

@@ -1,7 +1,8 @@
 use Rattle.std.proofs.Common.{◌≡◌, ◌<◌, ap, ◌∙◌, arith}
 use Rattle.nm_sched.proofs.Acting.{program-acts, reclaiming-acts, routine-acts}
 use Rattle.nm_sched.proofs.Migrators.{migrating-acts, migrator-agreed}
-use Rattle.nm_sched.proofs.Ending.{cpu-done, made-after, reclaimer-agreed}
+use Rattle.nm_sched.proofs.Ending.{cpu-done, reclaimer-agreed}
+use Rattle.nm_programs.proofs.Playing.{made-after}
 use Rattle.nm_sched.proofs.Running.{run-of-script}
 use Rattle.nm_sched.proofs.simulation.simulate.Goals as goal
 

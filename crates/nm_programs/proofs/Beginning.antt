@@ -12,7 +12,7 @@ use Rattle.nm_script.specs.Script.{IsAccess, IsScript}
 use Rattle.nm_schedule.proofs.Snoc.{length-snoc}
 use Rattle.nm_cpu.specs.Programs.{IsLineOf, IsCpu}
 use Rattle.nm_crew.specs.Crewed.{AtEach}
-use Rattle.nm_sched.specs.Runs.{program_of}
+use Rattle.nm_programs.specs.Cpus.{program_of}
 
 -- ---- programs
 

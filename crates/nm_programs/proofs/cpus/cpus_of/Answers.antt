@@ -1,7 +1,7 @@
 use Rattle.std.proofs.Common.{◌≡◌, ◌<◌, length, subst, sym, ap, ◌∙◌, rules}
-use Rattle.nm_sched.specs.Runs.{program_of}
-use Rattle.nm_sched.proofs.Beginning.{cpu-of, each-more}
-use Rattle.nm_sched.proofs.cpus.cpus_of.Goals as goal
+use Rattle.nm_programs.specs.Cpus.{program_of}
+use Rattle.nm_programs.proofs.Beginning.{cpu-of, each-more}
+use Rattle.nm_programs.proofs.cpus.cpus_of.Goals as goal
 
 pub new-requires : goal.new-requires
 new-requires g c =

@@ -1,12 +1,15 @@
--- The processors of a script before a simulation.
-use Rattle.std.specs.Prelude.{◌≡◌, ℕ, [], List, Option, None}
+-- The processors of a script, and their programs.
+use Rattle.std.specs.Prelude.{◌≡◌, ℕ, [], List, slice_index_or, Option, None}
 use Rattle.nm_base.specs.Geometry.{Geometry}
 use Rattle.nm_action.specs.declared.turn.Turn.{Turn}
 use Rattle.nm_actor.specs.Turns.{Turns}
 use Rattle.nm_script.specs.declared.script.Line.{Line}
 use Rattle.nm_script.specs.Plain.{Script}
 use Rattle.nm_cpu.specs.declared.made.CpuMade.{CpuMade}
-use Rattle.nm_sched.specs.Runs.{program_of}
+
+-- the program of a processor
+abbrev pub program_of : Script → ℕ → List Line
+program_of script cpu = slice_index_or script.programs cpu []
 
 -- a processor was made for its place in the machine of a script, with its program
 pub record IsCpuMade (script : Script) (cpu : ℕ) (made : CpuMade) : Type 0 where

@@ -2,8 +2,8 @@ use Rattle.std.proofs.Common.{◌≡◌, length}
 use Rattle.nm_access.specs.Faults.{fault_kinds}
 use Rattle.nm_cpu.specs.Agreeing.{FollowsCpu}
 use Rattle.nm_crew.specs.Crewed.{AtEach}
-use Rattle.nm_sched.specs.Cpus.{IsCpuAt}
-use Rattle.nm_sched.proofs.cpus.cpus_of.Given as goal
+use Rattle.nm_programs.specs.Cpus.{IsCpuAt}
+use Rattle.nm_programs.proofs.cpus.cpus_of.Given as goal
 
 abbrev pub invariant-loop-number : goal.invariant-loop-number
 invariant-loop-number g l = record {

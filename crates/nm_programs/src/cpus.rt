@@ -5,16 +5,17 @@ ghost use Rattle.nm_script.specs.Script.{IsScript};
 ghost use Rattle.nm_access.specs.Faults.{fault_kinds};
 ghost use Rattle.nm_cpu.specs.Agreeing.{FollowsCpu};
 ghost use Rattle.nm_crew.specs.Crewed.{AtEach};
-ghost use Rattle.nm_sched.specs.Cpus.{IsCpuAt};
+ghost use Rattle.nm_programs.specs.Cpus.{IsCpuAt};
 
 use nm_access::Faults;
-use nm_cpu::{CpuActor, Processor};
+use nm_cpu::Processor;
 use nm_report::LineResult;
 use nm_script::Script;
 use std::alloc::{AllocError, Global};
 
-/// The processors of a script, each with its program.
-pub(crate) fn cpus_of<'a, F: Faults<'a> + Drop>(
+/// The processors of a script, each with its program, over some kind of faults. `AllocError` comes where there is no memory for
+/// them.
+pub fn cpus_of<'a, F: Faults<'a> + Drop>(
     alloc: Global,
     script: &'a Script,
 ) -> Result<Vec<Processor<'a, F>>, AllocError>
@@ -31,10 +32,10 @@ pub(crate) fn cpus_of<'a, F: Faults<'a> + Drop>(
     Ok(cpus)
 }
 
-/// What the lines of each processor gave.
-pub(crate) fn results_of(
+/// What the lines of each processor gave. `AllocError` comes where there is no memory for the list.
+pub fn results_of<'a, F: Faults<'a> + Drop>(
     alloc: Global,
-    cpus: Vec<CpuActor<'_>>,
+    cpus: Vec<Processor<'a, F>>,
 ) -> Result<Vec<Vec<LineResult>>, AllocError>
     ensures { IfOk result (λ results. map (λ r. r.items) results.items ≡ map (λ c. c.results.items) cpus.items) }
 {
