@@ -1,4 +1,4 @@
--- No actor of a script ends at once: no whole sequence of it is empty.
+-- The reclaimer does not end at once: no whole sequence of it is empty.
 use Rattle.std.proofs.Common.{◌≡◌, ◌<◌, ◌++◌, ℕ, zero, suc, Bool, true, List, [], ◌∷◌, arith, refl, sym, subst, ◌∙◌}
 use Rattle.nm_base.specs.Geometry.{Geometry}
 use Rattle.nm_action.specs.Own.{Own}
@@ -7,30 +7,12 @@ use Rattle.nm_compose.specs.declared.or.Or.TheVariants.{This, Other}
 use Rattle.nm_worker.specs.Notes.{Notes, worked, noted_turns}
 use Rattle.nm_routine_part.specs.Parts.{IsRoutinePart}
 use Rattle.nm_ended.specs.Asking.{AsksFrom}
-use Rattle.nm_script.specs.declared.script.Line.{Line}
-use Rattle.nm_access.specs.Faults.{FaultKinds}
-use Rattle.nm_access.specs.Turning.{action_turns}
-use Rattle.nm_cpu.specs.Programs.{CpuEnd, IsProgramMade}
 use Rattle.nm_kswap.specs.Works.{WorkEnd, IsWork, made_ask}
 use Rattle.nm_kswap.specs.Reclaiming.{Rounds, fresh_kept, IsReclaiming}
 
 pub front-none : {A : Type 0} (front back : List A) → [] ≡ front ++ back → front ≡ []
 front-none [] back is = refl
 front-none (a ∷ front) back is = cc
-
--- ---- a processor polls first
-
-turns-none : (own : Own) → [] ≡ action_turns own → own ≡ []
-turns-none [] is = refl
-turns-none (e ∷ own) is = cc
-
-pub program-acts : {M X : Type 0} (kinds : FaultKinds M X) (g : Geometry) (program : List Line) (outcome : CpuEnd X) → ¬ IsProgramMade kinds g program [] outcome
-program-acts kinds g program outcome h =
-    let none = front-none h.front h.back h.is in
-    let own = turns-none h.shown.own (sym none ∙ h.shown.is) in
-    let poll = front-none h.shown.shown.front h.shown.shown.back (sym own ∙ h.shown.shown.is) in
-    let acts = sym poll ∙ h.shown.shown.shown.is in
-    cc
 
 -- ---- the reclaimer asks the processors first
 

@@ -1,5 +1,6 @@
 use Rattle.std.proofs.Common.{◌≡◌, ◌<◌, ap, ◌∙◌, arith}
-use Rattle.nm_sched.proofs.Acting.{program-acts, reclaiming-acts, routine-acts}
+use Rattle.nm_cpu.proofs.Starting.{acts-first}
+use Rattle.nm_sched.proofs.Acting.{reclaiming-acts, routine-acts}
 use Rattle.nm_sched.proofs.Migrators.{migrating-acts, migrator-agreed}
 use Rattle.nm_sched.proofs.Ending.{cpu-done, reclaimer-agreed}
 use Rattle.nm_programs.proofs.Playing.{made-after}
@@ -26,7 +27,7 @@ run_crew-requires-clause-reclaimer c = record {
 }
 
 pub run_crew-requires-clause-cpu_acts : goal.run_crew-requires-clause-cpu_acts
-run_crew-requires-clause-cpu_acts c = λ x h. program-acts _ _ _ _ h.part.sequence
+run_crew-requires-clause-cpu_acts c = λ x h. acts-first _ _ _ x h
 
 pub run_crew-requires-clause-migrator_acts : goal.run_crew-requires-clause-migrator_acts
 run_crew-requires-clause-migrator_acts c = λ x h. routine-acts _ _ (migrating-acts _ _) h.part
