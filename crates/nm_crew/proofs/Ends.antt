@@ -1,5 +1,5 @@
 -- What end words name and count.
-use Rattle.std.proofs.Common.{◌≡◌, ◌≢◌, ◌==◌, ◌<◌, ◌≤◌, ◌+◌, ◌-◌, ◌^◌, ◌×◌, ℕ, Bool, true, false, cond, All, List, length, map, get_or, Option, Some, None, IfSome, refl, sym, ap, subst, ◌∙◌, inl, inr, arith}
+use Rattle.std.proofs.Common.{◌≡◌, ◌≢◌, ◌==◌, ◌<◌, ◌≤◌, ◌+◌, ◌-◌, ◌^◌, ℕ, Bool, true, false, cond, All, List, length, map, get_or, Option, Some, None, IfSome, refl, sym, ap, subst, ◌∙◌, inl, inr, arith}
 use Rattle.std.proofs.lemmas.Bool.{eqb-false}
 use Rattle.std.proofs.lemmas.List.{length-replicate}
 use Rattle.std.specs.List.{range_with_len}
@@ -34,7 +34,7 @@ home-named : (n word : ℕ) → word ≤ n → IfSome (named_home word) (λ f. f
 home-named n word le = home-if (word == 0) n word refl le
 
 -- a shadow word names a page and a frame, if it names any
-shadow-if : (none : Bool) (g : Geometry) (word : ℕ) → (word == 0) ≡ none → frame_count g ≤ 4096 → IsShadowWord g word → IfSome (cond none None (Some (shadow_page word, shadow_frame word))) (λ s. (s.0 < page_count g) × (s.1 < frame_count g))
+shadow-if : (none : Bool) (g : Geometry) (word : ℕ) → (word == 0) ≡ none → frame_count g ≤ 4096 → IsShadowWord g word → IfSome {T = ℕ × ℕ} (cond none None (Some (shadow_page word, shadow_frame word))) (λ s. (s.0 < page_count g) × (s.1 < frame_count g))
 shadow-if true g word is few h = tt
 shadow-if false g word is few h = elim h [
   | inl same ↦ absurd (eqb-false word 0 is same)

@@ -75,6 +75,8 @@ pub fn run_crew<C: Actor + Drop, M: Actor + Drop, R: Actor + Drop>(
         g.now schedule.now run.crew.cpus.items run.events.items run.order.items run.turns run.end) }
     ensures tally { IfOk result (λ run. run.tally ≡ tally_of (crew_tallies (map C.counted run.crew.cpus.items) (M.counted run.crew.migrator) (R.counted run.crew.reclaimer))) }
 {
+    // The limits of the geometry are those of an open one.
+    let _cpus = g.cpus;
     let run = run_schedule(alloc, g, schedule, crew)?;
     let mut end = EndWords::with_room(alloc, g)?;
     run.state.end_words(&mut end);

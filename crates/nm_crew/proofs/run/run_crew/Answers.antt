@@ -1,4 +1,4 @@
-use Rattle.std.proofs.Common.{◌≡◌, length, ap, rules}
+use Rattle.std.proofs.Common.{◌≡◌, length, ap, subst, rules}
 use Rattle.nm_base.specs.Geometry.{IsGeometry}
 use Rattle.nm_play.proofs.Members.{Kind}
 use Rattle.nm_crew.proofs.Ends.{empty-room}
@@ -21,7 +21,7 @@ run_schedule-requires-clause-may g c =
 
 pub end_words-requires : goal.end_words-requires
 end_words-requires g c =
-    let is : IsGeometry c.args.g.now = search rules in
+    let is : IsGeometry c.args.g.now = subst IsGeometry c.g.view_is c.g.invariant.geometry in
     let run = c.in_ok-run.ensures.run in
     empty-room c.args.g.now c.in_ok-run.run'.state.geometry c.in_ok-end.end (machine-of c.args.g.now c.in_ok-run.run'.events.items c.in_ok-run.run'.state is run.run run.reached) c.in_ok-end.ensures
 
@@ -37,7 +37,7 @@ returns-clause-run g c =
     let km : Kind g.row.M.Denot g.row.M-Made.Denot = record { geometry = g.M.Actor.geometry; number = g.M.Actor.number; made = g.M.Actor.made; agrees = g.M.Actor.agrees } in
     let kr : Kind g.row.R.Denot g.row.R-Made.Denot = record { geometry = g.R.Actor.geometry; number = g.R.Actor.number; made = g.R.Actor.made; agrees = g.R.Actor.agrees } in
     let run = c.in_ok-run.run' in
-    let is : IsGeometry c.args.g.now = search rules in
+    let is : IsGeometry c.args.g.now = subst IsGeometry c.g.view_is c.g.invariant.geometry in
     crew-run kc km kr c.args.g.now c.args.schedule.now run.crew.cpus.items run.crew.migrator run.crew.reclaimer run.state run.events.items run.order.items _ _
     (as-many g.C.Actor.made c.args.crew.cpus.items run.crew.cpus.items c.args.g.now.cpus (ap (λ k. k.cpus) c.in_ok-run.ensures.made) c.requires.many)
     is c.requires.schedule c.in_ok-run.ensures.run (search rules) c.end_words.ensures
