@@ -1,5 +1,5 @@
 -- What the actors of a crew agree with at the end of a run, and that they may start.
-use Rattle.std.proofs.Common.{◌≡◌, ◌<◌, ◌+◌, ℕ, zero, suc, List, [], ◌∷◌, length, map, get_or, Option, Some, None, refl, sym, ap, subst, ◌∙◌, arith}
+use Rattle.std.proofs.Common.{◌≡◌, ◌<◌, ◌+◌, ℕ, zero, suc, List, [], ◌∷◌, length, map, get_or, Some, None, refl, sym, ap, subst, ◌∙◌, arith}
 use Rattle.std.proofs.lemmas.List.{length-map}
 use Rattle.nm_base.specs.Geometry.{Geometry, IsGeometry}
 use Rattle.nm_action.specs.declared.action.Event.{Event}
@@ -36,10 +36,10 @@ opens-all kc km kr g cpus m r many each migrator reclaimer actor there =
     let SaysM : ℕ → Type 0 = λ a. Says km m g a [] None in
     let SaysR : ℕ → Type 0 = λ a. Says kr r g a [] None in
     subst At (sym migrator.machine) (place-at (λ c. Says kc c g actor [] None) (Says km m g actor [] None) (Says kr r g actor [] None) cpus actor
-        (λ d lt. each actor d lt)
-        (λ e. (let a : g.cpus ≡ actor = omega (arith, e, many) in subst SaysM a migrator))
-        (λ e. (let a : g.cpus + 1 ≡ actor = omega (arith, e, many) in subst SaysR a reclaimer))
-        (omega (arith, there, many)))
+    (λ d lt. each actor d lt)
+    (λ e. (let a : g.cpus ≡ actor = omega (arith, e, many) in subst SaysM a migrator))
+    (λ e. (let a : g.cpus + 1 ≡ actor = omega (arith, e, many) in subst SaysR a reclaimer))
+    (omega (arith, there, many)))
 
 -- no actor ends at once
 pub acts-all : {C CMade M MMade R RMade : Type 0} (kc : Kind C CMade) (km : Kind M MMade) (kr : Kind R RMade) (cpus : List C) (m : M) (r : R) (actor : ℕ)

@@ -1,5 +1,5 @@
 -- The facts of a run of a schedule.
-use Rattle.std.proofs.Common.{◌≡◌, ◌<◌, ◌≤◌, ◌+◌, ◌^◌, ℕ, List, [], ◌∷◌, ◌++◌, length, refl, sym, ap, subst, ◌∙◌, append_assoc, arith}
+use Rattle.std.proofs.Common.{◌≡◌, ◌<◌, ◌≤◌, ◌^◌, ℕ, List, [], ◌∷◌, ◌++◌, length, sym, ap, subst, ◌∙◌, append_assoc, arith}
 use Rattle.std.proofs.lemmas.List.{append-nil, length-map}
 use Rattle.nm_base.specs.Geometry.{Geometry, IsGeometry, frame_count}
 use Rattle.nm_action.specs.declared.action.Event.{Event}
@@ -7,7 +7,6 @@ use Rattle.nm_core.specs.State.{State}
 use Rattle.nm_core.specs.Runs.{IsRun, IsRunFrom, after_event, state_after}
 use Rattle.nm_core.specs.State.{start}
 use Rattle.nm_core.specs.EndWords.{EndWords, HasEndRoom, IsEndOf}
-use Rattle.nm_actor.specs.Turns.{Turns}
 use Rattle.nm_script.specs.declared.schedule.Schedule.{Schedule}
 use Rattle.nm_script.specs.declared.schedule.Schedule.TheVariants.{Serial, Shuffle, Plan}
 use Rattle.nm_script.specs.Script.{IsSchedule}

@@ -1,4 +1,4 @@
-use Rattle.std.proofs.Common.{◌≡◌, length, ap, subst, rules}
+use Rattle.std.proofs.Common.{ap, subst, rules}
 use Rattle.nm_base.specs.Geometry.{IsGeometry}
 use Rattle.nm_play.proofs.Members.{Kind}
 use Rattle.nm_crew.proofs.Ends.{empty-room}
