@@ -1,7 +1,7 @@
 -- The processors of a script are those that a simulation begins with.
-use Rattle.std.proofs.Common.{◌≡◌, ◌<◌, ◌+◌, ℕ, zero, suc, List, [], ◌∷◌, ◌++◌, length, map, get_or, Option, Some, None, refl, sym, ap, subst, ◌∙◌, inl, inr, arith}
+use Rattle.std.proofs.Common.{◌≡◌, ◌<◌, ℕ, zero, suc, List, [], ◌∷◌, ◌++◌, length, map, get_or, sym, ap, subst, ◌∙◌, inl, inr, arith}
 use Rattle.std.specs.List.{AllByRecursion}
-use Rattle.std.proofs.lemmas.List.{get_or_append_left, get_or-map}
+use Rattle.std.proofs.lemmas.List.{get_or_append_left, get_or-map, length-map}
 use Rattle.std.proofs.Math.Seq.{get_or-append_seam}
 use Rattle.std.proofs.lemmas.Bool.{cases_eq}
 use Rattle.nm_base.specs.Geometry.{Geometry}
@@ -18,8 +18,8 @@ use Rattle.nm_programs.specs.Cpus.{program_of}
 
 line-of : (g : Geometry) (line : Line) → IsAccess g line → IsLineOf g line
 line-of g (Load v w) is = is
-line-of g (Store v w x) is = (is.0, is.1)
-line-of g (Add v w x) is = (is.0, is.1)
+line-of g (Store v w x) is = is
+line-of g (Add v w x) is = is
 line-of g (Await v w x max) is = (is.0, is.1, is.3)
 
 lines-of : (g : Geometry) (lines : List Line) → AllByRecursion (IsAccess g) lines → AllByRecursion (IsLineOf g) lines
@@ -54,3 +54,10 @@ each-more said cpus c each is place d lt = elim (cases_eq place (length cpus)) [
       let Is = said place in
       subst Is (sym (get_or_append_left cpus (c ∷ []) d place before)) (each place d before))
 ]
+
+-- ---- a program
+
+pub program-at : {V : Type 0} (lines : V → List Line) (programs : List V) (script : Script) (cpu : ℕ) (d : V) (program : List Line)
+    → map lines programs ≡ script.programs → cpu < length script.programs → program ≡ lines (get_or programs cpu d) → program ≡ program_of script cpu
+program-at lines programs script cpu d program are lt is =
+    is ∙ sym (get_or-map lines programs cpu d [] (omega (arith, lt, ap length are, length-map programs lines))) ∙ ap (λ l. get_or l cpu []) are

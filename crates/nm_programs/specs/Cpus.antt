@@ -1,6 +1,5 @@
 -- The processors of a script, and their programs.
 use Rattle.std.specs.Prelude.{◌≡◌, ℕ, [], List, slice_index_or, Option, None}
-use Rattle.nm_base.specs.Geometry.{Geometry}
 use Rattle.nm_action.specs.declared.turn.Turn.{Turn}
 use Rattle.nm_actor.specs.Turns.{Turns}
 use Rattle.nm_script.specs.declared.script.Line.{Line}

@@ -37,7 +37,7 @@ pub fn results_of<'a, F: Faults<'a> + Drop>(
     alloc: Global,
     cpus: Vec<Processor<'a, F>>,
 ) -> Result<Vec<Vec<LineResult>>, AllocError>
-    ensures { IfOk result (λ results. map (λ r. r.items) results.items ≡ map (λ c. c.results.items) cpus.items) }
+    ensures { IfOk result (λ results. map (λ r. r.items) results.items ≡ map (λ c. c.results.items) cpus.entry.items) }
 {
     let mut results = Vec::with_capacity(alloc, cpus.len())?;
     for cpu in cpus {
