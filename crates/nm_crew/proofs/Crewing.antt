@@ -1,5 +1,5 @@
 -- What the actors of a crew agree with at the end of a run, and that they may start.
-use Rattle.std.proofs.Common.{◌≡◌, ◌<◌, ◌+◌, ℕ, zero, suc, List, [], ◌∷◌, length, map, get_or, Option, Some, None, refl, sym, ap, subst, ◌∙◌, arith}
+use Rattle.std.proofs.Common.{◌≡◌, ◌<◌, ◌+◌, ℕ, zero, suc, List, [], ◌∷◌, length, map, get_or, Some, None, refl, sym, ap, subst, ◌∙◌, arith}
 use Rattle.std.proofs.lemmas.List.{length-map}
 use Rattle.nm_base.specs.Geometry.{Geometry, IsGeometry}
 use Rattle.nm_action.specs.declared.action.Event.{Event}
@@ -15,7 +15,7 @@ use Rattle.nm_schedule.specs.Played.{turns_by}
 use Rattle.nm_play.specs.Crews.{AtActor}
 use Rattle.nm_play.specs.Played.{HasPlayed, IsRunOf}
 use Rattle.nm_play.proofs.Members.{Kind, Says, machine_of, Agrees, at-cpu, at-migrator, at-reclaimer, at-never}
-use Rattle.nm_crew.specs.Crewed.{Each, IsAgreedAt, IsCrewRun}
+use Rattle.nm_crew.specs.Crewed.{AtEach, IsAgreedAt, IsCrewRun}
 use Rattle.nm_crew.proofs.Simulating.{simulated-of}
 
 -- ---- at the beginning
@@ -29,17 +29,17 @@ place-at cpu m r (c ∷ cpus) (suc actor) fc fm fr lt = place-at cpu m r cpus ac
 
 -- each actor is to hear Start
 pub opens-all : {C CMade M MMade R RMade : Type 0} (kc : Kind C CMade) (km : Kind M MMade) (kr : Kind R RMade) (g : Geometry) (cpus : List C) (m : M) (r : R)
-    → length cpus ≡ g.cpus → Each (λ cpu c. Says kc c g cpu [] None) cpus → Says km m g g.cpus [] None → Says kr r g (g.cpus + 1) [] None
+    → length cpus ≡ g.cpus → AtEach (λ cpu c. Says kc c g cpu [] None) cpus → Says km m g g.cpus [] None → Says kr r g (g.cpus + 1) [] None
     → (actor : ℕ) → IsActor g actor → Agrees kc km kr cpus m r actor [] None
 opens-all kc km kr g cpus m r many each migrator reclaimer actor there =
     let At : Geometry → Type 0 = λ k. AtActor (λ c. Says kc c k actor [] None) (Says km m k actor [] None) (Says kr r k actor [] None) cpus actor in
     let SaysM : ℕ → Type 0 = λ a. Says km m g a [] None in
     let SaysR : ℕ → Type 0 = λ a. Says kr r g a [] None in
     subst At (sym migrator.machine) (place-at (λ c. Says kc c g actor [] None) (Says km m g actor [] None) (Says kr r g actor [] None) cpus actor
-        (λ d lt. each actor d lt)
-        (λ e. (let a : g.cpus ≡ actor = omega (arith, e, many) in subst SaysM a migrator))
-        (λ e. (let a : g.cpus + 1 ≡ actor = omega (arith, e, many) in subst SaysR a reclaimer))
-        (omega (arith, there, many)))
+    (λ d lt. each actor d lt)
+    (λ e. (let a : g.cpus ≡ actor = omega (arith, e, many) in subst SaysM a migrator))
+    (λ e. (let a : g.cpus + 1 ≡ actor = omega (arith, e, many) in subst SaysR a reclaimer))
+    (omega (arith, there, many)))
 
 -- no actor ends at once
 pub acts-all : {C CMade M MMade R RMade : Type 0} (kc : Kind C CMade) (km : Kind M MMade) (kr : Kind R RMade) (cpus : List C) (m : M) (r : R) (actor : ℕ)
@@ -55,7 +55,7 @@ abbrev pub AllPlayed : {C CMade M MMade R RMade : Type 0} → Kind C CMade → K
 AllPlayed kc km kr g played cpus m r = (actor : ℕ) → IsActor g actor → HasPlayed g (Agrees kc km kr cpus m r actor) played actor
 
 pub each-played : {C CMade M MMade R RMade : Type 0} (kc : Kind C CMade) (km : Kind M MMade) (kr : Kind R RMade) (g : Geometry) (played : List Played) (cpus : List C) (m : M) (r : R)
-    → length cpus ≡ g.cpus → AllPlayed kc km kr g played cpus m r → Each (λ cpu c. IsAgreedAt (kc.agrees c) played cpu) cpus
+    → length cpus ≡ g.cpus → AllPlayed kc km kr g played cpus m r → AtEach (λ cpu c. IsAgreedAt (kc.agrees c) played cpu) cpus
 each-played kc km kr g played cpus m r many all cpu d lt =
     let h = all cpu (omega (arith, lt, many)) in
     let turns = turns_by cpu played in

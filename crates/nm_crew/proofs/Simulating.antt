@@ -1,5 +1,5 @@
 -- The facts of a run of a schedule.
-use Rattle.std.proofs.Common.{◌≡◌, ◌<◌, ◌≤◌, ◌+◌, ◌^◌, ℕ, List, [], ◌∷◌, ◌++◌, length, refl, sym, ap, subst, ◌∙◌, append_assoc, arith}
+use Rattle.std.proofs.Common.{◌≡◌, ◌<◌, ◌≤◌, ◌^◌, ℕ, List, [], ◌∷◌, ◌++◌, length, sym, ap, subst, ◌∙◌, append_assoc, arith}
 use Rattle.std.proofs.lemmas.List.{append-nil, length-map}
 use Rattle.nm_base.specs.Geometry.{Geometry, IsGeometry, frame_count}
 use Rattle.nm_action.specs.declared.action.Event.{Event}
@@ -7,7 +7,6 @@ use Rattle.nm_core.specs.State.{State}
 use Rattle.nm_core.specs.Runs.{IsRun, IsRunFrom, after_event, state_after}
 use Rattle.nm_core.specs.State.{start}
 use Rattle.nm_core.specs.EndWords.{EndWords, HasEndRoom, IsEndOf}
-use Rattle.nm_actor.specs.Turns.{Turns}
 use Rattle.nm_script.specs.declared.schedule.Schedule.{Schedule}
 use Rattle.nm_script.specs.declared.schedule.Schedule.TheVariants.{Serial, Shuffle, Plan}
 use Rattle.nm_script.specs.Script.{IsSchedule}
@@ -91,6 +90,16 @@ simulated-of g schedule state events order turns end played is scheduled listed 
       facts = facts-at g events is run;
       ends = at-end;
       room = room;
-      names = subst Names lawful.machine (names-of s end lawful.kept at-end (subst Few (sym lawful.machine) is.ranges.1.0.1.1.1));
+      names = subst Names lawful.machine (names-of s end lawful.kept at-end (subst Few (sym lawful.machine) is.ranges.1.3));
       tiers = λ tier lt. tier-at g events end tier is run lawful.machine at-end room lt;
     }
+
+-- the machine of a state that was reached
+pub machine-of : (g : Geometry) (events : List Event) (state : State) → IsGeometry g → IsRun g events → state ≡ state_after g events → state.geometry ≡ g
+machine-of g events state is run reached = ap (λ s. s.geometry) reached ∙ (lawful_run g events is run).machine
+
+-- a list of turns has fewer than 2^32
+pub few-order : (g : Geometry) (schedule : Schedule) (played : List Played) (order : List SimTurn) → IsSchedule g.cpus schedule → IsScheduled g schedule played → order ≡ order_of played → length order < 2 ^ 32
+few-order g schedule played order is scheduled ordered =
+    let few = few-played g schedule played is scheduled in
+    omega (arith, few, ap length ordered ∙ length-map played sim_turn)

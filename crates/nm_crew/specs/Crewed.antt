@@ -1,5 +1,5 @@
 -- A simulation of any actors: what they agree with at its end, and what they counted.
-use Rattle.std.specs.Prelude.{◌≡◌, ℕ, ◌+◌, ◌<◌, Bool, List, [], ◌∷◌, ◌++◌, length, map, slice_index_or, Option, Some}
+use Rattle.std.specs.Prelude.{◌≡◌, ℕ, ◌+◌, ◌<◌, Bool, List, [], ◌∷◌, ◌++◌, length, slice_index_or, Option, Some}
 use Rattle.nm_base.specs.Geometry.{Geometry}
 use Rattle.nm_action.specs.declared.action.Event.{Event}
 use Rattle.nm_action.specs.declared.tally.Tally.{Tally}
@@ -16,8 +16,14 @@ use Rattle.nm_play.specs.Played.{is_end}
 use Rattle.nm_crew.specs.Simulated.{IsSimulated}
 
 -- what is said of each element of a list and its place, whatever is read beyond the list
-abbrev pub Each : {A : Type 0} → (ℕ → A → Type 0) → List A → Type 0
-Each {A} said list = (place : ℕ) (beyond : A) → place < length list → said place (slice_index_or list place beyond)
+abbrev pub AtEach : {A : Type 0} → (ℕ → A → Type 0) → List A → Type 0
+AtEach {A} said list = (place : ℕ) (beyond : A) → place < length list → said place (slice_index_or list place beyond)
+
+-- an actor is the one of a place in a machine, and has given no turn
+pub record IsNewAt {M : Type 0} (geometry : M → Geometry) (number : M → ℕ) (made : M) (is_new : Type 0) (g : Geometry) (actor : ℕ) : Type 0 where
+  pub machine : geometry made ≡ g
+  pub same : number made ≡ actor
+  pub new : is_new
 
 -- an actor agrees with these answered turns, and has given a turn since, which is End where it has ended
 pub record IsAgreed (agrees : Turns → Option Turn → Type 0) (turns : Turns) (ended : Bool) : Type 0 where
@@ -35,7 +41,7 @@ pub record IsCrewRun {C : Type 0} (cpu_agrees : C → Turns → Option Turn → 
   pub played : List Played
   pub simulated : IsSimulated g schedule events order turns end played
   pub many : length cpus ≡ g.cpus
-  pub each : Each (λ cpu c. IsAgreedAt (cpu_agrees c) played cpu) cpus
+  pub each : AtEach (λ cpu c. IsAgreedAt (cpu_agrees c) played cpu) cpus
   pub migrator : IsAgreedAt migrator_agrees played g.cpus
   pub reclaimer : IsAgreedAt reclaimer_agrees played (g.cpus + 1)
 

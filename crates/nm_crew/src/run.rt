@@ -1,10 +1,9 @@
 //! A simulation of any processors, a migrator and a reclaimer.
 
-ghost use Rattle.std.specs.Prelude.{◌≡◌, ℕ, ◌+◌, [], map, length, IfOk, Some, None};
+ghost use Rattle.std.specs.Prelude.{◌≡◌, ℕ, ◌+◌, [], map, length, IfOk, Some};
 ghost use Rattle.nm_action.specs.declared.turn.Turn.TheVariants as turn;
 ghost use Rattle.nm_script.specs.Script.{IsSchedule};
-ghost use Rattle.nm_play.specs.Crews.{IsAgreeing};
-ghost use Rattle.nm_crew.specs.Crewed.{Each, IsCrewRun, tally_of, crew_tallies};
+ghost use Rattle.nm_crew.specs.Crewed.{AtEach, IsNewAt, IsCrewRun, tally_of, crew_tallies};
 
 use nm_action::{Event, Tally};
 use nm_actor::Actor;
@@ -53,7 +52,7 @@ fn counts_of_all<C: Actor, M: Actor, R: Actor>(crew: &Actors<C, M, R>) -> Tally
 /// is the sum of what the actors counted. The lists grow with the run. `AllocError` comes where there is no memory for them.
 ///
 /// Conditions: each actor is the one of its place in this machine, the processors from 0, the migrator behind them, the
-/// reclaimer last, and is to hear Start; no actor ends at once, whatever state of it that is; the schedule is one that a script
+/// reclaimer last, and has given no turn; no actor ends at once, whatever state of it that is; the schedule is one that a script
 /// can say.
 pub fn run_crew<C: Actor + Drop, M: Actor + Drop, R: Actor + Drop>(
     alloc: Global,
@@ -62,9 +61,9 @@ pub fn run_crew<C: Actor + Drop, M: Actor + Drop, R: Actor + Drop>(
     crew: Actors<C, M, R>,
 ) -> Result<CrewRun<C, M, R>, AllocError>
     requires many { length crew.cpus.items ≡ g.now.cpus }
-    requires each { Each (λ cpu c. IsAgreeing C.geometry C.number (C.made c) (C.agrees c) g.now cpu [] None) crew.cpus.items }
-    requires migrator { IsAgreeing M.geometry M.number (M.made crew.migrator) (M.agrees crew.migrator) g.now g.now.cpus [] None }
-    requires reclaimer { IsAgreeing R.geometry R.number (R.made crew.reclaimer) (R.agrees crew.reclaimer) g.now (g.now.cpus + 1) [] None }
+    requires each { AtEach (λ cpu c. IsNewAt C.geometry C.number (C.made c) (C.is_new c) g.now cpu) crew.cpus.items }
+    requires migrator { IsNewAt M.geometry M.number (M.made crew.migrator) (M.is_new crew.migrator) g.now g.now.cpus }
+    requires reclaimer { IsNewAt R.geometry R.number (R.made crew.reclaimer) (R.is_new crew.reclaimer) g.now (g.now.cpus + 1) }
     requires cpu_acts { (c : C) → ¬ C.agrees c [] (Some turn.End) }
     requires migrator_acts { (m : M) → ¬ M.agrees m [] (Some turn.End) }
     requires reclaimer_acts { (r : R) → ¬ R.agrees r [] (Some turn.End) }
@@ -73,9 +72,11 @@ pub fn run_crew<C: Actor + Drop, M: Actor + Drop, R: Actor + Drop>(
     ensures migrator { IfOk result (λ run. M.made run.crew.migrator ≡ M.made crew.migrator) }
     ensures reclaimer { IfOk result (λ run. R.made run.crew.reclaimer ≡ R.made crew.reclaimer) }
     ensures run { IfOk result (λ run. IsCrewRun C.agrees (M.agrees run.crew.migrator) (R.agrees run.crew.reclaimer)
-        g.now schedule.now run.crew.cpus.items run.events.items run.order.items run.turns run.end.now) }
+        g.now schedule.now run.crew.cpus.items run.events.items run.order.items run.turns run.end) }
     ensures tally { IfOk result (λ run. run.tally ≡ tally_of (crew_tallies (map C.counted run.crew.cpus.items) (M.counted run.crew.migrator) (R.counted run.crew.reclaimer))) }
 {
+    // The limits of the geometry are those of an open one.
+    let _cpus = g.cpus;
     let run = run_schedule(alloc, g, schedule, crew)?;
     let mut end = EndWords::with_room(alloc, g)?;
     run.state.end_words(&mut end);

@@ -1,1 +1,4 @@
 pub mod Running
+pub mod Ending
+pub mod Acting
+pub mod Migrators

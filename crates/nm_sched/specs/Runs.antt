@@ -4,7 +4,6 @@ use Rattle.nm_flat.specs.Memory.{own_part_of}
 use Rattle.nm_action.specs.declared.tally.Tally.{Tally}
 use Rattle.nm_core.specs.State.{actor_count}
 use Rattle.nm_core.specs.Runs.{accesses_of}
-use Rattle.nm_script.specs.declared.script.Line.{Line}
 use Rattle.nm_script.specs.Plain.{Script}
 use Rattle.nm_report.specs.declared.line_result.LineResult.{LineResult}
 use Rattle.nm_report.specs.Plain.{Report}
@@ -14,13 +13,11 @@ use Rattle.nm_schedule.specs.declared.turn.Played.{Played}
 use Rattle.nm_schedule.specs.Played.{turns_by, has_ended}
 use Rattle.nm_crew.specs.Crewed.{tally_of, counts_of}
 use Rattle.nm_crew.specs.Simulated.{IsSimulated}
+pub use Rattle.nm_programs.specs.Cpus.{program_of}
 use Rattle.nm_sched.specs.Plain.{SimRun}
 use Rattle.nm_sched.specs.Parts.{IsCpuPart, IsMigratorPart, IsReclaimerPart}
 
--- the program of a processor, and what its lines gave
-abbrev pub program_of : Script → ℕ → List Line
-program_of script cpu = slice_index_or script.programs cpu []
-
+-- what the lines of a processor gave
 abbrev pub results_of : SimRun → ℕ → List LineResult
 results_of run cpu = slice_index_or run.results cpu []
 

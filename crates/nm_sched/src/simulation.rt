@@ -6,6 +6,11 @@ ghost use Rattle.nm_sched.specs.Runs.{IsRunOfScript};
 
 use nm_action::{Event, Tally};
 use nm_core::EndWords;
+use nm_crew::run_crew;
+use nm_kswap::ReclaimerActor;
+use nm_migrator::MigratorActor;
+use nm_play::Actors;
+use nm_programs::{cpus_of, results_of};
 use nm_report::LineResult;
 use nm_schedule::SimTurn;
 use nm_script::Script;
@@ -45,5 +50,23 @@ pub fn simulate(alloc: Global, script: &Script) -> Result<SimRun, AllocError>
     requires { IsScript script.now }
     ensures { IfOk result (IsRunOfScript script.now) }
 {
-    Err(AllocError)
+    let g = &script.geometry;
+    let cpus = cpus_of(alloc, script)?;
+    let migrator = MigratorActor::new(alloc, g, script.retry)?;
+    let reclaimer = ReclaimerActor::new(alloc, g)?;
+    let crew = Actors {
+        cpus,
+        migrator,
+        reclaimer,
+    };
+    let run = run_crew(alloc, g, &script.schedule, crew)?;
+    let results = results_of(alloc, run.crew.cpus)?;
+    Ok(SimRun {
+        events: run.events,
+        order: run.order,
+        results,
+        end: run.end,
+        tally: run.tally,
+        turns: run.turns,
+    })
 }

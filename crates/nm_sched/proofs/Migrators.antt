@@ -1,0 +1,42 @@
+-- The migrator of a script.
+use Rattle.std.proofs.Common.{◌≡◌, ◌∷◌, ℕ, zero, suc, Bool, [], Option, Some, sym, subst, ◌∙◌}
+use Rattle.nm_base.specs.Geometry.{Geometry}
+use Rattle.nm_action.specs.declared.tally.Tally.{Tally}
+use Rattle.nm_action.specs.declared.turn.Lane.{Lane}
+use Rattle.nm_action.specs.declared.turn.Lane.TheVariants.{Candidates}
+use Rattle.nm_action.specs.declared.turn.Turn.{Turn}
+use Rattle.nm_actor.specs.Turns.{Turns}
+use Rattle.nm_script.specs.Plain.{Script}
+use Rattle.nm_migrator.specs.Planned.{Kept}
+use Rattle.nm_migrator.specs.Migrating as migrating
+use Rattle.nm_migrator.specs.Migrating.{Sequence, TakesTry, IsMigrating}
+use Rattle.nm_migrator.specs.declared.actor.MigratorActor.{MigratorActor}
+use Rattle.nm_migrator.specs.Parts.{MigratorWorker, migrator_made, AgreesMigrator, IsMigratorPart}
+use Rattle.nm_crew.specs.Crewed.{IsAgreed}
+use Rattle.nm_sched.proofs.Acting.{front-none}
+use Rattle.nm_sched.proofs.Ending.{routine-agreed}
+
+-- ---- the migrator takes a candidate first
+
+takes-act : (g : Geometry) (lane : Lane) (after : Option ℕ → Sequence) (tries : ℕ) → ¬ TakesTry g lane after tries [] tt
+takes-act g lane after zero h = h
+takes-act g lane after (suc tries) h =
+    let take = front-none h.front h.back h.is in
+    let acts = sym take ∙ h.shown.is in
+    cc
+
+turns-act : (g : Geometry) (retry : Option ℕ) (rounds : ℕ) (kept : Kept) → ¬ migrating.Rounds g retry rounds Candidates kept [] tt
+turns-act g retry zero kept h = h
+turns-act g retry (suc rounds) kept h = takes-act g Candidates _ h.tries h.is
+
+pub migrating-acts : (g : Geometry) (retry : Option ℕ) → ¬ IsMigrating g retry [] tt
+migrating-acts g retry h = turns-act g retry h.tries _ h.is
+
+-- ---- its part
+
+pub migrator-agreed : (agrees : MigratorWorker → Turns → Option Turn → Type 0) (counted : MigratorWorker → Tally) (a : MigratorActor) (script : Script) (turns : Turns) (ended : Bool)
+    → migrator_made a ≡ record { 0 = script.geometry; 1 = script.retry } → IsAgreed (AgreesMigrator agrees counted a) turns ended
+    → IsMigratorPart script.geometry script.retry turns ended (counted a.worker)
+migrator-agreed agrees counted a script turns ended made h =
+    let Made : Geometry × Option ℕ → Type 0 = λ m. IsMigratorPart m.0 m.1 turns ended (counted a.worker) in
+    subst Made made (routine-agreed (AgreesMigrator agrees counted a) (λ turns ended. IsMigratorPart (migrator_made a).0 (migrator_made a).1 turns ended (counted a.worker)) turns ended (λ turns last k. k.part) h)
