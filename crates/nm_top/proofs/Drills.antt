@@ -1,7 +1,6 @@
 -- No line of a generated program is an await.
-use Rattle.std.proofs.Common.{◌≡◌, ℕ, ◌==◌, ◌+◌, ◌/◌, ◌%◌, ◌^◌, Bool, true, false, List, [], ◌∷◌, map, if◌then◌else◌, refl}
+use Rattle.std.proofs.Common.{ℕ, ◌==◌, ◌+◌, ◌/◌, ◌%◌, ◌^◌, Bool, true, false, List, [], ◌∷◌, map, if◌then◌else◌}
 use Rattle.std.specs.List.{AllByRecursion, filter, range_with_len}
-use Rattle.nm_script.specs.declared.script.Line.{Line}
 use Rattle.nm_script.specs.declared.script.Line.TheVariants.{Load, Store}
 use Rattle.nm_gen.specs.Generated.{generated, line_at, program_of, page_drawn, word_drawn, drawn}
 use Rattle.nm_report.specs.Summary.{HasNoAwait, IsNoAwait}

@@ -1,5 +1,5 @@
 -- From the form that was read to the words.
-use Rattle.std.proofs.Common.{◌≡◌, ◌≢◌, ℕ, List, ◌↔◌, String, Option, Some, None, sym, ap, ◌∙◌, inl, inr, arith}
+use Rattle.std.proofs.Common.{◌≡◌, ◌≢◌, ℕ, List, ◌↔◌, String, Option, Some, None, sym, ap, ◌∙◌, inl, inr}
 use Rattle.std.specs.declared.alloc.Global.{Global}
 use Rattle.std.proofs.lemmas.Option.{none-some}
 use Rattle.nm_command.specs.declared.form.Form.{Form}

@@ -1,5 +1,5 @@
 -- Why `import` answers what it answers.
-use Rattle.std.proofs.Common.{◌≡◌, ℕ, ◌≤◌, ◌⊎◌, inl, inr, List, length, Option, Some, None, IfSome, Result, Ok, Err, refl, sym, ap, subst, ◌∙◌, arith}
+use Rattle.std.proofs.Common.{◌≡◌, ℕ, ◌≤◌, ◌⊎◌, inl, inr, List, length, Option, Some, None, IfSome, Result, Ok, Err, refl, sym, ap, subst, arith}
 use Rattle.nm_io.specs.Count.{Rose}
 use Rattle.nm_io.specs.Whole.{SourceTells, SinkTells, ReadsWhole}
 use Rattle.nm_io.specs.declared.sources.TheConstants.{MOST_BYTES}
@@ -14,11 +14,11 @@ use Rattle.nm_trace.specs.Traces.{HasTrace, trace_text}
 use Rattle.nm_trace.specs.Imports.{IsImport, IsFirstTraceFault, IsTraceRefusal}
 use Rattle.nm_trace.specs.Laws.{HasOwnNumbers, IsReadAgain}
 use Rattle.nm_trace.specs.Replies.{GivesImport}
-use Rattle.nm_top.specs.Answer.{ImportAnswers, ImportCause, IsFaultOfWritten, IsImportCall, IsImported, IsOrMemory, IsStatusOfWritten, IsTraceReading, TextCause, TraceAnswers, TraceCause}
+use Rattle.nm_top.specs.Answer.{ImportAnswers, ImportCause, IsImportCall, IsImported, IsOrMemory, IsStatusOfWritten, IsTraceReading, TextCause, TraceAnswers, TraceCause}
 use Rattle.nm_top.specs.Status.{status_of_trace}
 use Rattle.nm_top.specs.declared.status.Status.{Status}
 use Rattle.nm_top.specs.declared.status.Status.TheVariants.{Done, Usage, Script, ReadFault, WriteFault, Memory, Trace}
-use Rattle.nm_top.proofs.Causes.{HasRead, along, answers_along, left_all, lost_all, text_complete, whole}
+use Rattle.nm_top.proofs.Causes.{HasRead, along, answers_along, left_all, lost_all, whole}
 
 -- ---- what importing says
 

@@ -1,7 +1,6 @@
 -- What is true of each run of a script.
-use Rattle.std.proofs.Common.{◌≡◌, ℕ, List, [], ◌++◌, refl, sym, ap, subst, ◌∙◌, append-nil}
+use Rattle.std.proofs.Common.{◌≡◌, ℕ, List, [], sym, ap, subst, ◌∙◌, append-nil}
 use Rattle.nm_action.specs.declared.action.Event.{Event}
-use Rattle.nm_core.specs.Runs.{state_after}
 use Rattle.nm_script.specs.Plain.{Script}
 use Rattle.nm_script.specs.Script.{IsScript}
 use Rattle.nm_gen.specs.Generated.{generated}
