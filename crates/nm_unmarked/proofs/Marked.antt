@@ -14,9 +14,11 @@ use Rattle.nm_event.specs.After.{after_of}
 use Rattle.nm_world.specs.Worlds.{World, moved, reply_in}
 use Rattle.nm_world.specs.Laws.{AreAll}
 use Rattle.nm_world.proofs.Choose.{choose}
-use Rattle.nm_unmarked.specs.Marks.{HasEvent}
-use Rattle.nm_unmarked.specs.Unmarking.{IsEndSeen, IsSwept, IsTakenBack}
-use Rattle.nm_unmarked.proofs.Owns.{has-left, has-last, has-new, within-or-last}
+use Rattle.nm_marks.specs.Contents.{HasEvent}
+use Rattle.nm_marks.specs.Marks.{IsTakenBack}
+use Rattle.nm_marks.proofs.Contents.{has-left}
+use Rattle.nm_unmarked.specs.Unmarking.{IsEndSeen, IsSwept}
+use Rattle.nm_unmarked.proofs.Owns.{has-last, has-new, within-or-last}
 use Rattle.nm_unmarked.proofs.Steps.{mark_at, IsMade, mark-step, mark-made, mark-told, mark-allowed, acked-step, polled-on, seen-end}
 
 -- a processor acknowledged its end

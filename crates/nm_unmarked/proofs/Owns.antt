@@ -6,7 +6,7 @@ use Rattle.nm_action.specs.declared.action.Action.{Action}
 use Rattle.nm_action.specs.declared.action.Event.{Event}
 use Rattle.nm_action.specs.declared.action.Reply.{Reply}
 use Rattle.nm_action.specs.Own.{Own, own_of}
-use Rattle.nm_unmarked.specs.Marks.{HasEvent}
+use Rattle.nm_marks.specs.Contents.{HasEvent}
 
 -- ---- own lists in a list of events
 
@@ -40,11 +40,6 @@ own-other actor before e away =
     own-append actor before (e ∷ []) ∙ ap (λ (l : Own). own_of actor before ++ l) (none-if (e.actor == actor) (e.action, e.reply) [] (ne_eqb e.actor actor away)) ∙ append-nil (own_of actor before)
 
 -- ---- events of a list
-
-pub has-left : (P : Action → Reply → Type 0) (xs ys : Own) → HasEvent P xs → HasEvent P (xs ++ ys)
-has-left P [] ys h = absurd h
-has-left P (x ∷ xs) ys (inl here) = inl here
-has-left P (x ∷ xs) ys (inr there) = inr (has-left P xs ys there)
 
 -- an event of a list with one more is of the list, or that one
 pub has-last : (P : Action → Reply → Type 0) (xs : Own) (e : Action × Reply) → HasEvent P (xs ++ e ∷ []) → HasEvent P xs ⊎ P e.0 e.1
