@@ -26,6 +26,10 @@ only-follows P first after now then own outcome h =
     let O : Own → Type 0 = λ l. HasOnly P l in
     subst O (sym h.is) (only-both P h.front h.back (now h.front h.end h.shown) (then h.end h.back outcome h.rest))
 
+-- one action, and what follows by its reply
+pub only-then : {O : Type 0} (P : Action → Type 0) (action : Action) (g : Geometry) (after : Reply → Own → O → Type 0) → P action → ((reply : Reply) → ListsOnly P (after reply)) → ListsOnly P (Follows (IsAct action g) after)
+only-then P action g after so then = only-follows P (IsAct action g) after (only-act P action g so) then
+
 pub only-either : {O : Type 0} (P : Action → Type 0) (b : Bool) (held other : Own → O → Type 0) → ListsOnly P held → ListsOnly P other → ListsOnly P (Either b held other)
 only-either P true held other yes no = yes
 only-either P false held other yes no = no
