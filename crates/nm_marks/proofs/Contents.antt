@@ -1,6 +1,5 @@
 -- What holds of the events of lists one after the other.
-use Rattle.std.proofs.Common.{◌≡◌, ◌⊎◌, ℕ, [], ◌∷◌, ◌++◌, All, inl, inr}
-use Rattle.std.proofs.lemmas.List.Elements.{All-append}
+use Rattle.std.proofs.Common.{◌≡◌, ◌⊎◌, ℕ, [], ◌∷◌, ◌++◌, inl, inr}
 use Rattle.nm_action.specs.declared.action.Action.{Action}
 use Rattle.nm_action.specs.declared.action.Action.TheVariants as actions
 use Rattle.nm_action.specs.declared.action.Reply.{Reply}
@@ -9,7 +8,8 @@ use Rattle.nm_marks.specs.Contents.{HasOnly, HasEvent}
 use Rattle.nm_marks.specs.Marks.{IsMarkOf, HasOnlyMarks}
 
 pub only-both : (P : Action → Type 0) (xs ys : Own) → HasOnly P xs → HasOnly P ys → HasOnly P (xs ++ ys)
-only-both P xs ys = All-append (λ e. P e.0) xs ys
+only-both P [] ys first then = then
+only-both P (x ∷ xs) ys first then = (first.0, only-both P xs ys first.1 then)
 
 pub only-more : (P Q : Action → Type 0) → ((action : Action) → P action → Q action) → (own : Own) → HasOnly P own → HasOnly Q own
 only-more P Q weaker [] h = tt

@@ -1,5 +1,5 @@
 -- Patterns whose lists have only such actions, or have such an event, from those that they are joined of.
-use Rattle.std.proofs.Common.{◌≡◌, ℕ, Bool, true, false, List, [], ◌∷◌, ◌++◌, All, sym, subst, inl, inr}
+use Rattle.std.proofs.Common.{◌≡◌, ℕ, Bool, true, false, List, [], ◌∷◌, ◌++◌, sym, subst, inl, inr}
 use Rattle.nm_base.specs.Geometry.{Geometry}
 use Rattle.nm_action.specs.declared.action.Action.{Action}
 use Rattle.nm_action.specs.declared.action.Reply.{Reply}
@@ -31,8 +31,8 @@ pub only-then : {O : Type 0} (P : Action → Type 0) (action : Action) (g : Geom
 only-then P action g after so then = only-follows P (IsAct action g) after (only-act P action g so) then
 
 pub only-either : {O : Type 0} (P : Action → Type 0) (b : Bool) (held other : Own → O → Type 0) → ListsOnly P held → ListsOnly P other → ListsOnly P (Either b held other)
-only-either P true held other yes no = yes
-only-either P false held other yes no = no
+only-either P true held other so then = so
+only-either P false held other so then = then
 
 pub only-each : {A S O : Type 0} (P : Action → Type 0) (body : A → S → (S → Own → O → Type 0) → Own → O → Type 0) (items : List A) (after : S → Own → O → Type 0)
     → ((item : A) (kept : S) (next : S → Own → O → Type 0) → ((kept : S) → ListsOnly P (next kept)) → ListsOnly P (body item kept next))
@@ -74,5 +74,5 @@ pub has-none : {O : Type 0} (P : Action → Reply → Type 0) (may : O → Type 
 has-none P may end not own outcome h here = absurd (not (subst may h.is here))
 
 pub has-either : {O : Type 0} (P : Action → Reply → Type 0) (may : O → Type 0) (b : Bool) (held other : Own → O → Type 0) → ListsHave P may held → ListsHave P may other → ListsHave P may (Either b held other)
-has-either P may true held other yes no = yes
-has-either P may false held other yes no = no
+has-either P may true held other so then = so
+has-either P may false held other so then = then

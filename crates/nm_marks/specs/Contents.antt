@@ -1,12 +1,13 @@
 -- What holds of the events of an own list.
-use Rattle.std.specs.Prelude.{◌⊎◌, [], ◌∷◌, All}
+use Rattle.std.specs.Prelude.{◌⊎◌, [], ◌∷◌}
 use Rattle.nm_action.specs.declared.action.Action.{Action}
 use Rattle.nm_action.specs.declared.action.Reply.{Reply}
 use Rattle.nm_action.specs.Own.{Own}
 
 -- each action of a list is so
 abbrev pub HasOnly : (Action → Type 0) → Own → Type 0
-HasOnly is own = All (λ e. is e.0) own
+HasOnly is [] = Unit {0}
+HasOnly is (e ∷ own) = is e.0 × HasOnly is own
 
 -- some event of a list is so
 abbrev pub HasEvent : (Action → Reply → Type 0) → Own → Type 0

@@ -1,5 +1,5 @@
 -- That no mark is left at the end of a run whose actors take their marks back.
-use Rattle.std.proofs.Common.{◌≡◌, ◌≢◌, ℕ, zero, suc, ◌+◌, ◌<◌, ◌≤◌, ◌⊎◌, List, [], ◌∷◌, ◌++◌, All, refl, sym, ap, subst, inl, inr, ◌∙◌, arith, append_assoc}
+use Rattle.std.proofs.Common.{◌≡◌, ◌≢◌, ℕ, zero, suc, ◌+◌, ◌<◌, ◌≤◌, ◌⊎◌, List, [], ◌∷◌, ◌++◌, refl, sym, ap, subst, inl, inr, ◌∙◌, arith, append_assoc}
 use Rattle.std.proofs.lemmas.Bool.{cases_eq, cases_lt}
 use Rattle.std.proofs.lemmas.List.{append-nil, get_or-replicate}
 use Rattle.nm_base.specs.Geometry.{Geometry, IsGeometry}
@@ -28,7 +28,7 @@ use Rattle.nm_settled.specs.Ended.{HasNoMark}
 use Rattle.nm_marks.specs.Contents.{HasEvent}
 use Rattle.nm_marks.specs.Marks.{IsMarkOf, HasOnlyMarks, IsNoMark, IsCandidateMark, IsMigratorMark}
 use Rattle.nm_unmarked.specs.Unmarking.{EndsLast, TakeMarksBack}
-use Rattle.nm_unmarked.proofs.Owns.{own-at, own-same, own-other, has-at, all-middle, no-middle}
+use Rattle.nm_unmarked.proofs.Owns.{own-at, own-same, own-other, has-at, only-middle, no-middle}
 use Rattle.nm_unmarked.proofs.Steps.{mark_at}
 use Rattle.nm_unmarked.proofs.Marked.{IsEndAck, AreMarked, IsOwnStep, marked-step}
 
@@ -60,7 +60,7 @@ mark-in : (may : ℕ → ℕ → Type 0) (actor : ℕ) (before rest : List Event
 mark-in may actor before rest e b old new same is marks =
     let M : Own → Type 0 = λ l. HasOnlyMarks may l in
     let A : Action → Type 0 = λ a. IsMarkOf may a in
-    subst A is (all-middle (λ p. IsMarkOf may p.0) (own_of actor before) (e.action, e.reply) (own_of actor rest) (subst M (own-at actor before rest e same) marks))
+    subst A is (only-middle (IsMarkOf may) (own_of actor before) (e.action, e.reply) (own_of actor rest) (subst M (own-at actor before rest e same) marks))
 
 no-candidate : (g : Geometry) (before rest : List Event) (e : Event) → IsActor g e.actor → TakeMarksBack g (before ++ e ∷ rest) → g.cpus ≤ e.actor → (b : ℕ) → ¬ (e.action ≡ Mark b 0 1)
 no-candidate g before rest e there back past b is = elim (actors g e.actor there past) [

@@ -1,12 +1,12 @@
 -- Own lists with one event more.
-use Rattle.std.proofs.Common.{◌≡◌, ◌≢◌, ℕ, ◌==◌, if◌then◌else◌, Bool, true, false, List, [], ◌∷◌, ◌++◌, All, refl, sym, ap, subst, inl, inr, ◌⊎◌, ◌∙◌}
+use Rattle.std.proofs.Common.{◌≡◌, ◌≢◌, ℕ, ◌==◌, if◌then◌else◌, Bool, true, false, List, [], ◌∷◌, ◌++◌, refl, sym, ap, subst, inl, inr, ◌⊎◌, ◌∙◌}
 use Rattle.std.proofs.lemmas.Bool.{eq-eqb, ne_eqb}
 use Rattle.std.proofs.lemmas.List.{append-nil}
 use Rattle.nm_action.specs.declared.action.Action.{Action}
 use Rattle.nm_action.specs.declared.action.Event.{Event}
 use Rattle.nm_action.specs.declared.action.Reply.{Reply}
 use Rattle.nm_action.specs.Own.{Own, own_of}
-use Rattle.nm_marks.specs.Contents.{HasEvent}
+use Rattle.nm_marks.specs.Contents.{HasOnly, HasEvent}
 
 -- ---- own lists in a list of events
 
@@ -70,10 +70,10 @@ has-at P (x ∷ own) (inr there) =
     let h = has-at P own there in
     record { front = x ∷ h.front; event = h.event; rest = h.rest; is = ap (λ (l : Own). x ∷ l) h.is; holds = h.holds }
 
--- what holds of each event of a list holds of one in its middle
-pub all-middle : (P : Action × Reply → Type 0) (front : Own) (e : Action × Reply) (rest : Own) → All P (front ++ e ∷ rest) → P e
-all-middle P [] e rest h = h.0
-all-middle P (x ∷ front) e rest h = all-middle P front e rest h.1
+-- what holds of each action of a list holds of one in its middle
+pub only-middle : (P : Action → Type 0) (front : Own) (e : Action × Reply) (rest : Own) → HasOnly P (front ++ e ∷ rest) → P e.0
+only-middle P [] e rest h = h.0
+only-middle P (x ∷ front) e rest h = only-middle P front e rest h.1
 
 -- an event of a list with one more stands in the list, or is that one
 pub record IsWithin (own front : Own) (x : Action × Reply) : Type 0 where
