@@ -131,7 +131,7 @@ deciding-back made g = has-either (IsTakenBack made.page) IsCommitted (is_dirty 
 -- ---- transactions
 
 -- a decision in a transaction that is over was to commit
-over-committed : (end : Decided) → IsTxnOver (decided_end end) → IsCommitted end
+pub over-committed : (end : Decided) → IsTxnOver (decided_end end) → IsCommitted end
 over-committed decided.Committed over = tt
 over-committed (decided.Aborted word) over = over
 

@@ -3,3 +3,4 @@ pub mod Moves
 pub mod Keeping
 pub mod Faults
 pub mod Back
+pub mod BatchBack

@@ -19,7 +19,7 @@ ghost use Rattle.nm_shadow_fault.specs.declared.fault.FaultEnd.{FaultEnd};
 ghost use Rattle.nm_fault.specs.Tasks.{FaultBegun, IsFault};
 ghost use Rattle.nm_marks.specs.Contents.{HasEvent};
 ghost use Rattle.nm_marks.specs.Marks.{HasOnlyMarks, IsNoMark, IsPendingMark, IsCandidateMark, IsTakenBack};
-ghost use Rattle.nm_part_marks.specs.Ends.{IsTxnOver, IsMoveOver};
+ghost use Rattle.nm_part_marks.specs.Ends.{IsTxnOver, ArePiecesBack, IsMoveOver};
 
 /// Transactions, batches of them and locked moves make no Mark but from pending to none; a candidate that is cooled is made no
 /// candidate; demotions and faults make no Mark.
@@ -32,10 +32,12 @@ pub fn parts_make_these_marks()
     ensures fault { (begun : FaultBegun) (g : Geometry) (own : Own) (end : FaultEnd) → IsFault begun g own end → HasOnlyMarks IsNoMark own }
 {}
 
-/// A transaction or a locked move that is over, neither aborted nor refused by a lock, took its page from pending to none.
+/// A transaction, alone or in a batch, or a locked move that is over, neither aborted nor refused by a lock, took its page from pending to none.
 pub fn parts_take_marks_back()
     ensures transaction { (made : PrepareMade) (g : Geometry) (own : Own) (end : TxnEnd) → IsTxn made g own end → IsTxnOver end
         → HasEvent (IsTakenBack made.page) own }
+    ensures batch { (made : BatchMade) (g : Geometry) (own : Own) (ends : List TxnEnd) → IsBatch made g own ends
+        → ArePiecesBack made.pieces ends own }
     ensures locked { (made : ChooseMade) (g : Geometry) (own : Own) (end : LockedEnd) → IsLockedInMove made g own end → IsMoveOver end
         → HasEvent (IsTakenBack made.page) own }
 {}

@@ -159,4 +159,4 @@ unmarked-run g events is run back page there =
     sym (seen_word-place s.geometry s.words (words.Mark page) there)
     ∙ none-of (mark_at (world_of s) page) (marked.few page)
     (λ one. marked.candidate page one (back.migrator.swept page page_there))
-    (λ two. let p = marked.pending page two in p.open (back.migrator.back page page_there p.front p.rest p.is))
+    (λ two. let p = marked.pending page two in p.left (back.migrator.back page page_there p.front p.rest p.is))

@@ -83,7 +83,7 @@ pub record IsWithin (own front : Own) (x : Action × Reply) : Type 0 where
 pub head-of : {A : Type 0} (x y : A) (xs ys : List A) → x ∷ xs ≡ y ∷ ys → (x ≡ y) × (xs ≡ ys)
 head-of x y xs ys is = (cc, cc)
 
-no-middle : (front : Own) (x : Action × Reply) (rest : Own) → ¬ ([] ≡ front ++ x ∷ rest)
+pub no-middle : (front : Own) (x : Action × Reply) (rest : Own) → ¬ ([] ≡ front ++ x ∷ rest)
 no-middle [] x rest is = cc
 no-middle (y ∷ front) x rest is = cc
 
