@@ -2,6 +2,7 @@
 use Rattle.std.proofs.Common.{◌≡◌, ℕ, ◌+◌, ◌-◌, ◌==◌, nat_lt, List, [], ◌∷◌, None}
 use Rattle.nm_base.specs.Geometry.{Geometry}
 use Rattle.nm_base.specs.ShadowWord.{shadow_frame}
+use Rattle.nm_action.specs.declared.action.AckTo.{AckTo}
 use Rattle.nm_action.specs.declared.action.Action.TheVariants.{Lock, Unlock, Read, SetShadow}
 use Rattle.nm_action.specs.declared.action.Cell.TheVariants as cells
 use Rattle.nm_action.specs.declared.action.Reply.{Reply}
@@ -35,109 +36,109 @@ use Rattle.nm_demote.specs.declared.demote.DemoteEnd.TheVariants as demoted
 use Rattle.nm_demote.specs.Selecting.{UnlocksEarly, AfterObtain, obtain_for, SeeksFrame, SelectsHome, AfterLooksToDemote, LooksToDemote, ReadsShadowToDemote, has_slower, AfterHomeToDemote, ReadsHomeToDemote, AfterLockToDemote, IsSelecting}
 use Rattle.nm_demote.specs.Demotions.{demoted_end, GivesBackDemoted, UnlocksDemoted, demote_transfer, MovesDown, demote_early_end, AfterSelecting, IsDemotion}
 use Rattle.nm_marks.specs.Contents.{ListsOnly}
-use Rattle.nm_marks.specs.Marks.{IsMarkOf}
 use Rattle.nm_marks.proofs.Patterns.{only-ends, only-follows, only-then, only-either, only-each}
-use Rattle.nm_part_marks.proofs.Leaves.{pool-marks, visits-marks, transfer-marks}
+use Rattle.nm_part_marks.specs.Actions.{IsActionOf}
+use Rattle.nm_part_marks.proofs.Leaves.{pool-actions, visits-actions, transfer-actions}
 
 -- ---- reclaims
 
 -- what comes after a page in a sweep makes no Mark
-abbrev RestOnly : (ℕ → ℕ → Type 0) → (ℕ → Own → ℕ → Type 0) → Type 0
-RestOnly may after = (freed : ℕ) → ListsOnly (IsMarkOf may) (after freed)
+abbrev RestOnly : (ℕ → ℕ → Type 0) → (AckTo → Type 0) → (ℕ → Own → ℕ → Type 0) → Type 0
+RestOnly may ack after = (freed : ℕ) → ListsOnly (IsActionOf may ack) (after freed)
 
-leaves-marks : (may : ℕ → ℕ → Type 0) (g : Geometry) (page freed : ℕ) (after : ℕ → Own → ℕ → Type 0) → RestOnly may after → ListsOnly (IsMarkOf may) (LeavesPage g page freed after)
-leaves-marks may g page freed after rest = only-then (IsMarkOf may) (Unlock page) g (λ unlocked. after freed) tt (λ unlocked. rest freed)
+leaves-actions : (may : ℕ → ℕ → Type 0) (ack : AckTo → Type 0) (g : Geometry) (page freed : ℕ) (after : ℕ → Own → ℕ → Type 0) → RestOnly may ack after → ListsOnly (IsActionOf may ack) (LeavesPage g page freed after)
+leaves-actions may ack g page freed after rest = only-then (IsActionOf may ack) (Unlock page) g (λ unlocked. after freed) tt (λ unlocked. rest freed)
 
-discard-marks : (may : ℕ → ℕ → Type 0) (g : Geometry) (page master shadow freed : ℕ) (after : ℕ → Own → ℕ → Type 0) → RestOnly may after → ListsOnly (IsMarkOf may) (DiscardsShadow g page master shadow freed after)
-discard-marks may g page master shadow freed after rest =
-    let M = IsMarkOf may in
+discard-actions : (may : ℕ → ℕ → Type 0) (ack : AckTo → Type 0) (g : Geometry) (page master shadow freed : ℕ) (after : ℕ → Own → ℕ → Type 0) → RestOnly may ack after → ListsOnly (IsActionOf may ack) (DiscardsShadow g page master shadow freed after)
+discard-actions may ack g page master shadow freed after rest =
+    let M = IsActionOf may ack in
     only-then M (SetShadow page master None) g (λ set. Follows (IsAct (Unlock page) g) (λ unlocked. PutsBack g shadow freed after)) tt (λ set.
     only-then M (Unlock page) g (λ unlocked. PutsBack g shadow freed after) tt (λ unlocked.
-    only-follows M (IsPool g (Back shadow)) (λ end. after (freed + 1)) (pool-marks may g (Back shadow)) (λ end. rest (freed + 1))))
+    only-follows M (IsPool g (Back shadow)) (λ end. after (freed + 1)) (pool-actions may ack g (Back shadow)) (λ end. rest (freed + 1))))
 
-visit-home-marks : (may : ℕ → ℕ → Type 0) (g : Geometry) (made : ReclaimMade) (page word freed : ℕ) (after : ℕ → Own → ℕ → Type 0) → RestOnly may after → ListsOnly (IsMarkOf may) (VisitAfterHome g made page word freed after)
-visit-home-marks may g made page word freed after rest =
-    let M = IsMarkOf may in
+visit-home-actions : (may : ℕ → ℕ → Type 0) (ack : AckTo → Type 0) (g : Geometry) (made : ReclaimMade) (page word freed : ℕ) (after : ℕ → Own → ℕ → Type 0) → RestOnly may ack after → ListsOnly (IsActionOf may ack) (VisitAfterHome g made page word freed after)
+visit-home-actions may ack g made page word freed after rest =
+    let M = IsActionOf may ack in
     only-either M (word == 0) (LeavesPage g page freed after) (Follows (IsAct (Read page (cells.Shadow (word - 1))) g) (λ reply. VisitAfterShadow g made page (word - 1) (word_in reply) freed after))
-    (leaves-marks may g page freed after rest)
+    (leaves-actions may ack g page freed after rest)
     (only-then M (Read page (cells.Shadow (word - 1))) g (λ reply. VisitAfterShadow g made page (word - 1) (word_in reply) freed after) tt (λ reply.
     only-either M (is_shadow_in g made.tier (word_in reply)) (DiscardsShadow g page (word - 1) (shadow_frame (word_in reply)) freed after) (LeavesPage g page freed after)
-    (discard-marks may g page (word - 1) (shadow_frame (word_in reply)) freed after rest) (leaves-marks may g page freed after rest)))
+    (discard-actions may ack g page (word - 1) (shadow_frame (word_in reply)) freed after rest) (leaves-actions may ack g page freed after rest)))
 
-visit-lock-marks : (may : ℕ → ℕ → Type 0) (g : Geometry) (made : ReclaimMade) (page : ℕ) (reply : Reply) (freed : ℕ) (after : ℕ → Own → ℕ → Type 0) → RestOnly may after → ListsOnly (IsMarkOf may) (VisitAfterLock g made page reply freed after)
-visit-lock-marks may g made page Done freed after rest =
-    only-then (IsMarkOf may) (Read page (cells.Home page)) g (λ reply. VisitAfterHome g made page (word_in reply) freed after) tt (λ reply. visit-home-marks may g made page (word_in reply) freed after rest)
-visit-lock-marks may g made page (Word n) freed after rest = rest freed
-visit-lock-marks may g made page (Busy n) freed after rest = rest freed
-visit-lock-marks may g made page (Lost n) freed after rest = rest freed
+visit-lock-actions : (may : ℕ → ℕ → Type 0) (ack : AckTo → Type 0) (g : Geometry) (made : ReclaimMade) (page : ℕ) (reply : Reply) (freed : ℕ) (after : ℕ → Own → ℕ → Type 0) → RestOnly may ack after → ListsOnly (IsActionOf may ack) (VisitAfterLock g made page reply freed after)
+visit-lock-actions may ack g made page Done freed after rest =
+    only-then (IsActionOf may ack) (Read page (cells.Home page)) g (λ reply. VisitAfterHome g made page (word_in reply) freed after) tt (λ reply. visit-home-actions may ack g made page (word_in reply) freed after rest)
+visit-lock-actions may ack g made page (Word n) freed after rest = rest freed
+visit-lock-actions may ack g made page (Busy n) freed after rest = rest freed
+visit-lock-actions may ack g made page (Lost n) freed after rest = rest freed
 
-pub reclaim-marks : (may : ℕ → ℕ → Type 0) (g : Geometry) (made : ReclaimMade) → ListsOnly (IsMarkOf may) (IsReclaim g made)
-reclaim-marks may g made =
-    only-each (IsMarkOf may) (Visits g made) (pages_visited g made) (λ all. Ends all)
-    (λ page freed next rest. only-either (IsMarkOf may) (nat_lt freed (most_freed made)) (Follows (IsAct (Lock page) g) (λ reply. VisitAfterLock g made page reply freed next)) (next freed)
-      (only-then (IsMarkOf may) (Lock page) g (λ reply. VisitAfterLock g made page reply freed next) tt (λ reply. visit-lock-marks may g made page reply freed next rest)) (rest freed))
-    (λ all. only-ends (IsMarkOf may) all) 0
+pub reclaim-actions : (may : ℕ → ℕ → Type 0) (ack : AckTo → Type 0) (g : Geometry) (made : ReclaimMade) → ListsOnly (IsActionOf may ack) (IsReclaim g made)
+reclaim-actions may ack g made =
+    only-each (IsActionOf may ack) (Visits g made) (pages_visited g made) (λ all. Ends all)
+    (λ page freed next rest. only-either (IsActionOf may ack) (nat_lt freed (most_freed made)) (Follows (IsAct (Lock page) g) (λ reply. VisitAfterLock g made page reply freed next)) (next freed)
+      (only-then (IsActionOf may ack) (Lock page) g (λ reply. VisitAfterLock g made page reply freed next) tt (λ reply. visit-lock-actions may ack g made page reply freed next rest)) (rest freed))
+    (λ all. only-ends (IsActionOf may ack) all) 0
 
 -- ---- frames that are sought
 
-second-marks : (may : ℕ → ℕ → Type 0) (end : PoolEnd) → ListsOnly (IsMarkOf may) (AfterSecondTry end)
-second-marks may (pools.Got frame) = only-ends (IsMarkOf may) (Got frame)
-second-marks may (pools.AtFloor n) = only-ends (IsMarkOf may) (AtFloor n)
-second-marks may (pools.Level n) = λ own outcome h. absurd h
-second-marks may pools.Back = λ own outcome h. absurd h
+second-actions : (may : ℕ → ℕ → Type 0) (ack : AckTo → Type 0) (end : PoolEnd) → ListsOnly (IsActionOf may ack) (AfterSecondTry end)
+second-actions may ack (pools.Got frame) = only-ends (IsActionOf may ack) (Got frame)
+second-actions may ack (pools.AtFloor n) = only-ends (IsActionOf may ack) (AtFloor n)
+second-actions may ack (pools.Level n) = λ own outcome h. absurd h
+second-actions may ack pools.Back = λ own outcome h. absurd h
 
-first-marks : (may : ℕ → ℕ → Type 0) (g : Geometry) (made : ObtainMade) (end : PoolEnd) → ListsOnly (IsMarkOf may) (AfterFirstTry g made end)
-first-marks may g made (pools.Got frame) = only-ends (IsMarkOf may) (Got frame)
-first-marks may g made (pools.AtFloor n) =
-    only-follows (IsMarkOf may) (IsReclaim g (reclaim_for made)) (λ freed. TriesAgain g made) (reclaim-marks may g (reclaim_for made))
-    (λ freed. only-follows (IsMarkOf may) (IsPool g (Take made.tier 0)) AfterSecondTry (pool-marks may g (Take made.tier 0)) (second-marks may))
-first-marks may g made (pools.Level n) = λ own outcome h. absurd h
-first-marks may g made pools.Back = λ own outcome h. absurd h
+first-actions : (may : ℕ → ℕ → Type 0) (ack : AckTo → Type 0) (g : Geometry) (made : ObtainMade) (end : PoolEnd) → ListsOnly (IsActionOf may ack) (AfterFirstTry g made end)
+first-actions may ack g made (pools.Got frame) = only-ends (IsActionOf may ack) (Got frame)
+first-actions may ack g made (pools.AtFloor n) =
+    only-follows (IsActionOf may ack) (IsReclaim g (reclaim_for made)) (λ freed. TriesAgain g made) (reclaim-actions may ack g (reclaim_for made))
+    (λ freed. only-follows (IsActionOf may ack) (IsPool g (Take made.tier 0)) AfterSecondTry (pool-actions may ack g (Take made.tier 0)) (second-actions may ack))
+first-actions may ack g made (pools.Level n) = λ own outcome h. absurd h
+first-actions may ack g made pools.Back = λ own outcome h. absurd h
 
-pub obtain-marks : (may : ℕ → ℕ → Type 0) (made : ObtainMade) (g : Geometry) → ListsOnly (IsMarkOf may) (IsObtain made g)
-obtain-marks may made g = only-follows (IsMarkOf may) (IsPool g (Take made.tier 0)) (AfterFirstTry g made) (pool-marks may g (Take made.tier 0)) (first-marks may g made)
+pub obtain-actions : (may : ℕ → ℕ → Type 0) (ack : AckTo → Type 0) (made : ObtainMade) (g : Geometry) → ListsOnly (IsActionOf may ack) (IsObtain made g)
+obtain-actions may ack made g = only-follows (IsActionOf may ack) (IsPool g (Take made.tier 0)) (AfterFirstTry g made) (pool-actions may ack g (Take made.tier 0)) (first-actions may ack g made)
 
 -- ---- demotions
 
-unlocks-marks : (may : ℕ → ℕ → Type 0) (g : Geometry) (made : DemoteMade) (why : Early) → ListsOnly (IsMarkOf may) (UnlocksEarly g made why)
-unlocks-marks may g made why = only-then (IsMarkOf may) (Unlock made.page) g (λ unlocked. Ends (selected.Closed why)) tt (λ unlocked. only-ends (IsMarkOf may) (selected.Closed why))
+unlocks-actions : (may : ℕ → ℕ → Type 0) (ack : AckTo → Type 0) (g : Geometry) (made : DemoteMade) (why : Early) → ListsOnly (IsActionOf may ack) (UnlocksEarly g made why)
+unlocks-actions may ack g made why = only-then (IsActionOf may ack) (Unlock made.page) g (λ unlocked. Ends (selected.Closed why)) tt (λ unlocked. only-ends (IsActionOf may ack) (selected.Closed why))
 
-obtained-marks : (may : ℕ → ℕ → Type 0) (g : Geometry) (made : DemoteMade) (home : ℕ) (pages : List ℕ) (end : Obtained) → ListsOnly (IsMarkOf may) (AfterObtain g made home pages end)
-obtained-marks may g made home pages (Got frame) = only-ends (IsMarkOf may) (selected.Ready home frame sources.Copy pages)
-obtained-marks may g made home pages (AtFloor n) = unlocks-marks may g made (early.NoFrame n)
+obtained-actions : (may : ℕ → ℕ → Type 0) (ack : AckTo → Type 0) (g : Geometry) (made : DemoteMade) (home : ℕ) (pages : List ℕ) (end : Obtained) → ListsOnly (IsActionOf may ack) (AfterObtain g made home pages end)
+obtained-actions may ack g made home pages (Got frame) = only-ends (IsActionOf may ack) (selected.Ready home frame sources.Copy pages)
+obtained-actions may ack g made home pages (AtFloor n) = unlocks-actions may ack g made (early.NoFrame n)
 
-selects-marks : (may : ℕ → ℕ → Type 0) (g : Geometry) (made : DemoteMade) (home shadow : ℕ) (pages : List ℕ) → ListsOnly (IsMarkOf may) (AfterLooksToDemote g made home shadow pages)
-selects-marks may g made home shadow [] = unlocks-marks may g made early.Gone
-selects-marks may g made home shadow (v ∷ vs) =
-    only-either (IsMarkOf may) (shadow == 0) (SeeksFrame g made home (v ∷ vs)) (Ends (selected.Ready home (shadow_frame shadow) sources.Shadow (v ∷ vs)))
-    (only-follows (IsMarkOf may) (IsObtain (obtain_for g made home) g) (AfterObtain g made home (v ∷ vs)) (obtain-marks may (obtain_for g made home) g) (obtained-marks may g made home (v ∷ vs)))
-    (only-ends (IsMarkOf may) (selected.Ready home (shadow_frame shadow) sources.Shadow (v ∷ vs)))
+selects-actions : (may : ℕ → ℕ → Type 0) (ack : AckTo → Type 0) (g : Geometry) (made : DemoteMade) (home shadow : ℕ) (pages : List ℕ) → ListsOnly (IsActionOf may ack) (AfterLooksToDemote g made home shadow pages)
+selects-actions may ack g made home shadow [] = unlocks-actions may ack g made early.Gone
+selects-actions may ack g made home shadow (v ∷ vs) =
+    only-either (IsActionOf may ack) (shadow == 0) (SeeksFrame g made home (v ∷ vs)) (Ends (selected.Ready home (shadow_frame shadow) sources.Shadow (v ∷ vs)))
+    (only-follows (IsActionOf may ack) (IsObtain (obtain_for g made home) g) (AfterObtain g made home (v ∷ vs)) (obtain-actions may ack (obtain_for g made home) g) (obtained-actions may ack g made home (v ∷ vs)))
+    (only-ends (IsActionOf may ack) (selected.Ready home (shadow_frame shadow) sources.Shadow (v ∷ vs)))
 
-demote-home-marks : (may : ℕ → ℕ → Type 0) (g : Geometry) (made : DemoteMade) (word : ℕ) → ListsOnly (IsMarkOf may) (AfterHomeToDemote g made word)
-demote-home-marks may g made word =
-    let M = IsMarkOf may in
+demote-home-actions : (may : ℕ → ℕ → Type 0) (ack : AckTo → Type 0) (g : Geometry) (made : DemoteMade) (word : ℕ) → ListsOnly (IsActionOf may ack) (AfterHomeToDemote g made word)
+demote-home-actions may ack g made word =
+    let M = IsActionOf may ack in
     only-either M (has_slower g word) (ReadsShadowToDemote g made (word - 1)) (UnlocksEarly g made early.Gone)
     (only-then M (Read made.page (cells.Shadow (word - 1))) g (λ reply. LooksToDemote g made (word - 1) (told reply)) tt (λ reply.
-    only-follows M (IsVisits (looks_made made.page (vpages_of g made.page)) g) (AfterLooksToDemote g made (word - 1) (told reply)) (visits-marks may (looks_made made.page (vpages_of g made.page)) g) (selects-marks may g made (word - 1) (told reply))))
-    (unlocks-marks may g made early.Gone)
+    only-follows M (IsVisits (looks_made made.page (vpages_of g made.page)) g) (AfterLooksToDemote g made (word - 1) (told reply)) (visits-actions may ack (looks_made made.page (vpages_of g made.page)) g) (selects-actions may ack g made (word - 1) (told reply))))
+    (unlocks-actions may ack g made early.Gone)
 
-demote-lock-marks : (may : ℕ → ℕ → Type 0) (g : Geometry) (made : DemoteMade) (reply : Reply) → ListsOnly (IsMarkOf may) (AfterLockToDemote g made reply)
-demote-lock-marks may g made Done =
-    only-either (IsMarkOf may) (is_worn made.spent) (UnlocksEarly g made early.Worn) (ReadsHomeToDemote g made) (unlocks-marks may g made early.Worn)
-    (only-then (IsMarkOf may) (Read made.page (cells.Home made.page)) g (λ reply. AfterHomeToDemote g made (told reply)) tt (λ reply. demote-home-marks may g made (told reply)))
-demote-lock-marks may g made (Word n) = only-ends (IsMarkOf may) selected.Busy
-demote-lock-marks may g made (Busy n) = only-ends (IsMarkOf may) selected.Busy
-demote-lock-marks may g made (Lost n) = only-ends (IsMarkOf may) selected.Busy
+demote-lock-actions : (may : ℕ → ℕ → Type 0) (ack : AckTo → Type 0) (g : Geometry) (made : DemoteMade) (reply : Reply) → ListsOnly (IsActionOf may ack) (AfterLockToDemote g made reply)
+demote-lock-actions may ack g made Done =
+    only-either (IsActionOf may ack) (is_worn made.spent) (UnlocksEarly g made early.Worn) (ReadsHomeToDemote g made) (unlocks-actions may ack g made early.Worn)
+    (only-then (IsActionOf may ack) (Read made.page (cells.Home made.page)) g (λ reply. AfterHomeToDemote g made (told reply)) tt (λ reply. demote-home-actions may ack g made (told reply)))
+demote-lock-actions may ack g made (Word n) = only-ends (IsActionOf may ack) selected.Busy
+demote-lock-actions may ack g made (Busy n) = only-ends (IsActionOf may ack) selected.Busy
+demote-lock-actions may ack g made (Lost n) = only-ends (IsActionOf may ack) selected.Busy
 
-demoted-marks : (may : ℕ → ℕ → Type 0) (g : Geometry) (made : DemoteMade) (end : Selected) → ListsOnly (IsMarkOf may) (AfterSelecting g made end)
-demoted-marks may g made selected.Busy = only-ends (IsMarkOf may) demoted.Busy
-demoted-marks may g made (selected.Closed why) = only-ends (IsMarkOf may) (demote_early_end why)
-demoted-marks may g made (selected.Ready home frame source pages) =
-    let M = IsMarkOf may in
-    only-follows M (IsTransfer (demote_transfer g made home frame source pages) g) (λ taken. UnlocksDemoted g made home source) (transfer-marks may (demote_transfer g made home frame source pages) g) (λ taken.
+demoted-actions : (may : ℕ → ℕ → Type 0) (ack : AckTo → Type 0) (g : Geometry) (made : DemoteMade) (end : Selected) → ListsOnly (IsActionOf may ack) (AfterSelecting g made end)
+demoted-actions may ack g made selected.Busy = only-ends (IsActionOf may ack) demoted.Busy
+demoted-actions may ack g made (selected.Closed why) = only-ends (IsActionOf may ack) (demote_early_end why)
+demoted-actions may ack g made (selected.Ready home frame source pages) =
+    let M = IsActionOf may ack in
+    only-follows M (IsTransfer (demote_transfer g made home frame source pages) g) (λ taken. UnlocksDemoted g made home source) (transfer-actions may ack (demote_transfer g made home frame source pages) g) (λ taken.
     only-then M (Unlock made.page) g (λ unlocked. GivesBackDemoted g home source) tt (λ unlocked.
-    only-follows M (IsPool g (Back home)) (λ back. Ends (demoted_end source)) (pool-marks may g (Back home)) (λ back. only-ends M (demoted_end source))))
+    only-follows M (IsPool g (Back home)) (λ back. Ends (demoted_end source)) (pool-actions may ack g (Back home)) (λ back. only-ends M (demoted_end source))))
 
-pub demotion-marks : (may : ℕ → ℕ → Type 0) (made : DemoteMade) (g : Geometry) → ListsOnly (IsMarkOf may) (IsDemotion made g)
-demotion-marks may made g =
-    only-follows (IsMarkOf may) (IsSelecting made g) (AfterSelecting g made) (only-then (IsMarkOf may) (Lock made.page) g (AfterLockToDemote g made) tt (demote-lock-marks may g made)) (demoted-marks may g made)
+pub demotion-actions : (may : ℕ → ℕ → Type 0) (ack : AckTo → Type 0) (made : DemoteMade) (g : Geometry) → ListsOnly (IsActionOf may ack) (IsDemotion made g)
+demotion-actions may ack made g =
+    only-follows (IsActionOf may ack) (IsSelecting made g) (AfterSelecting g made) (only-then (IsActionOf may ack) (Lock made.page) g (AfterLockToDemote g made) tt (demote-lock-actions may ack g made)) (demoted-actions may ack g made)

@@ -4,3 +4,4 @@ pub mod Keeping
 pub mod Faults
 pub mod Back
 pub mod BatchBack
+pub mod Made
