@@ -18,6 +18,12 @@ use Rattle.nm_vpages.specs.VPages.{vpages_of}
 use Rattle.nm_mappings.specs.Visits.{IsVisits, looks_made}
 use Rattle.nm_copying.specs.Copying.{told}
 use Rattle.nm_prepare.specs.Worn.{is_worn}
+use Rattle.nm_looks.specs.declared.seen.Seen.{Seen}
+use Rattle.nm_looks.specs.Seeing.{IsLooks}
+use Rattle.nm_looks.specs.Softening.{IsSoftens}
+use Rattle.nm_looks.specs.Parts.{page_looks}
+use Rattle.nm_inspect.specs.declared.inspect.Inspected.TheVariants as inspected
+use Rattle.nm_inspect.specs.Inspecting.{InspectData, SoftensInUse, AfterInspectLooks, IsInspection}
 use Rattle.nm_reclaim.specs.declared.sweep.ReclaimMade.{ReclaimMade}
 use Rattle.nm_reclaim.specs.Reclaims.{pages_visited, most_freed, word_in, is_shadow_in, PutsBack, DiscardsShadow, LeavesPage, VisitAfterShadow, VisitAfterHome, VisitAfterLock, Visits, IsReclaim}
 use Rattle.nm_obtain.specs.declared.obtain.ObtainMade.{ObtainMade}
@@ -38,7 +44,7 @@ use Rattle.nm_demote.specs.Demotions.{demoted_end, GivesBackDemoted, UnlocksDemo
 use Rattle.nm_marks.specs.Contents.{ListsOnly}
 use Rattle.nm_marks.proofs.Patterns.{only-ends, only-follows, only-then, only-either, only-each}
 use Rattle.nm_part_marks.specs.Actions.{IsActionOf}
-use Rattle.nm_part_marks.proofs.Leaves.{pool-actions, visits-actions, transfer-actions}
+use Rattle.nm_part_marks.proofs.Leaves.{pool-actions, visits-actions, looks-actions, softens-actions, transfer-actions}
 
 -- ---- reclaims
 
@@ -142,3 +148,16 @@ demoted-actions may ack g made (selected.Ready home frame source pages) =
 pub demotion-actions : (may : ℕ → ℕ → Type 0) (ack : AckTo → Type 0) (made : DemoteMade) (g : Geometry) → ListsOnly (IsActionOf may ack) (IsDemotion made g)
 demotion-actions may ack made g =
     only-follows (IsActionOf may ack) (IsSelecting made g) (AfterSelecting g made) (only-then (IsActionOf may ack) (Lock made.page) g (AfterLockToDemote g made) tt (demote-lock-actions may ack g made)) (demoted-actions may ack g made)
+
+-- ---- inspections
+
+in-use-actions : (may : ℕ → ℕ → Type 0) (ack : AckTo → Type 0) (g : Geometry) (seen : Seen) → ListsOnly (IsActionOf may ack) (SoftensInUse g seen)
+in-use-actions may ack g seen = only-follows (IsActionOf may ack) (IsSoftens seen.mapped g) (λ softened. Ends inspected.InUse) (softens-actions may ack seen.mapped g) (λ softened. only-ends (IsActionOf may ack) inspected.InUse)
+
+pub inspection-actions : (may : ℕ → ℕ → Type 0) (ack : AckTo → Type 0) (made : InspectData) (g : Geometry) → ListsOnly (IsActionOf may ack) (IsInspection made g)
+inspection-actions may ack made g =
+    let A = IsActionOf may ack in
+    only-follows A (IsLooks (page_looks made.0 made.1.page made.1.tier) g) (AfterInspectLooks g) (looks-actions may ack (page_looks made.0 made.1.page made.1.tier) g) (λ seen.
+    only-either A seen.inside (Either seen.accessed (SoftensInUse g seen) (Ends inspected.Idle)) (Ends inspected.Elsewhere)
+    (only-either A seen.accessed (SoftensInUse g seen) (Ends inspected.Idle) (in-use-actions may ack g seen) (only-ends A inspected.Idle))
+    (only-ends A inspected.Elsewhere))

@@ -15,6 +15,8 @@ ghost use Rattle.nm_cool.specs.Cooling.{CoolData, IsCooling};
 ghost use Rattle.nm_demote.specs.declared.select.DemoteMade.{DemoteMade};
 ghost use Rattle.nm_demote.specs.declared.demote.DemoteEnd.{DemoteEnd};
 ghost use Rattle.nm_demote.specs.Demotions.{IsDemotion};
+ghost use Rattle.nm_inspect.specs.declared.inspect.Inspected.{Inspected};
+ghost use Rattle.nm_inspect.specs.Inspecting.{InspectData, IsInspection};
 ghost use Rattle.nm_shadow_fault.specs.declared.fault.FaultEnd.{FaultEnd};
 ghost use Rattle.nm_fault.specs.Tasks.{FaultBegun, IsFault};
 ghost use Rattle.nm_marks.specs.Contents.{HasEvent};
@@ -22,13 +24,14 @@ ghost use Rattle.nm_marks.specs.Marks.{HasOnlyMarks, IsNoMark, IsPendingMark, Is
 ghost use Rattle.nm_part_marks.specs.Ends.{IsTxnOver, ArePiecesBack, IsMoveOver};
 
 /// Transactions, batches of them and locked moves make no Mark but from pending to none; a candidate that is cooled is made no
-/// candidate; demotions and faults make no Mark.
+/// candidate; demotions, inspections and faults make no Mark.
 pub fn parts_make_these_marks()
     ensures transaction { (made : PrepareMade) (g : Geometry) (own : Own) (end : TxnEnd) → IsTxn made g own end → HasOnlyMarks IsPendingMark own }
     ensures batch { (made : BatchMade) (g : Geometry) (own : Own) (ends : List TxnEnd) → IsBatch made g own ends → HasOnlyMarks IsPendingMark own }
     ensures locked { (made : ChooseMade) (g : Geometry) (own : Own) (end : LockedEnd) → IsLockedInMove made g own end → HasOnlyMarks IsPendingMark own }
     ensures cool { (made : CoolData) (g : Geometry) (own : Own) (end : Cooled) → IsCooling made g own end → HasOnlyMarks IsCandidateMark own }
     ensures demotion { (made : DemoteMade) (g : Geometry) (own : Own) (end : DemoteEnd) → IsDemotion made g own end → HasOnlyMarks IsNoMark own }
+    ensures inspection { (made : InspectData) (g : Geometry) (own : Own) (end : Inspected) → IsInspection made g own end → HasOnlyMarks IsNoMark own }
     ensures fault { (begun : FaultBegun) (g : Geometry) (own : Own) (end : FaultEnd) → IsFault begun g own end → HasOnlyMarks IsNoMark own }
 {}
 

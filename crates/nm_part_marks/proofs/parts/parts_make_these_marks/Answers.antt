@@ -3,7 +3,7 @@ use Rattle.nm_marks.specs.Marks.{IsNoMark, IsPendingMark, IsCandidateMark}
 use Rattle.nm_part_marks.specs.Actions.{IsNoAck}
 use Rattle.nm_part_marks.proofs.Made.{marks-of}
 use Rattle.nm_part_marks.proofs.Moves.{txn-actions, batch-actions, locked-actions, cool-actions}
-use Rattle.nm_part_marks.proofs.Keeping.{demotion-actions}
+use Rattle.nm_part_marks.proofs.Keeping.{demotion-actions, inspection-actions}
 use Rattle.nm_part_marks.proofs.Faults.{fault-actions}
 use Rattle.nm_part_marks.proofs.parts.parts_make_these_marks.Goals as goal
 
@@ -21,6 +21,9 @@ returns-clause-cool c = λ made g own end h. marks-of IsCandidateMark own (cool-
 
 pub returns-clause-demotion : goal.returns-clause-demotion
 returns-clause-demotion c = λ made g own end h. marks-of IsNoMark own (demotion-actions IsNoMark IsNoAck made g own end h)
+
+pub returns-clause-inspection : goal.returns-clause-inspection
+returns-clause-inspection c = λ made g own end h. marks-of IsNoMark own (inspection-actions IsNoMark IsNoAck made g own end h)
 
 pub returns-clause-fault : goal.returns-clause-fault
 returns-clause-fault c = λ begun g own end h. marks-of IsNoMark own (fault-actions IsNoMark IsNoAck begun g own end h)
