@@ -1,16 +1,18 @@
 -- How far an access has come.
-use Rattle.std.specs.Prelude.{◌≡◌, ℕ, Bool, true, false, if◌then◌else◌, IsTrue, List, [], ◌++◌, Some, IsSome}
+use Rattle.std.specs.Prelude.{◌≡◌, ◌≢◌, ℕ, Bool, true, false, if◌then◌else◌, IsTrue, List, [], ◌++◌, Some, IsSome}
 use Rattle.nm_base.specs.Geometry.{Geometry, IsGeometry, backing_page}
 use Rattle.nm_base.specs.PageWord.{is_present, has_hint, is_writable}
 use Rattle.nm_base.specs.Ranges.{IsVPage, IsPage, IsIndex, IsWord}
 use Rattle.nm_action.specs.declared.action.Action.{Action}
 use Rattle.nm_action.specs.declared.action.Action.TheVariants.{Look, Walk, Peek, Soften, Mark}
 use Rattle.nm_action.specs.declared.action.Bit.TheVariants.{Hint}
+use Rattle.nm_action.specs.declared.action.Reply.TheVariants.{Word}
 use Rattle.nm_action.specs.declared.tally.Tally.{Tally}
 use Rattle.nm_action.specs.declared.turn.Lane.TheVariants.{Candidates}
 use Rattle.nm_action.specs.declared.turn.Turn.{Turn}
 use Rattle.nm_action.specs.declared.turn.Turn.TheVariants.{Do, Put, End}
 use Rattle.nm_action.specs.declared.turn.Heard.{Heard}
+use Rattle.nm_action.specs.declared.turn.Heard.TheVariants.{Answer}
 use Rattle.nm_action.specs.Own.{Own}
 use Rattle.nm_view.specs.Lists.{find}
 use Rattle.nm_view.specs.Views.{View}
@@ -265,3 +267,18 @@ pub record IsAccessHeard {X : Type 0} (awaits : Geometry → Carried X → View 
   pub turn : Turn
   pub awaited : awaits geometry was view turns turn
   pub answer : IsAnswer geometry (view_then geometry view turns) turn heard
+
+-- a turn is given
+abbrev pub IsTurnGiven : AccessStep → Type 0
+IsTurnGiven (Give turn) = Unit {0}
+IsTurnGiven (Over word) = ⊥
+
+-- the word was touched, and this is what was heard
+pub record IsTouched (stage : AccessStage) (heard : Heard) (word : ℕ) : Type 0 where
+  pub last : stage ≡ Touching
+  pub told : heard ≡ Answer (Word word)
+
+-- an access is over exactly where the word was touched, and with the word that was heard then
+abbrev pub DoesTouch : AccessStage → Heard → AccessStep → Type 0
+DoesTouch stage heard (Give turn) = stage ≢ Touching
+DoesTouch stage heard (Over word) = IsTouched stage heard word

@@ -15,7 +15,7 @@ ghost use Rattle.nm_access.specs.declared.access.AccessStep.TheVariants.{Give};
 ghost use Rattle.nm_access.specs.declared.access.AccessStage.TheVariants.{Looking, Faulting, Walking};
 ghost use Rattle.nm_access.specs.Faults.{fault_kinds};
 ghost use Rattle.nm_access.specs.Accesses.{Carried, is_write, touch_action, serves, is_marked};
-ghost use Rattle.nm_access.specs.Accessing.{access_turn, tried_stage, marked_stage, IsAccessHeard, IsCatchingStage, IsToldStage, view_then};
+ghost use Rattle.nm_access.specs.Accessing.{access_turn, tried_stage, marked_stage, IsAccessHeard, IsCatchingStage, IsToldStage, IsTurnGiven, DoesTouch, view_then};
 ghost use Rattle.nm_access.specs.Moving.{AwaitsOf, IsStepOf, IsTrying, IsOpening, IsGiving, IsFresh};
 ghost use Rattle.nm_xlat.specs.declared.translations.Entry.{Entry};
 ghost use Rattle.nm_xlat.specs.Translations.{translation_of};
@@ -271,8 +271,10 @@ impl<'a, F: Faults<'a> + Drop> Access<'a, F> {
 
     /// Catches up, and then tries the translations.
     fn catch_up(&mut self) -> AccessStep
-        ensures { (g : Geometry) (was : Carried F.Outcome) (view : View) (turns : Turns) → IsTrying (fault_kinds F.shape F.leaves F.waits_at F.missing F.shadowed F.counted) self.old g was view turns
+        ensures step { (g : Geometry) (was : Carried F.Outcome) (view : View) (turns : Turns) → IsTrying (fault_kinds F.shape F.leaves F.waits_at F.missing F.shadowed F.counted) self.old g was view turns
             → IsStepOf (fault_kinds F.shape F.leaves F.waits_at F.missing F.shadowed F.counted) F.made F.awaits self.new g was view turns result }
+        ensures made { self.new.made ≡ self.old.made }
+        ensures given { IsTurnGiven result }
     {
         self.stage = AccessStage::CatchingUp;
         AccessStep::Give(Turn::Do(self.cache.poll()))
@@ -280,8 +282,10 @@ impl<'a, F: Faults<'a> + Drop> Access<'a, F> {
 
     /// Gives an action of the fault; where the fault waits, the processor catches up before it.
     fn give(&mut self, action: Action) -> AccessStep
-        ensures { (g : Geometry) (was : Carried F.Outcome) (view : View) (turns : Turns) → IsGiving (fault_kinds F.shape F.leaves F.waits_at F.missing F.shadowed F.counted) F.made F.awaits self.old action g was view turns
+        ensures step { (g : Geometry) (was : Carried F.Outcome) (view : View) (turns : Turns) → IsGiving (fault_kinds F.shape F.leaves F.waits_at F.missing F.shadowed F.counted) F.made F.awaits self.old action g was view turns
             → IsStepOf (fault_kinds F.shape F.leaves F.waits_at F.missing F.shadowed F.counted) F.made F.awaits self.new g was view turns result }
+        ensures made { self.new.made ≡ self.old.made }
+        ensures given { IsTurnGiven result }
     {
         if self.fault.waits() {
             self.stage = AccessStage::Waiting(action);
@@ -296,8 +300,10 @@ impl<'a, F: Faults<'a> + Drop> Access<'a, F> {
     fn looked(&mut self, stamp: u64, word: u64) -> AccessStep
         requires heard { IsAccessHeard (AwaitsOf (fault_kinds F.shape F.leaves F.waits_at F.missing F.shadowed F.counted) F.made F.awaits self.old) (Answer (Word word)) }
         requires stage { self.old.stage ≡ Looking stamp }
-        ensures { (g : Geometry) (was : Carried F.Outcome) (view : View) (turns : Turns) (turn : Turn) → AwaitsOf (fault_kinds F.shape F.leaves F.waits_at F.missing F.shadowed F.counted) F.made F.awaits self.old g was view turns turn
+        ensures step { (g : Geometry) (was : Carried F.Outcome) (view : View) (turns : Turns) (turn : Turn) → AwaitsOf (fault_kinds F.shape F.leaves F.waits_at F.missing F.shadowed F.counted) F.made F.awaits self.old g was view turns turn
             → IsAnswer g (view_then g view turns) turn (Answer (Word word)) → IsStepOf (fault_kinds F.shape F.leaves F.waits_at F.missing F.shadowed F.counted) F.made F.awaits self.new g was view (turns ++ (turn, Answer (Word word)) ∷ []) result }
+        ensures made { self.new.made ≡ self.old.made }
+        ensures given { IsTurnGiven result }
     {
         let vpage = self.made.vpage;
         if word == 0 {
@@ -319,8 +325,10 @@ impl<'a, F: Faults<'a> + Drop> Access<'a, F> {
     /// are in range, the translations agree with the processor's view, which has no operation and holds no turn, and the
     /// processor has acknowledged a number.
     pub fn begin(&mut self, made: AccessMade) -> AccessStep
-        ensures { (g : Geometry) (was : Carried F.Outcome) (view : View) → IsOpening (fault_kinds F.shape F.leaves F.waits_at F.missing F.shadowed F.counted) self.old made g was view
+        ensures step { (g : Geometry) (was : Carried F.Outcome) (view : View) → IsOpening (fault_kinds F.shape F.leaves F.waits_at F.missing F.shadowed F.counted) self.old made g was view
             → IsStepOf (fault_kinds F.shape F.leaves F.waits_at F.missing F.shadowed F.counted) F.made F.awaits self.new g was view [] result }
+        ensures made { self.new.made ≡ made }
+        ensures given { IsTurnGiven result }
     {
         self.made = made;
         self.hinted = false;
@@ -331,8 +339,10 @@ impl<'a, F: Faults<'a> + Drop> Access<'a, F> {
     fn caught(&mut self, reply: Reply) -> AccessStep
         requires heard { IsAccessHeard (AwaitsOf (fault_kinds F.shape F.leaves F.waits_at F.missing F.shadowed F.counted) F.made F.awaits self.old) (Answer reply) }
         requires stage { IsCatchingStage self.old.stage }
-        ensures { (g : Geometry) (was : Carried F.Outcome) (view : View) (turns : Turns) (turn : Turn) → AwaitsOf (fault_kinds F.shape F.leaves F.waits_at F.missing F.shadowed F.counted) F.made F.awaits self.old g was view turns turn
+        ensures step { (g : Geometry) (was : Carried F.Outcome) (view : View) (turns : Turns) (turn : Turn) → AwaitsOf (fault_kinds F.shape F.leaves F.waits_at F.missing F.shadowed F.counted) F.made F.awaits self.old g was view turns turn
             → IsAnswer g (view_then g view turns) turn (Answer reply) → IsStepOf (fault_kinds F.shape F.leaves F.waits_at F.missing F.shadowed F.counted) F.made F.awaits self.new g was view (turns ++ (turn, Answer reply) ∷ []) result }
+        ensures made { self.new.made ≡ self.old.made }
+        ensures given { IsTurnGiven result }
     {
         match self.cache.after(reply) {
             Step::Do(action) => AccessStep::Give(Turn::Do(action)),
@@ -351,8 +361,10 @@ impl<'a, F: Faults<'a> + Drop> Access<'a, F> {
     fn faulted(&mut self, reply: Reply) -> AccessStep
         requires heard { IsAccessHeard (AwaitsOf (fault_kinds F.shape F.leaves F.waits_at F.missing F.shadowed F.counted) F.made F.awaits self.old) (Answer reply) }
         requires stage { self.old.stage ≡ Faulting }
-        ensures { (g : Geometry) (was : Carried F.Outcome) (view : View) (turns : Turns) (turn : Turn) → AwaitsOf (fault_kinds F.shape F.leaves F.waits_at F.missing F.shadowed F.counted) F.made F.awaits self.old g was view turns turn
+        ensures step { (g : Geometry) (was : Carried F.Outcome) (view : View) (turns : Turns) (turn : Turn) → AwaitsOf (fault_kinds F.shape F.leaves F.waits_at F.missing F.shadowed F.counted) F.made F.awaits self.old g was view turns turn
             → IsAnswer g (view_then g view turns) turn (Answer reply) → IsStepOf (fault_kinds F.shape F.leaves F.waits_at F.missing F.shadowed F.counted) F.made F.awaits self.new g was view (turns ++ (turn, Answer reply) ∷ []) result }
+        ensures made { self.new.made ≡ self.old.made }
+        ensures given { IsTurnGiven result }
     {
         match self.fault.after(reply) {
             Step::Do(action) => self.give(action),
@@ -367,8 +379,10 @@ impl<'a, F: Faults<'a> + Drop> Access<'a, F> {
     fn walked(&mut self, stamp: u64, word: u64) -> AccessStep
         requires heard { IsAccessHeard (AwaitsOf (fault_kinds F.shape F.leaves F.waits_at F.missing F.shadowed F.counted) F.made F.awaits self.old) (Answer Done) }
         requires stage { self.old.stage ≡ Walking stamp word }
-        ensures { (g : Geometry) (was : Carried F.Outcome) (view : View) (turns : Turns) (turn : Turn) → AwaitsOf (fault_kinds F.shape F.leaves F.waits_at F.missing F.shadowed F.counted) F.made F.awaits self.old g was view turns turn
+        ensures step { (g : Geometry) (was : Carried F.Outcome) (view : View) (turns : Turns) (turn : Turn) → AwaitsOf (fault_kinds F.shape F.leaves F.waits_at F.missing F.shadowed F.counted) F.made F.awaits self.old g was view turns turn
             → IsAnswer g (view_then g view turns) turn (Answer Done) → IsStepOf (fault_kinds F.shape F.leaves F.waits_at F.missing F.shadowed F.counted) F.made F.awaits self.new g was view (turns ++ (turn, Answer Done) ∷ []) result }
+        ensures made { self.new.made ≡ self.old.made }
+        ensures given { IsTurnGiven result }
     {
         let frame = frame_of(word);
         let dirty = walked_dirty(self.made.touch, word);
@@ -376,11 +390,14 @@ impl<'a, F: Faults<'a> + Drop> Access<'a, F> {
         self.mark(word)
     }
 
-    /// The step after what is heard of the last turn. Condition: it answers that turn, and a reply fits.
+    /// The step after what is heard of the last turn. Condition: it answers that turn, and a reply fits. The access is over
+    /// exactly where its word was touched.
     pub fn after(&mut self, heard: Heard) -> AccessStep
         requires { IsAccessHeard (AwaitsOf (fault_kinds F.shape F.leaves F.waits_at F.missing F.shadowed F.counted) F.made F.awaits self.old) heard }
-        ensures { (g : Geometry) (was : Carried F.Outcome) (view : View) (turns : Turns) (turn : Turn) → AwaitsOf (fault_kinds F.shape F.leaves F.waits_at F.missing F.shadowed F.counted) F.made F.awaits self.old g was view turns turn
+        ensures step { (g : Geometry) (was : Carried F.Outcome) (view : View) (turns : Turns) (turn : Turn) → AwaitsOf (fault_kinds F.shape F.leaves F.waits_at F.missing F.shadowed F.counted) F.made F.awaits self.old g was view turns turn
             → IsAnswer g (view_then g view turns) turn heard → IsStepOf (fault_kinds F.shape F.leaves F.waits_at F.missing F.shadowed F.counted) F.made F.awaits self.new g was view (turns ++ (turn, heard) ∷ []) result }
+        ensures made { self.new.made ≡ self.old.made }
+        ensures touched { DoesTouch self.old.stage heard result }
     {
         let reply = match heard {
             Heard::Answer(reply) => reply,
@@ -409,8 +426,10 @@ impl<'a, F: Faults<'a> + Drop> Access<'a, F> {
     fn told(&mut self, reply: Reply) -> AccessStep
         requires heard { IsAccessHeard (AwaitsOf (fault_kinds F.shape F.leaves F.waits_at F.missing F.shadowed F.counted) F.made F.awaits self.old) (Answer reply) }
         requires stage { IsToldStage self.old.stage }
-        ensures { (g : Geometry) (was : Carried F.Outcome) (view : View) (turns : Turns) (turn : Turn) → AwaitsOf (fault_kinds F.shape F.leaves F.waits_at F.missing F.shadowed F.counted) F.made F.awaits self.old g was view turns turn
+        ensures step { (g : Geometry) (was : Carried F.Outcome) (view : View) (turns : Turns) (turn : Turn) → AwaitsOf (fault_kinds F.shape F.leaves F.waits_at F.missing F.shadowed F.counted) F.made F.awaits self.old g was view turns turn
             → IsAnswer g (view_then g view turns) turn (Answer reply) → IsStepOf (fault_kinds F.shape F.leaves F.waits_at F.missing F.shadowed F.counted) F.made F.awaits self.new g was view (turns ++ (turn, Answer reply) ∷ []) result }
+        ensures made { self.new.made ≡ self.old.made }
+        ensures touched { DoesTouch self.old.stage (Answer reply) result }
     {
         match reply {
             Reply::Word(word) => match self.stage {

@@ -1,0 +1,13 @@
+pub mod Followed
+pub mod Touched
+pub mod Silent
+pub mod Lines
+pub mod Ends
+pub mod Mapped
+pub mod Going
+pub mod Opening
+pub mod Accessed
+pub mod Gave
+pub mod Noting
+pub mod Starting
+pub mod Ended

@@ -1,0 +1,69 @@
+-- A processor that has given no turn.
+use Rattle.std.proofs.Common.{◌≡◌, ◌≤◌, List, [], ◌∷◌, ◌++◌, length, vec_capacity, Some, None, refl, sym, ◌∙◌, subst}
+use Rattle.nm_base.specs.Geometry.{Geometry, page_count}
+use Rattle.nm_action.specs.declared.action.Action.{Action}
+use Rattle.nm_action.specs.declared.action.Action.TheVariants.{Poll}
+use Rattle.nm_action.specs.declared.action.Reply.{Reply}
+use Rattle.nm_action.specs.declared.turn.Turn.TheVariants.{End}
+use Rattle.nm_action.specs.Own.{Own}
+use Rattle.nm_view.specs.Views.{View}
+use Rattle.nm_tally.specs.Counts.{events_tally}
+use Rattle.nm_tally.specs.Counting.{CountsEvents}
+use Rattle.nm_catchup.specs.CatchUp.{Kept, CatchesUp}
+use Rattle.nm_access.specs.Turning.{action_turns}
+use Rattle.nm_access.specs.Faults.{FaultKinds, ends_tally}
+use Rattle.nm_access.specs.Moving.{IsFresh}
+use Rattle.nm_cpu.specs.declared.actor.Processor.{Processor}
+use Rattle.nm_cpu.specs.declared.actor.CpuStage.TheVariants.{New}
+use Rattle.nm_cpu.specs.Programs.{fresh_kept, IsLineOf, IsCpu}
+use Rattle.nm_cpu.specs.Agreeing.{geometry_of, program_of, IsAtNew, IsAtCpuStage, FollowsCpu}
+use Rattle.nm_cpu.proofs.Followed.{followed-part}
+use Rattle.nm_cpu.proofs.Lines.{some-loads}
+use Rattle.nm_cpu.proofs.Ends.{program-can}
+use Rattle.nm_cpu.proofs.Going.{sum-as}
+use Rattle.nm_cpu.proofs.Opening.{first-of, between-first}
+
+pub starts : {F M X : Type 0} (kinds : FaultKinds M X) (made_of : F → M) (awaits_of : F → Geometry → View → Own → Action → Type 0) (c : Processor F) → IsCpu (geometry_of c) c.made.number (program_of c) → c.stage ≡ New → IsFresh (geometry_of c) c.access → c.results.items ≡ [] → c.loads ≡ 0
+    → length (program_of c) ≤ vec_capacity c.results → CountsEvents c.counter [] → length c.counter.locked.items ≡ page_count (geometry_of c) → FollowsCpu kinds made_of awaits_of c [] None
+starts kinds made_of awaits_of c cpu at fresh results loads room events pages =
+    let first = some-loads (geometry_of c) (program_of c) (first-of (IsLineOf (geometry_of c)) (program_of c) cpu.lines) in
+    let between = between-first c first.0 [] results loads refl first.1 in
+    let here : IsAtNew c [] None = record { none = refl; start = refl; fresh = fresh; results = results; loads = loads } in
+    let can = program-can kinds (geometry_of c) (program_of c) in
+    record {
+      part = record {
+        ends = [];
+        sequence = record { rest = can.rest; outcome = can.outcome; shown = can.shown };
+        follows = followed-part c.made.number (program_of c) [] (program_of c) c.results.items c.loads first.0 [] between.is between.as_many between.loads between.follows;
+        counted = sum-as c.counter.tally c.access.tally (events_tally []) (ends_tally kinds.counts []) events.tally fresh.counted;
+      };
+      at = record { cpu = cpu; room = room; next = refl; permitted = tt; at = subst (λ s. IsAtCpuStage kinds made_of awaits_of s c [] None) (sym at) here };
+      events = events;
+      pages = pages;
+      kept = tt;
+    }
+
+-- It does not end before its first turn.
+
+front-none : {A : Type 0} (a b : List A) → [] ≡ a ++ b → a ≡ []
+front-none [] b is = refl
+front-none (x ∷ a) b is = cc
+
+own-none : (own : Own) → [] ≡ action_turns own → own ≡ []
+own-none [] is = refl
+own-none (e ∷ own) is = cc
+
+some-event : (e : Action × Reply) (own : Own) → [] ≡ e ∷ own → ⊥
+some-event e own is = cc
+
+-- a catch up has an action
+catch-acts : (g : Geometry) (kept end : Kept) → CatchesUp g kept [] end → ⊥
+catch-acts g kept end h = some-event (Poll, h.end) [] (sym (front-none h.front h.back h.is) ∙ h.shown.is)
+
+-- a processor has not ended before its first turn
+pub acts-first : {F M X : Type 0} (kinds : FaultKinds M X) (made_of : F → M) (awaits_of : F → Geometry → View → Own → Action → Type 0) (c : Processor F) → FollowsCpu kinds made_of awaits_of c [] (Some End) → ⊥
+acts-first kinds made_of awaits_of c h =
+    let w = h.part.sequence in
+    let caught = w.shown in
+    let none : caught.own ≡ [] = own-none caught.own (sym (front-none w.front w.back w.is) ∙ caught.is) in
+    catch-acts (geometry_of c) fresh_kept w.end (subst (λ (l : Own). CatchesUp (geometry_of c) fresh_kept l w.end) none caught.shown)

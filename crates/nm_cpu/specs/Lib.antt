@@ -1,0 +1,4 @@
+pub mod Programs
+pub mod Lines
+pub mod Parts
+pub mod Agreeing
