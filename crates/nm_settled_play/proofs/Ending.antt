@@ -1,8 +1,7 @@
 -- A run of a schedule ends where every actor has ended, and then it is settled, or where all turns were made.
-use Rattle.std.proofs.Common.{◌≡◌, ℕ, ◌<◌, Bool, true, false, not, cond, List, [], ◌∷◌, length, get_or, map, Option, Some, All, refl, sym, ap, subst, inl, inr, ◌∙◌, arith}
+use Rattle.std.proofs.Common.{◌≡◌, ℕ, zero, suc, ◌<◌, Bool, true, false, not, cond, List, [], ◌∷◌, length, get_or, map, Option, Some, refl, sym, ap, subst, inl, inr, ◌∙◌, arith}
 use Rattle.std.specs.List.{filter, range_with_len}
 use Rattle.std.proofs.lemmas.Bool.{true≢false}
-use Rattle.std.proofs.lemmas.List.Elements.{All-get_or}
 use Rattle.std.proofs.lemmas.List.FromFn.{length-range_with_len, get_or-range_with_len}
 use Rattle.nm_base.specs.Geometry.{Geometry, IsGeometry}
 use Rattle.nm_action.specs.declared.action.Event.{Event}
@@ -46,9 +45,10 @@ not-kept true x rest none = cc
 not-kept false x rest none = (refl, none)
 
 -- where a test keeps no element of a list it fails at each
-none-kept : {A : Type 0} (p : A → Bool) (xs : List A) → filter p xs ≡ [] → All (λ x. p x ≡ false) xs
-none-kept p [] none = tt
-none-kept p (x ∷ xs) none = let h = not-kept (p x) x (filter p xs) none in (h.0, none-kept p xs h.1)
+none-kept : (p : ℕ → Bool) (xs : List ℕ) (i : ℕ) → filter p xs ≡ [] → i < length xs → p (get_or xs i 0) ≡ false
+none-kept p [] i none there = absurd (omega (arith, there))
+none-kept p (x ∷ xs) zero none there = (not-kept (p x) x (filter p xs) none).0
+none-kept p (x ∷ xs) (suc i) none there = none-kept p xs i (not-kept (p x) x (filter p xs) none).1 (omega (arith, there))
 
 not-false : (b : Bool) → not b ≡ false → b ≡ true
 not-false true h = refl
@@ -58,7 +58,7 @@ all-ended : (actors : ℕ) (played : List Played) → active_actors actors playe
 all-ended actors played none a there =
     let p : ℕ → Bool = λ b. not (has_ended played b) in
     let there_too : a < length (range_with_len 0 actors) = subst (λ (n : ℕ). a < n) (sym (length-range_with_len 0 actors)) there in
-    let fails : p (get_or (range_with_len 0 actors) a 0) ≡ false = All-get_or (λ b. p b ≡ false) (range_with_len 0 actors) a 0 there_too (none-kept p (range_with_len 0 actors) none) in
+    let fails : p (get_or (range_with_len 0 actors) a 0) ≡ false = none-kept p (range_with_len 0 actors) a none there_too in
     not-false (has_ended played a) (sym (ap p (get_or-range_with_len 0 actors a 0 there)) ∙ fails)
 
 -- an actor that has ended has given End

@@ -1,5 +1,5 @@
 -- That no mark is left at the end of a run whose actors take their marks back.
-use Rattle.std.proofs.Common.{◌≡◌, ◌≢◌, ℕ, zero, suc, ◌+◌, ◌<◌, ◌≤◌, ◌⊎◌, List, [], ◌∷◌, ◌++◌, All, refl, sym, ap, subst, inl, inr, ◌∙◌, arith, append_assoc}
+use Rattle.std.proofs.Common.{◌≡◌, ◌≢◌, ℕ, zero, suc, ◌+◌, ◌<◌, ◌≤◌, ◌⊎◌, List, [], ◌∷◌, ◌++◌, refl, sym, ap, subst, inl, inr, ◌∙◌, arith, append_assoc}
 use Rattle.std.proofs.lemmas.Bool.{cases_eq, cases_lt}
 use Rattle.std.proofs.lemmas.List.{append-nil, get_or-replicate}
 use Rattle.nm_base.specs.Geometry.{Geometry, IsGeometry}
@@ -25,9 +25,10 @@ use Rattle.nm_world.proofs.Bridge.{seen_of, seen_word-place, world_of-step}
 use Rattle.nm_runs.proofs.EachRun.{IsLawful, lawful_run, reply_same}
 use Rattle.nm_runs.proofs.Longer.{state_from-more, run_from-more}
 use Rattle.nm_settled.specs.Ended.{HasNoMark}
-use Rattle.nm_unmarked.specs.Marks.{HasOnlyMarks, IsMarkOf, HasEvent, IsCandidateMark, IsMigratorMark, IsNoMark}
+use Rattle.nm_marks.specs.Contents.{HasEvent}
+use Rattle.nm_marks.specs.Marks.{IsMarkOf, HasOnlyMarks, IsNoMark, IsCandidateMark, IsMigratorMark}
 use Rattle.nm_unmarked.specs.Unmarking.{EndsLast, TakeMarksBack}
-use Rattle.nm_unmarked.proofs.Owns.{own-at, own-same, own-other, has-at, all-middle, no-middle}
+use Rattle.nm_unmarked.proofs.Owns.{own-at, own-same, own-other, has-at, only-middle, no-middle}
 use Rattle.nm_unmarked.proofs.Steps.{mark_at}
 use Rattle.nm_unmarked.proofs.Marked.{IsEndAck, AreMarked, IsOwnStep, marked-step}
 
@@ -55,32 +56,33 @@ actors g a there past = elim (cases_eq a g.cpus) [
 ]
 
 -- a Mark in the own list of an actor is one of those that this list has
-mark-in : (may : ℕ → ℕ → Type 0) (actor : ℕ) (before rest : List Event) (e : Event) → e.actor ≡ actor → HasOnlyMarks may (own_of actor (before ++ e ∷ rest)) → IsMarkOf may e.action
-mark-in may actor before rest e same marks =
+mark-in : (may : ℕ → ℕ → Type 0) (actor : ℕ) (before rest : List Event) (e : Event) (b old new : ℕ) → e.actor ≡ actor → e.action ≡ Mark b old new → HasOnlyMarks may (own_of actor (before ++ e ∷ rest)) → may old new
+mark-in may actor before rest e b old new same is marks =
     let M : Own → Type 0 = λ l. HasOnlyMarks may l in
-    all-middle (λ p. IsMarkOf may p.0) (own_of actor before) (e.action, e.reply) (own_of actor rest) (subst M (own-at actor before rest e same) marks)
+    let A : Action → Type 0 = λ a. IsMarkOf may a in
+    subst A is (only-middle (IsMarkOf may) (own_of actor before) (e.action, e.reply) (own_of actor rest) (subst M (own-at actor before rest e same) marks))
 
 no-candidate : (g : Geometry) (before rest : List Event) (e : Event) → IsActor g e.actor → TakeMarksBack g (before ++ e ∷ rest) → g.cpus ≤ e.actor → (b : ℕ) → ¬ (e.action ≡ Mark b 0 1)
 no-candidate g before rest e there back past b is = elim (actors g e.actor there past) [
-  | inl same ↦ elim (mark-in IsMigratorMark g.cpus before rest e same back.migrator.marks b 0 1 is) [
+  | inl same ↦ elim (mark-in IsMigratorMark g.cpus before rest e b 0 1 same is back.migrator.marks) [
       | inl h ↦ omega (arith, h.old_is)
       | inr h ↦ elim h [
           | inl k ↦ omega (arith, k.old_is)
           | inr k ↦ omega (arith, k.old_is)
         ]
     ]
-  | inr same ↦ mark-in IsNoMark (g.cpus + 1) before rest e same back.reclaimer b 0 1 is
+  | inr same ↦ mark-in IsNoMark (g.cpus + 1) before rest e b 0 1 same is back.reclaimer
 ]
 
 no-pending : (g : Geometry) (before rest : List Event) (e : Event) → IsActor g e.actor → TakeMarksBack g (before ++ e ∷ rest) → e.actor ≢ g.cpus → (b : ℕ) → ¬ (e.action ≡ Mark b 1 2)
 no-pending g before rest e there back other b is = elim (cases_lt e.actor g.cpus) [
-  | inl below ↦ elim (mark-in IsCandidateMark e.actor before rest e refl (back.processors e.actor below).marks b 1 2 is) [
+  | inl below ↦ elim (mark-in IsCandidateMark e.actor before rest e b 1 2 refl is (back.processors e.actor below).marks) [
       | inl h ↦ omega (arith, h.old_is)
       | inr h ↦ omega (arith, h.new_is)
     ]
   | inr past ↦ elim (actors g e.actor there past) [
       | inl same ↦ other same
-      | inr same ↦ mark-in IsNoMark (g.cpus + 1) before rest e same back.reclaimer b 1 2 is
+      | inr same ↦ mark-in IsNoMark (g.cpus + 1) before rest e b 1 2 same is back.reclaimer
     ]
 ]
 
@@ -157,4 +159,4 @@ unmarked-run g events is run back page there =
     sym (seen_word-place s.geometry s.words (words.Mark page) there)
     ∙ none-of (mark_at (world_of s) page) (marked.few page)
     (λ one. marked.candidate page one (back.migrator.swept page page_there))
-    (λ two. let p = marked.pending page two in p.open (back.migrator.back page page_there p.front p.rest p.is))
+    (λ two. let p = marked.pending page two in p.left (back.migrator.back page page_there p.front p.rest p.is))

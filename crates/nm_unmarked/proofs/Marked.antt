@@ -14,9 +14,11 @@ use Rattle.nm_event.specs.After.{after_of}
 use Rattle.nm_world.specs.Worlds.{World, moved, reply_in}
 use Rattle.nm_world.specs.Laws.{AreAll}
 use Rattle.nm_world.proofs.Choose.{choose}
-use Rattle.nm_unmarked.specs.Marks.{HasEvent}
-use Rattle.nm_unmarked.specs.Unmarking.{IsEndSeen, IsSwept, IsTakenBack}
-use Rattle.nm_unmarked.proofs.Owns.{has-left, has-last, has-new, within-or-last}
+use Rattle.nm_marks.specs.Contents.{HasEvent}
+use Rattle.nm_marks.specs.Marks.{IsTakenBack}
+use Rattle.nm_marks.proofs.Contents.{has-left}
+use Rattle.nm_unmarked.specs.Unmarking.{IsEndSeen, IsSwept}
+use Rattle.nm_unmarked.proofs.Owns.{has-last, has-new, within-or-last}
 use Rattle.nm_unmarked.proofs.Steps.{mark_at, IsMade, mark-step, mark-made, mark-told, mark-allowed, acked-step, polled-on, seen-end}
 
 -- a processor acknowledged its end
@@ -28,7 +30,7 @@ pub record IsPending (b : ℕ) (own : Own) : Type 0 where
   pub front : Own
   pub rest : Own
   pub is : own ≡ front ++ (Mark b 1 2, Done) ∷ rest
-  pub open : ¬ HasEvent (IsTakenBack b) rest
+  pub left : ¬ HasEvent (IsTakenBack b) rest
 
 -- a processor whose view says that it has ended acknowledged its end, and so did one that was seen at its end; a candidate was
 -- not swept, and a pending page was marked so by the migrator
@@ -163,8 +165,8 @@ still-pending g m a action reply owns later h i b before after =
           front = w.front;
           rest = w.rest ++ (action, reply) ∷ [];
           is = ap (λ (l : Own). l ++ (action, reply) ∷ []) w.is ∙ append_assoc w.front ((Mark b 1 2, Done) ∷ w.rest) ((action, reply) ∷ []);
-          open = λ has. elim (has-last (IsTakenBack b) w.rest (action, reply) has) [
-            | inl earlier ↦ w.open earlier
+          left = λ has. elim (has-last (IsTakenBack b) w.rest (action, reply) has) [
+            | inl earlier ↦ w.left earlier
             | inr last ↦
                 let none : mark_at (moved g m a action) b ≡ 0 = mark-made g m a action b 2 0 last before in
                 omega (arith, none, after)
@@ -185,7 +187,7 @@ new-pending g m a action reply owns later h i b is before = elim (cases_eq a g.c
         front = owns g.cpus;
         rest = [];
         is = own ∙ ap (λ (x : Action). owns g.cpus ++ (x, reply) ∷ []) is ∙ ap (λ (r : Reply). owns g.cpus ++ (Mark b 1 2, r) ∷ []) done;
-        open = λ none. none;
+        left = λ none. none;
       }
   | inr other ↦ absurd (h.pendings other b is)
 ]

@@ -1,12 +1,12 @@
 -- Own lists with one event more.
-use Rattle.std.proofs.Common.{◌≡◌, ◌≢◌, ℕ, ◌==◌, if◌then◌else◌, Bool, true, false, List, [], ◌∷◌, ◌++◌, All, refl, sym, ap, subst, inl, inr, ◌⊎◌, ◌∙◌}
+use Rattle.std.proofs.Common.{◌≡◌, ◌≢◌, ℕ, ◌==◌, if◌then◌else◌, Bool, true, false, List, [], ◌∷◌, ◌++◌, refl, sym, ap, subst, inl, inr, ◌⊎◌, ◌∙◌}
 use Rattle.std.proofs.lemmas.Bool.{eq-eqb, ne_eqb}
 use Rattle.std.proofs.lemmas.List.{append-nil}
 use Rattle.nm_action.specs.declared.action.Action.{Action}
 use Rattle.nm_action.specs.declared.action.Event.{Event}
 use Rattle.nm_action.specs.declared.action.Reply.{Reply}
 use Rattle.nm_action.specs.Own.{Own, own_of}
-use Rattle.nm_unmarked.specs.Marks.{HasEvent}
+use Rattle.nm_marks.specs.Contents.{HasOnly, HasEvent}
 
 -- ---- own lists in a list of events
 
@@ -41,11 +41,6 @@ own-other actor before e away =
 
 -- ---- events of a list
 
-pub has-left : (P : Action → Reply → Type 0) (xs ys : Own) → HasEvent P xs → HasEvent P (xs ++ ys)
-has-left P [] ys h = absurd h
-has-left P (x ∷ xs) ys (inl here) = inl here
-has-left P (x ∷ xs) ys (inr there) = inr (has-left P xs ys there)
-
 -- an event of a list with one more is of the list, or that one
 pub has-last : (P : Action → Reply → Type 0) (xs : Own) (e : Action × Reply) → HasEvent P (xs ++ e ∷ []) → HasEvent P xs ⊎ P e.0 e.1
 has-last P [] e (inl here) = inr here
@@ -75,10 +70,10 @@ has-at P (x ∷ own) (inr there) =
     let h = has-at P own there in
     record { front = x ∷ h.front; event = h.event; rest = h.rest; is = ap (λ (l : Own). x ∷ l) h.is; holds = h.holds }
 
--- what holds of each event of a list holds of one in its middle
-pub all-middle : (P : Action × Reply → Type 0) (front : Own) (e : Action × Reply) (rest : Own) → All P (front ++ e ∷ rest) → P e
-all-middle P [] e rest h = h.0
-all-middle P (x ∷ front) e rest h = all-middle P front e rest h.1
+-- what holds of each action of a list holds of one in its middle
+pub only-middle : (P : Action → Type 0) (front : Own) (e : Action × Reply) (rest : Own) → HasOnly P (front ++ e ∷ rest) → P e.0
+only-middle P [] e rest h = h.0
+only-middle P (x ∷ front) e rest h = only-middle P front e rest h.1
 
 -- an event of a list with one more stands in the list, or is that one
 pub record IsWithin (own front : Own) (x : Action × Reply) : Type 0 where
@@ -88,7 +83,7 @@ pub record IsWithin (own front : Own) (x : Action × Reply) : Type 0 where
 pub head-of : {A : Type 0} (x y : A) (xs ys : List A) → x ∷ xs ≡ y ∷ ys → (x ≡ y) × (xs ≡ ys)
 head-of x y xs ys is = (cc, cc)
 
-no-middle : (front : Own) (x : Action × Reply) (rest : Own) → ¬ ([] ≡ front ++ x ∷ rest)
+pub no-middle : (front : Own) (x : Action × Reply) (rest : Own) → ¬ ([] ≡ front ++ x ∷ rest)
 no-middle [] x rest is = cc
 no-middle (y ∷ front) x rest is = cc
 

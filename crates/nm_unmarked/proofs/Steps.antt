@@ -78,6 +78,9 @@ pub acked-step : (g : Geometry) (view : View) (action : Action) (reply : Reply) 
 acked-step g view (Ack Seen) Done on h = absurd (on h)
 acked-step g view (Ack Off) Done on h = absurd (omega (arith, h))
 acked-step g view (Ack End) Done on h = inr refl
+acked-step g view (Ack to) (Word n) on h = inl h
+acked-step g view (Ack to) (Busy n) on h = inl h
+acked-step g view (Ack to) (Lost n) on h = inl h
 acked-step g view _ (Word n) on h = inl h
 acked-step g view _ Done on h = inl h
 acked-step g view _ (Busy n) on h = inl h

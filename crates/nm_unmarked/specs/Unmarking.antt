@@ -10,7 +10,8 @@ use Rattle.nm_action.specs.declared.action.Reply.{Reply}
 use Rattle.nm_action.specs.declared.action.Reply.TheVariants.{Done, Word}
 use Rattle.nm_action.specs.Own.{Own, own_of}
 use Rattle.nm_view.specs.Views.{end_word}
-use Rattle.nm_unmarked.specs.Marks.{HasOnlyMarks, HasEvent, IsCandidateMark, IsMigratorMark, IsNoMark}
+use Rattle.nm_marks.specs.Contents.{HasEvent}
+use Rattle.nm_marks.specs.Marks.{HasOnlyMarks, IsNoMark, IsCandidateMark, IsMigratorMark, IsTakenBack}
 
 -- Processors.
 
@@ -36,10 +37,6 @@ pub record IsSwept (g : Geometry) (page : ℕ) (own : Own) : Type 0 where
   pub rest : Own
   pub is : own ≡ front ++ (Mark page 1 0, reply) ∷ rest
   pub seen : (cpu : ℕ) → cpu < g.cpus → HasEvent (IsEndSeen cpu) front
-
--- a Mark takes a page from pending to none
-abbrev pub IsTakenBack : ℕ → Action → Reply → Type 0
-IsTakenBack page action reply = action ≡ Mark page 2 0
 
 -- whenever the page was marked as pending, that mark was taken back later
 abbrev pub AreTakenBack : ℕ → Own → Type 0
