@@ -2,3 +2,4 @@ pub mod Lists
 pub mod Fitting
 pub mod Resting
 pub mod Giving
+pub mod Agreeing

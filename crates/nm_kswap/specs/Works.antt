@@ -18,17 +18,16 @@ use Rattle.nm_pool.specs.declared.job.PoolJob.TheVariants.{Level}
 use Rattle.nm_pool.specs.declared.job.PoolMade.{PoolMade}
 use Rattle.nm_pool.specs.declared.job.PoolEnd.{PoolEnd}
 use Rattle.nm_pool.specs.declared.task.PoolTask.{PoolTask}
-use Rattle.nm_inspect.specs.declared.inspect.Inspect.{Inspect}
+use Rattle.nm_kswap.specs.declared.task.InspectTask.{InspectTask}
+use Rattle.nm_kswap.specs.declared.task.DemoteWork.{DemoteWork}
 use Rattle.nm_inspect.specs.declared.inspect.Inspected.{Inspected}
 use Rattle.nm_inspect.specs.Inspecting.{InspectData, IsInspection, MayInspect}
-use Rattle.nm_inspect.specs.Stages.{InspectPiece, inspect_data}
+use Rattle.nm_inspect.specs.Stages.{inspect_data}
 use Rattle.nm_demote.specs.declared.select.DemoteMade.{DemoteMade}
-use Rattle.nm_demote.specs.declared.demote.Demote.{Demote}
 use Rattle.nm_demote.specs.declared.demote.DemoteOver.{DemoteOver}
 use Rattle.nm_demote.specs.Selections.{MayDemote}
 use Rattle.nm_demote.specs.Demotions.{IsDemotion}
 use Rattle.nm_demote.specs.Leaving.{IsDemoteLeft}
-use Rattle.nm_demote.specs.Pieces.{DemotePiece}
 use Rattle.nm_drawing.specs.declared.drawing.Drawing.{Drawing}
 use Rattle.nm_drawing.specs.declared.drawing.Drawn.{Drawn}
 use Rattle.nm_drawing.specs.Draws.{MayDraw, IsDrawingList, IsDrawnLeft}
@@ -38,14 +37,11 @@ use Rattle.nm_drawing.specs.Draws.{MayDraw, IsDrawingList, IsDrawnLeft}
 abbrev pub AskPart : Type 0
 AskPart = Composite AskEnded Act
 
-abbrev pub InspectPart : Type 0
-InspectPart = Composite Inspect InspectPiece
-
 abbrev pub DemotePart : Type 0
-DemotePart = Drawing (Composite Demote DemotePiece)
+DemotePart = Drawing DemoteWork
 
 abbrev pub ReclaimerPiece : Type 0
-ReclaimerPiece = Or AskPart (Or PoolTask (Or InspectPart DemotePart))
+ReclaimerPiece = Or AskPart (Or PoolTask (Or InspectTask DemotePart))
 
 -- What they are made with; a demotion also with what was drawn before it.
 
@@ -56,7 +52,7 @@ abbrev pub WorkMade : Type 0
 WorkMade = Or ℕ (Or PoolMade (Or InspectData DemoteData))
 
 abbrev pub work_made : ReclaimerPiece → WorkMade
-work_made = or_made (λ c. c.plan.cpus) (or_made made_of (or_made (λ c. inspect_data c.plan) (λ d. record { 0 = record { 0 = d.piece.plan.geometry.now; 1 = d.piece.plan.made }; 1 = d.begun })))
+work_made = or_made (λ c. c.plan.cpus) (or_made made_of (or_made (λ t. inspect_data t.run.plan) (λ d. record { 0 = record { 0 = d.piece.run.plan.geometry.now; 1 = d.piece.run.plan.made }; 1 = d.begun })))
 
 -- all processors are asked, up to the first that has not ended
 abbrev pub made_ask : Geometry → WorkMade

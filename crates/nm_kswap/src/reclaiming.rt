@@ -4,12 +4,16 @@ ghost use Rattle.std.specs.Prelude.{◌≡◌, ◌≢◌, ◌+◌, ◌<◌, ◌^
 ghost use Rattle.nm_base.specs.Geometry.{Geometry, IsGeometry};
 ghost use Rattle.nm_vpages.specs.VPages.{vpages_of};
 ghost use Rattle.nm_policy.specs.Watermarks.{watermarks_of};
-ghost use Rattle.nm_worker.specs.Routines.{task_data};
-ghost use Rattle.nm_kswap.specs.Works.{work_made};
+ghost use Rattle.nm_view.specs.Views.{View};
+ghost use Rattle.nm_view.specs.Opening.{opening};
+ghost use Rattle.nm_transfer.specs.Stages.{HoldsWords};
+ghost use Rattle.nm_worker.specs.Routines.{task_data, HasTaskOver, IsTaskOver, IsDrawn};
+ghost use Rattle.nm_kswap.specs.Works.{work_made, IsWork, WorkLeaves};
 ghost use Rattle.nm_kswap.specs.Ends.{freed_by, demotion_counts, work_counts};
-ghost use Rattle.nm_kswap.specs.Reclaiming.{fresh_kept, marks_of, has_vpage};
+ghost use Rattle.nm_kswap.specs.Reclaiming.{marks_of, has_vpage, IsReclaiming};
+ghost use Rattle.nm_kswap.specs.Parts.{reclaimer_number};
 ghost use Rattle.nm_kswap.specs.Stages.{task_at, tier_stage, to_visit, going_on, words_after};
-ghost use Rattle.nm_kswap.specs.Knowing.{AreHands, IsStageOf, HasWords, IsEndAt, IsAble, IsNewReclaiming, IsNewTask};
+ghost use Rattle.nm_kswap.specs.Knowing.{AreHands, IsStageOf, HasWords, IsEndAt, IsAble, IsNewReclaiming, IsNewTask, KnowsReclaiming, ReclaimingLeft, GivesTask};
 
 use crate::stage::{Kept, Stage, Visit};
 use crate::work::{ReclaimerEnd, ReclaimerPiece, ask_work, demote_work, inspect_work, level_work};
@@ -246,7 +250,11 @@ impl<'a> Routine<ReclaimerPiece<'a>> for Reclaiming<'a> {
 
     ghost left = { ReclaimingLeft };
 
-    fn begin(&mut self) -> Task<ReclaimerPiece<'a>> {
+    fn begin(&mut self) -> Task<ReclaimerPiece<'a>>
+        requires { IsNewReclaiming self.old }
+        ensures made { self.new.geometry.now ≡ self.old.geometry.now }
+        ensures next { GivesTask ⟦<ReclaimerPiece<'a> as Part>⟧.is_new self.new result (IsReclaiming self.old.geometry.now) self.old.geometry.now (opening self.old.geometry.now (reclaimer_number self.old.geometry.now)) }
+    {
         self.go(Stage::Asking)
     }
 
@@ -255,13 +263,21 @@ impl<'a> Routine<ReclaimerPiece<'a>> for Reclaiming<'a> {
         _task: &Task<ReclaimerPiece<'a>>,
         end: Ended<ReclaimerEnd>,
         _spent: Spent,
-    ) -> Task<ReclaimerPiece<'a>> {
+    ) -> Task<ReclaimerPiece<'a>>
+        requires { HasTaskOver work_made IsWork WorkLeaves ⟦<ReclaimerPiece<'a> as Part>⟧.ended (KnowsReclaiming self.old) self.old.geometry.now _task.now end _spent }
+        ensures made { self.new.geometry.now ≡ self.old.geometry.now }
+        ensures next { (now later : View) → KnowsReclaiming self.old now (task_data work_made _task.now)
+            → IsTaskOver work_made IsWork WorkLeaves ⟦<ReclaimerPiece<'a> as Part>⟧.ended self.old.geometry.now now later _task.now end → IsDrawn _spent later
+            → GivesTask ⟦<ReclaimerPiece<'a> as Part>⟧.is_new self.new result (ReclaimingLeft self.old end) self.old.geometry.now later }
+    {
         let Ended::Run(end) = end else { unreachable!() };
         let stage = self.going_on(end);
         self.go(stage)
     }
 
-    fn counts(end: &ReclaimerEnd) -> Tally {
+    fn counts(end: &ReclaimerEnd) -> Tally
+        ensures { result ≡ work_counts end.now }
+    {
         let Or::Other(end) = end else {
             return Tally::default();
         };
