@@ -150,28 +150,28 @@ returns-in-PuttingAgain-clause-next c = λ now later known over drawn.
 pub moved-requires-clause-has : goal.moved-requires-clause-has
 moved-requires-clause-has c =
     let old = c.args.self.now in
-    (known-at old (Moving c.in-Moving.index c.in-Moving.page c.in-Moving.field-2) c.requires.now _ c.in-Moving.is c.requires.known).0
+    (known-at old (Moving c.in-Moving.index c.in-Moving.page c.in-Moving.count) c.requires.now _ c.in-Moving.is c.requires.known).0
 
 pub moved-requires-clause-moves : goal.moved-requires-clause-moves
 moved-requires-clause-moves c =
     let old = c.args.self.now in
-    (known-at old (Moving c.in-Moving.index c.in-Moving.page c.in-Moving.field-2) c.requires.now _ c.in-Moving.is c.requires.known).1
+    (known-at old (Moving c.in-Moving.index c.in-Moving.page c.in-Moving.count) c.requires.now _ c.in-Moving.is c.requires.known).1
 
 pub moved-requires-clause-few : goal.moved-requires-clause-few
 moved-requires-clause-few c =
     let old = c.args.self.now in
-    (known-at old (Moving c.in-Moving.index c.in-Moving.page c.in-Moving.field-2) c.requires.now _ c.in-Moving.is c.requires.known).3
+    (known-at old (Moving c.in-Moving.index c.in-Moving.page c.in-Moving.count) c.requires.now _ c.in-Moving.is c.requires.known).3
 
 pub moved-requires-clause-index : goal.moved-requires-clause-index
 moved-requires-clause-index c =
     let old = c.args.self.now in
-    (known-at old (Moving c.in-Moving.index c.in-Moving.page c.in-Moving.field-2) c.requires.now _ c.in-Moving.is c.requires.known).4
+    (known-at old (Moving c.in-Moving.index c.in-Moving.page c.in-Moving.count) c.requires.now _ c.in-Moving.is c.requires.known).4
 
 pub moved-requires-clause-words : goal.moved-requires-clause-words
 moved-requires-clause-words c =
     let old = c.args.self.now in
     let e = c.words_in.ensures ∙ ap words_in c.work_in-end.ensures in
-    subst (λ (x : Option (List (ℕ × ℕ))). HoldsWords x) (sym e) (words-back WorkEnded old c.in-Moving.index c.in-Moving.page c.in-Moving.field-2 c.requires.now c.requires.later c.args._task.now c.args.end c.in-Moving.is (c.requires.known, c.requires.over))
+    subst (λ (x : Option (List (ℕ × ℕ))). HoldsWords x) (sym e) (words-back WorkEnded old c.in-Moving.index c.in-Moving.page c.in-Moving.count c.requires.now c.requires.later c.args._task.now c.args.end c.in-Moving.is (c.requires.known, c.requires.over))
 
 pub returns-in-Moving-clause-next : goal.returns-in-Moving-clause-next
 returns-in-Moving-clause-next c = λ now later known over drawn.
@@ -179,7 +179,7 @@ returns-in-Moving-clause-next c = λ now later known over drawn.
     let e = c.work_in-end.ensures in
     let busy = c.is_busy_in-busy.ensures ∙ ap (λ (x : WorkEnd). is_busy_move (move_in x)) e in
     let spent = c.drawn_in-spent.ensures ∙ ap drawn_in e in
-    goes-on IsNewWork WorkEnded old c.moved.new.self (Moving c.in-Moving.index c.in-Moving.page c.in-Moving.field-2) c.args._task.now c.moved.result c.args.end now later c.in-Moving.is (known, over)
+    goes-on IsNewWork WorkEnded old c.moved.new.self (Moving c.in-Moving.index c.in-Moving.page c.in-Moving.count) c.args._task.now c.moved.result c.args.end now later c.in-Moving.is (known, over)
     (subst (λ (x : Spent). Gives IsNewWork old.geometry.now x c.moved.new.self c.moved.result (MovedLeft old c.in-Moving.index c.in-Moving.page (is_busy_move (move_in (work_in c.args.end))) x)) spent
     (subst (λ (b : Bool). Gives IsNewWork old.geometry.now c.drawn_in-spent.result c.moved.new.self c.moved.result (MovedLeft old c.in-Moving.index c.in-Moving.page b c.drawn_in-spent.result)) busy c.moved.ensures.next))
 
