@@ -25,7 +25,7 @@ use Rattle.nm_migrator.proofs.migrating.Migrating.pending.Goals as goal
 pub take_pending-requires : goal.take_pending-requires
 take_pending-requires c =
     let old = c.args.self.now in
-    c.requires.0.0, subst (λ (l : List ℕ). AreTaken old.geometry.now l) (sym c.push.ensures) (taken-more old.geometry.now old.taken c.in-Some.page c.requires.0.1 c.requires.1 (is-mapped old.geometry.now c.in-Some.page (sym c.if-not-is_mapped.ensures)) (sym c.if-is_among.ensures))
+    (c.requires.0.0, subst (λ (l : List ℕ). AreTaken old.geometry.now l) (sym c.push.ensures) (taken-more old.geometry.now old.taken c.in-Some.page c.requires.0.1 c.requires.1 (is-mapped old.geometry.now c.in-Some.page (sym c.if-not-is_mapped.ensures)) (sym c.if-is_among.ensures)))
 
 pub returns-in-None-clause-next : goal.returns-in-None-clause-next
 returns-in-None-clause-next c =

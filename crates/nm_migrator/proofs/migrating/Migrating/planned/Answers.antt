@@ -50,14 +50,14 @@ plan_from-requires c =
     let rest : List ℕ = drop (c.args.index + 1) old.taken in
     let plan : IsPlanWith old.geometry.now (plan_of old) (c.args.page ∷ rest) = subst (λ (l : List ℕ). IsPlanWith old.geometry.now (plan_of old) l) c.requires.1 c.requires.0.1 in
     let some : 1 ≤ c.len-count.result = some-move old.retry c.aborts_of.result c.len-count.result (sym c.if-is_moved_locked.ensures) in
-    c.requires.0.0, subst (λ (l : List (ℕ × ℕ)). IsPlanWith old.geometry.now (record { pieces = old.pieces; moves = l }) rest) (sym c.push.ensures) (plan-move old.geometry.now (plan_of old) c.args.page c.len-count.result rest some plan), c.requires.0.2
+    (c.requires.0.0, subst (λ (l : List (ℕ × ℕ)). IsPlanWith old.geometry.now (record { pieces = old.pieces; moves = l }) rest) (sym c.push.ensures) (plan-move old.geometry.now (plan_of old) c.args.page c.len-count.result rest some plan), c.requires.0.2)
 
 pub plan_from-requires-else-is_moved_locked : goal.plan_from-requires-else-is_moved_locked
 plan_from-requires-else-is_moved_locked c =
     let old = c.args.self.now in
     let rest : List ℕ = drop (c.args.index + 1) old.taken in
     let plan : IsPlanWith old.geometry.now (plan_of old) (c.args.page ∷ rest) = subst (λ (l : List ℕ). IsPlanWith old.geometry.now (plan_of old) l) c.requires.1 c.requires.0.1 in
-    c.requires.0.0, subst (λ (l : List (ℕ × ℕ)). IsPlanWith old.geometry.now (record { pieces = l; moves = old.moves }) rest) (sym c.push-else-is_moved_locked.ensures) (plan-piece old.geometry.now (plan_of old) c.args.page c.first_or-vpage.result rest plan), c.requires.0.2
+    (c.requires.0.0, subst (λ (l : List (ℕ × ℕ)). IsPlanWith old.geometry.now (record { pieces = l; moves = old.moves }) rest) (sym c.push-else-is_moved_locked.ensures) (plan-piece old.geometry.now (plan_of old) c.args.page c.first_or-vpage.result rest plan), c.requires.0.2)
 
 pub returns-then-is_moved_locked-clause-next : goal.returns-then-is_moved_locked-clause-next
 returns-then-is_moved_locked-clause-next c =
