@@ -21,8 +21,8 @@ use Rattle.nm_migrator.proofs.Planning.{is-mapped, taken-more, plan-move, plan-p
 use Rattle.nm_migrator.proofs.Fitting.{candidates-fit, candidate-judged, candidate-dropped, last-judged, last-dropped, unmarks-start, pending-begins, takes-one, takes-all, page-dropped, page-twice, page-taken, taken-asks, taken-planned, plans-one, plans-all, batches-some, batches-none, again-one, again-all, moves-one, moves-all, unmarks-one, unmarks-all, some-item, heats-fit, planned-moves, planned-pieces, again-starts}
 use Rattle.nm_migrator.proofs.migrating.Migrating.planned.Goals as goal
 
-pub aborts_of-requires : goal.aborts_of-requires
-aborts_of-requires c =
+pub aborts_of-aborts-requires : goal.aborts_of-aborts-requires
+aborts_of-aborts-requires c =
     let old = c.args.self.now in
     let rest : List ℕ = drop (c.args.index + 1) old.taken in
     let plan : IsPlanWith old.geometry.now (plan_of old) (c.args.page ∷ rest) = subst (λ (l : List ℕ). IsPlanWith old.geometry.now (plan_of old) l) c.requires.1 c.requires.0.1 in
@@ -49,7 +49,7 @@ plan_from-requires c =
     let old = c.args.self.now in
     let rest : List ℕ = drop (c.args.index + 1) old.taken in
     let plan : IsPlanWith old.geometry.now (plan_of old) (c.args.page ∷ rest) = subst (λ (l : List ℕ). IsPlanWith old.geometry.now (plan_of old) l) c.requires.1 c.requires.0.1 in
-    let some : 1 ≤ c.len-count.result = some-move old.retry c.aborts_of.result c.len-count.result (sym c.if-is_moved_locked.ensures) in
+    let some : 1 ≤ c.len-count.result = some-move old.retry c.aborts_of-aborts.result c.len-count.result (sym c.if-is_moved_locked.ensures) in
     (c.requires.0.0, subst (λ (l : List (ℕ × ℕ)). IsPlanWith old.geometry.now (record { pieces = old.pieces; moves = l }) rest) (sym c.push.ensures) (plan-move old.geometry.now (plan_of old) c.args.page c.len-count.result rest some plan), c.requires.0.2)
 
 pub plan_from-requires-else-is_moved_locked : goal.plan_from-requires-else-is_moved_locked
@@ -63,7 +63,7 @@ pub returns-then-is_moved_locked-clause-next : goal.returns-then-is_moved_locked
 returns-then-is_moved_locked-clause-next c =
     let old = c.args.self.now in
     let m : Migrating = record old { moves = c.push.new.self } in
-    let test : is_moved_locked old.retry (slice_index old.aborts.items c.args.page) (length c.args.mapped) ≡ true = ap (λ (k : ℕ). is_moved_locked old.retry k (length c.args.mapped)) (sym c.aborts_of.ensures) ∙ ap (λ (k : ℕ). is_moved_locked old.retry c.aborts_of.result k) (sym c.len-count.ensures.count) ∙ sym c.if-is_moved_locked.ensures in
+    let test : is_moved_locked old.retry (slice_index old.aborts.items c.args.page) (length c.args.mapped) ≡ true = ap (λ (k : ℕ). is_moved_locked old.retry k (length c.args.mapped)) (sym c.aborts_of-aborts.ensures) ∙ ap (λ (k : ℕ). is_moved_locked old.retry c.aborts_of-aborts.result k) (sym c.len-count.ensures.count) ∙ sym c.if-is_moved_locked.ensures in
     let moves : m.moves ≡ old.moves ++ (c.args.page, length c.args.mapped) ∷ [] = c.push.ensures ∙ ap (λ (k : ℕ). old.moves ++ (c.args.page, k) ∷ []) c.len-count.ensures.count in
     gives-fit IsNewWork old.geometry.now old.spent c.plan_from.new.self c.plan_from.result (PlansLeft m (c.args.index + 1) (plan_of m)) (PlannedLeft old c.args.index c.args.page c.args.mapped) c.plan_from.ensures.next (planned-moves old c.args.index c.args.page c.args.mapped m.moves test moves)
 
@@ -71,7 +71,7 @@ pub returns-else-is_moved_locked-clause-next : goal.returns-else-is_moved_locked
 returns-else-is_moved_locked-clause-next c =
     let old = c.args.self.now in
     let m : Migrating = record old { pieces = c.push-else-is_moved_locked.new.self } in
-    let test : is_moved_locked old.retry (slice_index old.aborts.items c.args.page) (length c.args.mapped) ≡ false = ap (λ (k : ℕ). is_moved_locked old.retry k (length c.args.mapped)) (sym c.aborts_of.ensures) ∙ ap (λ (k : ℕ). is_moved_locked old.retry c.aborts_of.result k) (sym c.len-count.ensures.count) ∙ sym c.if-is_moved_locked.ensures in
+    let test : is_moved_locked old.retry (slice_index old.aborts.items c.args.page) (length c.args.mapped) ≡ false = ap (λ (k : ℕ). is_moved_locked old.retry k (length c.args.mapped)) (sym c.aborts_of-aborts.ensures) ∙ ap (λ (k : ℕ). is_moved_locked old.retry c.aborts_of-aborts.result k) (sym c.len-count.ensures.count) ∙ sym c.if-is_moved_locked.ensures in
     let v : c.first_or-vpage.result ≡ first_or c.args.mapped (vpages_of old.geometry.now c.args.page) = c.first_or-vpage.ensures ∙ ap (first_or c.args.mapped) c.of_page.ensures in
     let pieces : m.pieces ≡ old.pieces ++ (c.args.page, first_or c.args.mapped (vpages_of old.geometry.now c.args.page)) ∷ [] = c.push-else-is_moved_locked.ensures ∙ ap (λ (k : ℕ). old.pieces ++ (c.args.page, k) ∷ []) v in
     gives-fit IsNewWork old.geometry.now old.spent c.plan_from-else-is_moved_locked.new.self c.plan_from-else-is_moved_locked.result (PlansLeft m (c.args.index + 1) (plan_of m)) (PlannedLeft old c.args.index c.args.page c.args.mapped) c.plan_from-else-is_moved_locked.ensures.next (planned-pieces old c.args.index c.args.page c.args.mapped m.pieces test pieces)
