@@ -63,7 +63,8 @@ pub returns-then-is_moved_locked-clause-next : goal.returns-then-is_moved_locked
 returns-then-is_moved_locked-clause-next c =
     let old = c.args.self.now in
     let m : Migrating = record old { moves = c.push.new.self } in
-    let test : is_moved_locked old.retry (slice_index old.aborts.items c.args.page) (length c.args.mapped) ≡ true = ap (λ (k : ℕ). is_moved_locked old.retry k (length c.args.mapped)) (sym c.aborts_of-aborts.ensures) ∙ ap (λ (k : ℕ). is_moved_locked old.retry c.aborts_of-aborts.result k) (sym c.len-count.ensures.count) ∙ sym c.if-is_moved_locked.ensures in
+    let same : c.deref.result.now ≡ old.aborts.items = cc in
+    let test : is_moved_locked old.retry (slice_index old.aborts.items c.args.page) (length c.args.mapped) ≡ true = ap (λ (l : List ℕ). is_moved_locked old.retry (slice_index l c.args.page) (length c.args.mapped)) (sym same) ∙ ap (λ (k : ℕ). is_moved_locked old.retry k (length c.args.mapped)) (sym c.aborts_of-aborts.ensures) ∙ ap (λ (k : ℕ). is_moved_locked old.retry c.aborts_of-aborts.result k) (sym c.len-count.ensures.count) ∙ sym c.if-is_moved_locked.ensures in
     let moves : m.moves ≡ old.moves ++ (c.args.page, length c.args.mapped) ∷ [] = c.push.ensures ∙ ap (λ (k : ℕ). old.moves ++ (c.args.page, k) ∷ []) c.len-count.ensures.count in
     gives-fit IsNewWork old.geometry.now old.spent c.plan_from.new.self c.plan_from.result (PlansLeft m (c.args.index + 1) (plan_of m)) (PlannedLeft old c.args.index c.args.page c.args.mapped) c.plan_from.ensures.next (planned-moves old c.args.index c.args.page c.args.mapped m.moves test moves)
 
@@ -71,7 +72,8 @@ pub returns-else-is_moved_locked-clause-next : goal.returns-else-is_moved_locked
 returns-else-is_moved_locked-clause-next c =
     let old = c.args.self.now in
     let m : Migrating = record old { pieces = c.push-else-is_moved_locked.new.self } in
-    let test : is_moved_locked old.retry (slice_index old.aborts.items c.args.page) (length c.args.mapped) ≡ false = ap (λ (k : ℕ). is_moved_locked old.retry k (length c.args.mapped)) (sym c.aborts_of-aborts.ensures) ∙ ap (λ (k : ℕ). is_moved_locked old.retry c.aborts_of-aborts.result k) (sym c.len-count.ensures.count) ∙ sym c.if-is_moved_locked.ensures in
+    let same : c.deref.result.now ≡ old.aborts.items = cc in
+    let test : is_moved_locked old.retry (slice_index old.aborts.items c.args.page) (length c.args.mapped) ≡ false = ap (λ (l : List ℕ). is_moved_locked old.retry (slice_index l c.args.page) (length c.args.mapped)) (sym same) ∙ ap (λ (k : ℕ). is_moved_locked old.retry k (length c.args.mapped)) (sym c.aborts_of-aborts.ensures) ∙ ap (λ (k : ℕ). is_moved_locked old.retry c.aborts_of-aborts.result k) (sym c.len-count.ensures.count) ∙ sym c.if-is_moved_locked.ensures in
     let v : c.first_or-vpage.result ≡ first_or c.args.mapped (vpages_of old.geometry.now c.args.page) = c.first_or-vpage.ensures ∙ ap (first_or c.args.mapped) c.of_page.ensures in
     let pieces : m.pieces ≡ old.pieces ++ (c.args.page, first_or c.args.mapped (vpages_of old.geometry.now c.args.page)) ∷ [] = c.push-else-is_moved_locked.ensures ∙ ap (λ (k : ℕ). old.pieces ++ (c.args.page, k) ∷ []) v in
     gives-fit IsNewWork old.geometry.now old.spent c.plan_from-else-is_moved_locked.new.self c.plan_from-else-is_moved_locked.result (PlansLeft m (c.args.index + 1) (plan_of m)) (PlannedLeft old c.args.index c.args.page c.args.mapped) c.plan_from-else-is_moved_locked.ensures.next (planned-pieces old c.args.index c.args.page c.args.mapped m.pieces test pieces)
