@@ -51,7 +51,19 @@ module _ (m : Migrating) where
     is = either-other (is_mapped m.geometry.now page) (AfterLast m.geometry.now (next_of m s.tries) (kept_of m) (Some page)) (comes_at m TakingLast s.tries) notes outcome is s.is;
   }
 
+  -- the last candidate was taken
+  pub unmarks-start : Fits (UnmarksLeft m 0) (LastLeft m None)
+  unmarks-start notes outcome s =
+      let e : page_count m.geometry.now - 0 ≡ page_count m.geometry.now = omega arith in
+      record { tries = s.tries; is = subst (λ (k : ℕ). Unmarks m.geometry.now (range_with_len 0 k) notes outcome) e s.is }
+
   -- Pending pages.
+
+  pub pending-begins : (taken : List ℕ) → taken ≡ [] → Fits (TakesLeft (record m { taken = taken })) (PendingLeft m)
+  pending-begins taken is notes outcome s =
+      let P : List ℕ → Type 0 = λ l. Sometimes (TakesLeft (record m { taken = l })) notes outcome in
+      let t = subst P is s in
+      record { tries = suc t.tries; is = t.is }
 
   takes-by : (more n : ℕ) (notes : Notes) (outcome : Unit {0}) → most_taken - length m.taken ≡ more → TakesPending m.geometry.now (λ taken. TakenLeft m taken n) more m.taken notes outcome → TakesLeft m n notes outcome
   takes-by more n notes outcome is h = rw is h
@@ -102,6 +114,14 @@ module _ (m : Migrating) where
 
   pub taken-plans : (page : ℕ) → drop 0 m.taken ≡ page ∷ drop 1 m.taken → Fits (PlansLeft (record m { pieces = []; moves = [] }) 0 no_plan) (TakenLeft m m.taken)
   taken-plans page is notes outcome s = record { tries = s.tries; is = taken-plans-by m.taken (drop 1 m.taken) page s.tries notes outcome is s.is }
+
+  plan-none : (pieces moves : List (ℕ × ℕ)) → pieces ≡ [] → moves ≡ [] → ◌≡◌ {A = Plan} (record { pieces = pieces; moves = moves }) no_plan
+  plan-none pieces moves is are = ap (λ (l : List (ℕ × ℕ)). let q : Plan = record { pieces = l; moves = moves } in q) is ∙ ap (λ (l : List (ℕ × ℕ)). let q : Plan = record { pieces = []; moves = l } in q) are
+
+  pub taken-planned : (page : ℕ) (pieces moves : List (ℕ × ℕ)) → pieces ≡ [] → moves ≡ [] → drop 0 m.taken ≡ page ∷ drop 1 m.taken → Fits (PlansLeft m 0 (record { pieces = pieces; moves = moves })) (TakenLeft m m.taken)
+  taken-planned page pieces moves is are next notes outcome s =
+      let P : Plan → Type 0 = λ q. Sometimes (PlansLeft m 0 q) notes outcome in
+      taken-plans page next notes outcome (subst P (plan-none pieces moves is are) s)
 
   pub plans-one : (index page : ℕ) → drop index m.taken ≡ page ∷ drop (index + 1) m.taken → Fits (comes_at m (Planning index page)) (PlansLeft m index (plan_of m))
   plans-one index page is notes outcome s = record {
@@ -172,3 +192,8 @@ module _ (m : Migrating) where
 
   pub unmarks-all : (page : ℕ) → page_count m.geometry.now ≤ page → Sometimes (UnmarksLeft m page) [] tt
   unmarks-all page past = record { tries = zero; is = unmarks-by page zero zero [] tt (omega arith) (ends-now tt) }
+
+-- there is an item
+pub some-item : {A : Type 0} (xs rest : List A) (x : A) → drop 0 xs ≡ x ∷ rest → xs ≢ []
+some-item [] rest x is = cc
+some-item (y ∷ ys) rest x is = λ none. cc

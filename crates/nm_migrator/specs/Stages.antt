@@ -270,11 +270,22 @@ IsBatching m = HasPlanned m × (m.pieces ≢ [])
 
 -- pages are to be moved while they are locked
 abbrev pub HasMoves : Migrating → Type 0
-HasMoves m = IsKept m × All (IsMove m.geometry.now) m.moves
+HasMoves m = IsKept m × All (IsMove m.geometry.now) m.moves × (length m.moves ≤ most_taken)
+
+-- and pages are to be put in the pending ones again
+abbrev pub HasAgain : Migrating → Type 0
+HasAgain m = HasMoves m × (length m.again ≤ most_taken)
+
+-- the page at this place is put in the pending ones
+abbrev pub IsPuttingAgain : Migrating → ℕ → Type 0
+IsPuttingAgain m index = HasAgain m × (index < most_taken)
+
+abbrev pub IsPuttingMoved : Migrating → ℕ → Type 0
+IsPuttingMoved m index = HasMoves m × (index < most_taken)
 
 -- a page is moved: its move has the list for taken words
-abbrev pub IsMoving : Migrating → ℕ → ℕ → Type 0
-IsMoving m page count = HasCounts m.geometry.now m.aborts.items × All (IsMove m.geometry.now) m.moves × IsMove m.geometry.now (page, count)
+abbrev pub IsMoving : Migrating → ℕ → ℕ → ℕ → Type 0
+IsMoving m index page count = HasCounts m.geometry.now m.aborts.items × All (IsMove m.geometry.now) m.moves × IsMove m.geometry.now (page, count) × (length m.moves ≤ most_taken) × (index < most_taken)
 
 abbrev pub IsUnmarking : Migrating → ℕ → Type 0
 IsUnmarking m page = IsKept m × IsPage m.geometry.now page
@@ -293,9 +304,9 @@ KnownAt m TakingPending = IsTaking m
 KnownAt m (PuttingTwice page) = HasTaken m
 KnownAt m (Planning index page) = IsPlanning m index page
 KnownAt m Batching = IsBatching m
-KnownAt m (PuttingAgain index page) = HasMoves m
-KnownAt m (Moving index page count) = IsMoving m page count
-KnownAt m (PuttingMoved index page) = HasMoves m
+KnownAt m (PuttingAgain index page) = IsPuttingAgain m index
+KnownAt m (Moving index page count) = IsMoving m index page count
+KnownAt m (PuttingMoved index page) = IsPuttingMoved m index
 KnownAt m Asking = IsKept m
 KnownAt m TakingLast = IsKept m
 KnownAt m (Unmarking page) = IsUnmarking m page

@@ -81,7 +81,8 @@ pub(crate) fn again_of(
     pieces: &PieceList<(u32, u32)>,
     ends: &PieceList<TxnEnd>,
 ) -> PieceList<u32>
-    ensures { result ≡ again_of pieces.now ends.now }
+    ensures pages { result ≡ again_of pieces.now ends.now }
+    ensures few { length result ≤ 8 }
 {
     let mut again = PieceList::new();
     for index in 0..pieces.len() {

@@ -229,7 +229,8 @@ impl<'a> Routine<MigratorPiece<'a>> for Migrating<'a> {
             → IsNextTask work_made IsNewWork MayWork IsWork work_counts (IsMigratingAt self.new) (migrating_left self.new) (migrating_left self.old end) self.old.geometry.now later result }
     {
         match self.stage {
-            MigratingStage::New | MigratingStage::Over => unreachable!(),
+            MigratingStage::New => unreachable!(),
+            MigratingStage::Over => unreachable!(),
             MigratingStage::TakingCandidate => self.candidate(page_in(&end)),
             MigratingStage::Judging(page) => self.judged(page, seen_in(work_in(end)).hot),
             MigratingStage::Heating(page) => self.heated(page, reply_in(work_in(end))),

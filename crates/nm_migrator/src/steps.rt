@@ -6,7 +6,8 @@ ghost use Rattle.nm_transfer.specs.Stages.{HoldsWords};
 ghost use Rattle.nm_vpages.specs.VPages.{most_vpages};
 ghost use Rattle.nm_migrator_work.specs.Works.{IsNewWork};
 ghost use Rattle.nm_migrator.specs.Ends.{move_in, drawn_in, words_in};
-ghost use Rattle.nm_migrator.specs.Stages.{kept_of, plan_of, migrating_made, CandidateLeft, LastLeft, JudgedLeft, HeatedLeft, CooledLeft, BackLeft, PutLeft, CandidatesLeft, PendingLeft, TakenLeft, TakesLeft, PageLeft, PlansLeft, PlannedLeft, BatchesLeft, BatchedLeft, AgainLeft, MovesLeft, MovedLeft, AskedLeft, UnmarksLeft, HasCounts, IsKept, IsCandidate, HasTaken, IsTaking, HasPlan, IsPlanning, HasPlanned, IsBatching, HasMoves, IsMove, Gives};
+ghost use Rattle.nm_migrator.specs.Planned.{most_taken};
+ghost use Rattle.nm_migrator.specs.Stages.{kept_of, plan_of, migrating_made, CandidateLeft, LastLeft, JudgedLeft, HeatedLeft, CooledLeft, BackLeft, PutLeft, CandidatesLeft, PendingLeft, TakenLeft, TakesLeft, PageLeft, PlansLeft, PlannedLeft, BatchesLeft, BatchedLeft, AgainLeft, MovesLeft, MovedLeft, AskedLeft, UnmarksLeft, HasCounts, IsKept, IsCandidate, HasTaken, IsTaking, HasPlan, IsPlanning, HasPlanned, IsBatching, HasMoves, HasAgain, IsPuttingAgain, IsPuttingMoved, IsMove, Gives};
 
 use crate::ends::{drawn_in, move_in, words_in};
 use crate::lists::{again_of, count_aborts, first_or, is_among, is_mapped, is_moved_locked};
@@ -263,7 +264,7 @@ impl<'a> Migrating<'a> {
 
     /// Puts the page at this place in the pending pages again; where there is none, the locked moves begin.
     fn again_from(&mut self, index: usize) -> Task<MigratorPiece<'a>>
-        requires { HasMoves self.old }
+        requires { HasAgain self.old }
         ensures made { migrating_made self.new ≡ migrating_made self.old }
         ensures next { Gives IsNewWork self.old.geometry.now self.old.spent self.new result (AgainLeft self.old index) }
     {
@@ -280,7 +281,7 @@ impl<'a> Migrating<'a> {
         page: u32,
         full: bool,
     ) -> Task<MigratorPiece<'a>>
-        requires { HasMoves self.old }
+        requires { IsPuttingAgain self.old index }
         ensures made { migrating_made self.new ≡ migrating_made self.old }
         ensures next { Gives IsNewWork self.old.geometry.now self.old.spent self.new result (λ n. PutLeft page full (AgainLeft self.old (index + 1) n)) }
     {
@@ -312,6 +313,8 @@ impl<'a> Migrating<'a> {
     ) -> Task<MigratorPiece<'a>>
         requires has { HasCounts self.old.geometry.now self.old.aborts.items }
         requires moves { All (IsMove self.old.geometry.now) self.old.moves }
+        requires few { length self.old.moves ≤ most_taken }
+        requires index { index < most_taken }
         requires words { HoldsWords (words_in end) }
         ensures made { migrating_made self.new ≡ migrating_made self.old }
         ensures next { Gives IsNewWork self.old.geometry.now (drawn_in end) self.new result (MovedLeft self.old index page (move_in end) (drawn_in end)) }
@@ -333,7 +336,7 @@ impl<'a> Migrating<'a> {
         page: u32,
         full: bool,
     ) -> Task<MigratorPiece<'a>>
-        requires { HasMoves self.old }
+        requires { IsPuttingMoved self.old index }
         ensures made { migrating_made self.new ≡ migrating_made self.old }
         ensures next { Gives IsNewWork self.old.geometry.now self.old.spent self.new result (λ n. PutLeft page full (MovesLeft self.old (index + 1) (kept_of self.old) n)) }
     {
