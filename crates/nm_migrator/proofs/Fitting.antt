@@ -1,5 +1,5 @@
 -- What comes with the stage that is come to is what was left.
-use Rattle.std.proofs.Common.{◌≡◌, ◌≢◌, ℕ, zero, suc, ◌+◌, ◌-◌, ◌<◌, ◌≤◌, Bool, true, false, List, [], ◌∷◌, ◌++◌, length, drop, Option, Some, None, refl, sym, ap, ◌∙◌, subst, arith}
+use Rattle.std.proofs.Common.{◌≡◌, ◌≢◌, ℕ, zero, suc, ◌+◌, ◌-◌, ◌<◌, ◌≤◌, Bool, true, false, List, [], ◌∷◌, ◌++◌, length, drop, slice_index, slice_set, Option, Some, None, refl, sym, ap, ◌∙◌, subst, arith}
 use Rattle.std.proofs.lemmas.List.{length_push}
 use Rattle.std.specs.List.{range_with_len}
 use Rattle.nm_base.specs.Geometry.{Geometry, page_count}
@@ -7,14 +7,17 @@ use Rattle.nm_action.specs.declared.action.Reply.TheVariants as replies
 use Rattle.nm_action.specs.declared.turn.Lane.TheVariants.{Candidates, Pending}
 use Rattle.nm_part.specs.Patterns.{Ends, Follows, Either, Each, Sometimes}
 use Rattle.nm_part.proofs.Patterns.{ends-now, either-yes, either-other}
+use Rattle.nm_txn.specs.declared.end.TxnEnd.{TxnEnd}
+use Rattle.nm_vpages.specs.VPages.{vpages_of}
+use Rattle.nm_drawing.specs.declared.drawing.Drawn.{Drawn}
 use Rattle.nm_worker.specs.Notes.{Notes}
 use Rattle.nm_migrator_work.specs.Works.{made_mark, made_looks, made_batch, made_move}
 use Rattle.nm_migrator.specs.declared.migrating.Migrating.{Migrating}
 use Rattle.nm_migrator.specs.declared.migrating.MigratingStage.TheVariants.{TakingCandidate, Judging, Heating, PuttingHot, Cooling, PuttingBack, Spilling, TakingPending, PuttingTwice, Planning, Batching, PuttingAgain, Moving, PuttingMoved, Asking, TakingLast, Unmarking, Over}
-use Rattle.nm_migrator.specs.Ends.{seen_in, batch_in, move_in, drawn_in}
-use Rattle.nm_migrator.specs.Planned.{Kept, Plan, no_plan, is_mapped, is_among, most_taken, planned, again_of, batched, is_busy_move, moved}
-use Rattle.nm_migrator.specs.Migrating.{Sequence, Does, Puts, Takes, Heats, Cools, UnmarkNext, Unmarks, AfterLast, Asks, MoveNext, Moves, PutNext, AfterBatch, Batches, PlanNext, Plans, AfterTakes, TakesPending, AfterCandidate}
-use Rattle.nm_migrator.specs.Stages.{kept_of, plan_of, next_of, comes_at, CandidateLeft, LastLeft, JudgedLeft, CandidatesLeft, PendingLeft, TakenLeft, TakesLeft, MoreLeft, PageLeft, PlansLeft, BatchesLeft, AgainLeft, MovesLeft, AskedLeft, UnmarksLeft}
+use Rattle.nm_migrator.specs.Ends.{reply_in, seen_in, batch_in, move_in, drawn_in}
+use Rattle.nm_migrator.specs.Planned.{Kept, Plan, no_plan, is_mapped, is_among, most_taken, is_moved_locked, first_or, planned_by, planned, aborts_with, again_of, batched, is_busy_move, moved}
+use Rattle.nm_migrator.specs.Migrating.{Sequence, Does, Puts, Takes, AfterHeat, Heats, Cools, UnmarkNext, Unmarks, AfterLast, Asks, MoveNext, Moves, PutNext, AfterBatch, Batches, PlanNext, Plans, AfterTakes, TakesPending, AfterCandidate}
+use Rattle.nm_migrator.specs.Stages.{kept_of, plan_of, next_of, comes_at, CandidateLeft, LastLeft, JudgedLeft, CandidatesLeft, PendingLeft, TakenLeft, TakesLeft, MoreLeft, PageLeft, PlansLeft, PlannedLeft, BatchesLeft, BatchedLeft, AgainLeft, MovesLeft, AskedLeft, UnmarksLeft}
 
 -- every list of the one is a list of the other
 abbrev pub Fits : (ℕ → Sequence) → (ℕ → Sequence) → Type 0
@@ -56,6 +59,13 @@ module _ (m : Migrating) where
   unmarks-start notes outcome s =
       let e : page_count m.geometry.now - 0 ≡ page_count m.geometry.now = omega arith in
       record { tries = s.tries; is = subst (λ (k : ℕ). Unmarks m.geometry.now (range_with_len 0 k) notes outcome) e s.is }
+
+  -- a hot candidate is marked as pending
+  pub heats-fit : (page : ℕ) (items : List ℕ) → items ≡ slice_set m.aborts.items page 0
+      → Fits (λ n. Does m.geometry.now (made_mark page 1 2) (λ end. AfterHeat (next_of m n) (record { aborts = items; spent = m.spent }) page (reply_in end))) (JudgedLeft m page true)
+  heats-fit page items is notes outcome s =
+      let P : List ℕ → Type 0 = λ l. Sometimes (λ n. Does m.geometry.now (made_mark page 1 2) (λ end. AfterHeat (next_of m n) (record { aborts = l; spent = m.spent }) page (reply_in end))) notes outcome in
+      subst P is s
 
   -- Pending pages.
 
@@ -135,6 +145,21 @@ module _ (m : Migrating) where
     is = subst (λ (l : List ℕ). Plans m.geometry.now m.retry (next_of m s.tries) (kept_of m) l (plan_of m) notes outcome) (sym none) s.is;
   }
 
+  planned-by : (index page : ℕ) (mapped : List ℕ) (plan : Plan) (test : Bool) → is_moved_locked m.retry (slice_index m.aborts.items page) (length mapped) ≡ test → plan ≡ planned_by test m.geometry.now page mapped (plan_of m)
+      → Fits (PlansLeft m (index + 1) plan) (PlannedLeft m index page mapped)
+  planned-by index page mapped plan test is same notes outcome s =
+      let P : Plan → Type 0 = λ q. Sometimes (PlansLeft m (index + 1) q) notes outcome in
+      let e : plan ≡ planned m.geometry.now m.retry m.aborts.items page mapped (plan_of m) = same ∙ sym (ap (λ (b : Bool). planned_by b m.geometry.now page mapped (plan_of m)) is) in
+      subst P e s
+
+  pub planned-moves : (index page : ℕ) (mapped : List ℕ) (moves : List (ℕ × ℕ)) → is_moved_locked m.retry (slice_index m.aborts.items page) (length mapped) ≡ true → moves ≡ m.moves ++ (page, length mapped) ∷ []
+      → Fits (PlansLeft m (index + 1) (record { pieces = m.pieces; moves = moves })) (PlannedLeft m index page mapped)
+  planned-moves index page mapped moves is are = planned-by index page mapped (record { pieces = m.pieces; moves = moves }) true is (ap (λ (l : List (ℕ × ℕ)). let q : Plan = record { pieces = m.pieces; moves = l } in q) are)
+
+  pub planned-pieces : (index page : ℕ) (mapped : List ℕ) (pieces : List (ℕ × ℕ)) → is_moved_locked m.retry (slice_index m.aborts.items page) (length mapped) ≡ false → pieces ≡ m.pieces ++ (page, first_or mapped (vpages_of m.geometry.now page)) ∷ []
+      → Fits (PlansLeft m (index + 1) (record { pieces = pieces; moves = m.moves })) (PlannedLeft m index page mapped)
+  planned-pieces index page mapped pieces is are = planned-by index page mapped (record { pieces = pieces; moves = m.moves }) false is (ap (λ (l : List (ℕ × ℕ)). let q : Plan = record { pieces = l; moves = m.moves } in q) are)
+
   -- The batch.
 
   batches-by : (pieces rest : List (ℕ × ℕ)) (p : ℕ × ℕ) (n : ℕ) (notes : Notes) (outcome : Unit {0}) → pieces ≡ p ∷ rest
@@ -152,6 +177,13 @@ module _ (m : Migrating) where
     tries = s.tries;
     is = subst (λ (l : List (ℕ × ℕ)). Batches m.geometry.now (next_of m s.tries) (kept_of m) m.moves l notes outcome) (sym none) s.is;
   }
+
+  pub again-starts : (told : Drawn (List TxnEnd)) (items again : List ℕ) → items ≡ aborts_with m.pieces told.end m.aborts.items → again ≡ again_of m.pieces told.end
+      → Fits (λ n. AfterBatch m.geometry.now (next_of m n) m.moves (drop 0 again) (record { aborts = items; spent = told.spent })) (BatchedLeft m told)
+  again-starts told items again is are notes outcome s =
+      let P : List ℕ → Type 0 = λ l. Sometimes (λ n. AfterBatch m.geometry.now (next_of m n) m.moves again (record { aborts = l; spent = told.spent })) notes outcome in
+      let Q : List ℕ → Type 0 = λ l. Sometimes (λ n. AfterBatch m.geometry.now (next_of m n) m.moves l (record { aborts = aborts_with m.pieces told.end m.aborts.items; spent = told.spent })) notes outcome in
+      subst Q are (subst P is s)
 
   pub again-one : (index page : ℕ) → drop index m.again ≡ page ∷ drop (index + 1) m.again → Fits (comes_at m (PuttingAgain index page)) (AgainLeft m index)
   again-one index page is notes outcome s = record {

@@ -6,3 +6,4 @@ pub mod Resting
 pub mod Planning
 pub mod Fitting
 pub mod Counting
+pub mod Acting

@@ -143,7 +143,7 @@ IsOver over m now later task end = IsMigratingAt m now (task_data work_made task
 pub known-at : (m : Migrating) (stage : MigratingStage) (now : View) (task : Task WorkMade) → m.stage ≡ stage → IsMigratingAt m now task → KnownAt m stage
 known-at m stage now task at k = subst (λ (s : MigratingStage). KnownAt m s) at k.known
 
-after-at : (over : MigratorPiece → Geometry → Own → WorkEnd → Type 0) (m : Migrating) (stage : MigratingStage) (now later : View) (task : Task MigratorPiece) (end : Ended WorkEnd)
+pub after-at : (over : MigratorPiece → Geometry → Own → WorkEnd → Type 0) (m : Migrating) (stage : MigratingStage) (now later : View) (task : Task MigratorPiece) (end : Ended WorkEnd)
     → m.stage ≡ stage → IsOver over m now later task end → IsAfter m.geometry.now now later (stage_task m stage) end
 after-at over m stage now later task end at h =
     subst (λ (t : Task WorkMade). IsAfter m.geometry.now now later t end) (h.0.is ∙ ap (stage_task m) at) (over-after over m.geometry.now now later task end h.1)

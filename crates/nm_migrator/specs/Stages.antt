@@ -14,7 +14,6 @@ use Rattle.nm_vpages.specs.VPages.{vpages_of}
 use Rattle.nm_looks.specs.declared.seen.Seen.{Seen}
 use Rattle.nm_cool.specs.declared.cool.Cooled.{Cooled}
 use Rattle.nm_txn.specs.declared.end.TxnEnd.{TxnEnd}
-use Rattle.nm_locked.specs.declared.locked.LockedEnd.{LockedEnd}
 use Rattle.nm_transfer.specs.Stages.{HoldsWords}
 use Rattle.nm_drawing.specs.declared.drawing.Drawn.{Drawn}
 use Rattle.nm_worker.specs.declared.routine.Task.{Task}
@@ -143,8 +142,8 @@ AgainLeft m index n = AfterBatch m.geometry.now (next_of m n) m.moves (drop inde
 abbrev pub MovesLeft : Migrating → ℕ → Kept → ℕ → Sequence
 MovesLeft m index kept n = Moves m.geometry.now (next_of m n) (drop index m.moves) kept
 
-abbrev pub MovedLeft : Migrating → ℕ → ℕ → LockedEnd → Spent → ℕ → Sequence
-MovedLeft m index page end spent n = Either (is_busy_move end) (Puts page (MovesLeft m (index + 1) (moved spent (kept_of m)) n)) (MovesLeft m (index + 1) (moved spent (kept_of m)) n)
+abbrev pub MovedLeft : Migrating → ℕ → ℕ → Bool → Spent → ℕ → Sequence
+MovedLeft m index page busy spent n = Either busy (Puts page (MovesLeft m (index + 1) (moved spent (kept_of m)) n)) (MovesLeft m (index + 1) (moved spent (kept_of m)) n)
 
 -- after the processors were asked
 abbrev pub AskedLeft : Migrating → Bool → ℕ → Sequence
@@ -172,7 +171,7 @@ left_at m (PuttingTwice page) end n = PutLeft page (full_in end) (TakenLeft m m.
 left_at m (Planning index page) end n = PlannedLeft m index page (seen_in (work_in end)).mapped n
 left_at m Batching end n = BatchedLeft m (batch_in (work_in end)) n
 left_at m (PuttingAgain index page) end n = PutLeft page (full_in end) (AgainLeft m (index + 1) n)
-left_at m (Moving index page count) end n = MovedLeft m index page (move_in (work_in end)) (drawn_in (work_in end)) n
+left_at m (Moving index page count) end n = MovedLeft m index page (is_busy_move (move_in (work_in end))) (drawn_in (work_in end)) n
 left_at m (PuttingMoved index page) end n = PutLeft page (full_in end) (MovesLeft m (index + 1) (kept_of m) n)
 left_at m Asking end n = AskedLeft m (all_ended_in (work_in end)) n
 left_at m TakingLast end n = LastLeft m (page_in end) n
@@ -197,7 +196,7 @@ comes_at m (PuttingTwice page) n = Puts page (TakenLeft m m.taken n)
 comes_at m (Planning index page) n = Does m.geometry.now (made_looks m.geometry.now page) (λ end. PlannedLeft m index page (seen_in end).mapped n)
 comes_at m Batching n = Does m.geometry.now (made_batch m.geometry.now m.pieces m.spent) (λ end. BatchedLeft m (batch_in end) n)
 comes_at m (PuttingAgain index page) n = Puts page (AgainLeft m (index + 1) n)
-comes_at m (Moving index page count) n = Does m.geometry.now (made_move m.geometry.now page count m.spent) (λ end. MovedLeft m index page (move_in end) (drawn_in end) n)
+comes_at m (Moving index page count) n = Does m.geometry.now (made_move m.geometry.now page count m.spent) (λ end. MovedLeft m index page (is_busy_move (move_in end)) (drawn_in end) n)
 comes_at m (PuttingMoved index page) n = Puts page (MovesLeft m (index + 1) (kept_of m) n)
 comes_at m Asking n = Asks m.geometry.now (next_of m n) (kept_of m)
 comes_at m TakingLast n = Takes m.geometry.now Candidates (AfterLast m.geometry.now (next_of m n) (kept_of m))
@@ -255,7 +254,7 @@ pub record IsPlanWith (g : Geometry) (plan : Plan) (rest : List ℕ) : Type 0 wh
   pub single : Once itself rest
 
 abbrev pub HasPlan : Migrating → ℕ → Type 0
-HasPlan m index = IsKept m × IsPlanWith m.geometry.now (plan_of m) (drop index m.taken)
+HasPlan m index = IsKept m × IsPlanWith m.geometry.now (plan_of m) (drop index m.taken) × (length m.taken ≤ most_taken)
 
 abbrev pub IsPlanning : Migrating → ℕ → ℕ → Type 0
 IsPlanning m index page = HasPlan m index × (drop index m.taken ≡ page ∷ drop (index + 1) m.taken)

@@ -2,6 +2,7 @@
 
 ghost use Rattle.std.specs.Prelude.{◌≡◌};
 ghost use Rattle.nm_tally.specs.Counts.{zero_tally};
+ghost use Rattle.nm_migrator.specs.Planned.{is_busy_move};
 ghost use Rattle.nm_migrator.specs.Ends.{reply_in, seen_in, cooled_in, batch_in, move_in, drawn_in, all_ended_in, words_in, work_in, full_in, page_in, piece_counts, pieces_counts, move_counts, work_counts};
 
 use nm_batch::PieceList;
@@ -88,13 +89,26 @@ pub(crate) fn batch_in(end: MigratorEnd) -> Drawn<PieceList<TxnEnd>>
     }
 }
 
-/// How a locked move ended.
-pub(crate) fn move_in(end: &MigratorEnd) -> LockedEnd
-    ensures { result ≡ move_in end.now }
+/// Whether a locked move ended since its page was busy.
+pub(crate) fn is_busy_in(end: &MigratorEnd) -> bool
+    ensures { result ≡ is_busy_move (move_in end.now) }
 {
     match end {
-        MigratorWork::Move(told) => told.end.end,
-        _ => LockedEnd::Gone,
+        MigratorWork::Move(told) => is_busy_move(told.end.end),
+        _ => false,
+    }
+}
+
+/// Whether a locked move that ended so found its page busy.
+fn is_busy_move(end: LockedEnd) -> bool
+    ensures { result ≡ is_busy_move end }
+{
+    match end {
+        LockedEnd::Busy => true,
+        LockedEnd::Moved => false,
+        LockedEnd::NoFrame(_) => false,
+        LockedEnd::Gone => false,
+        LockedEnd::Worn => false,
     }
 }
 

@@ -1,6 +1,6 @@
 //! Lists of pages, and the counts of their aborts.
 
-ghost use Rattle.std.specs.Prelude.{◌≡◌, ◌+◌, ◌<◌, ◌≤◌, [], length, All};
+ghost use Rattle.std.specs.Prelude.{◌≡◌, ◌+◌, ◌<◌, ◌≤◌, [], length, slice_index, slice_set, All};
 ghost use Rattle.nm_view.specs.Lists.{first};
 ghost use Rattle.nm_migrator.specs.Planned.{is_mapped, is_among, first_or, aborted_more, again_of, aborts_with, is_again, is_moved_locked};
 
@@ -123,4 +123,32 @@ pub(crate) fn count_aborts(
             count_abort(aborts, page);
         }
     }
+}
+
+/// The same of a vector.
+pub(crate) fn count_aborts_in(
+    aborts: &mut Vec<u32>,
+    pieces: &PieceList<(u32, u32)>,
+    ends: &PieceList<TxnEnd>,
+)
+    requires { All (λ p. first p < length aborts.old.items) pieces.now }
+    ensures { aborts.new.items ≡ aborts_with pieces.now ends.now aborts.old.items }
+{
+    count_aborts(aborts, pieces, ends);
+}
+
+/// Sets the count of a page to 0. Condition: there is a count for it.
+pub(crate) fn clear_aborts(aborts: &mut Vec<u32>, page: u32)
+    requires { page < length aborts.old.items }
+    ensures { aborts.new.items ≡ slice_set aborts.old.items page 0 }
+{
+    aborts[page as usize] = 0;
+}
+
+/// How many aborts of a page were counted. Condition: there is a count for it.
+pub(crate) fn aborts_of(aborts: &[u32], page: u32) -> u32
+    requires { page < length aborts.now }
+    ensures { result ≡ slice_index aborts.now page }
+{
+    aborts[page as usize]
 }

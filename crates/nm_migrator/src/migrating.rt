@@ -12,7 +12,8 @@ ghost use Rattle.nm_migrator.specs.Migrating.{IsMigrating};
 ghost use Rattle.nm_migrator.specs.Stages.{migrating_made, migrating_left, stage_task, IsNewTask, MayGo, IsNewMigrating, IsMigratingAt};
 
 use crate::ends::{
-    all_ended_in, batch_in, cooled_in, full_in, page_in, reply_in, seen_in, work_counts, work_in,
+    all_ended_in, batch_in, cooled_in, drawn_in, full_in, is_busy_in, page_in, reply_in, seen_in,
+    words_in, work_counts, work_in,
 };
 use crate::lists::copied;
 use nm_base::Geometry;
@@ -247,7 +248,12 @@ impl<'a> Routine<MigratorPiece<'a>> for Migrating<'a> {
             MigratingStage::PuttingAgain { index, page } => {
                 self.put_again(index, page, full_in(&end))
             }
-            MigratingStage::Moving { index, page, .. } => self.moved(index, page, work_in(end)),
+            MigratingStage::Moving { index, page, .. } => {
+                let end = work_in(end);
+                let busy = is_busy_in(&end);
+                let spent = drawn_in(&end);
+                self.moved(index, page, busy, spent, words_in(end))
+            }
             MigratingStage::PuttingMoved { index, page } => {
                 self.put_moved(index, page, full_in(&end))
             }

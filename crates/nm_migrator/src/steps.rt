@@ -5,19 +5,20 @@ ghost use Rattle.nm_base.specs.Geometry.{page_count};
 ghost use Rattle.nm_transfer.specs.Stages.{HoldsWords};
 ghost use Rattle.nm_vpages.specs.VPages.{most_vpages};
 ghost use Rattle.nm_migrator_work.specs.Works.{IsNewWork};
-ghost use Rattle.nm_migrator.specs.Ends.{move_in, drawn_in, words_in};
 ghost use Rattle.nm_migrator.specs.Planned.{most_taken};
 ghost use Rattle.nm_migrator.specs.Stages.{kept_of, plan_of, migrating_made, CandidateLeft, LastLeft, JudgedLeft, HeatedLeft, CooledLeft, BackLeft, PutLeft, CandidatesLeft, PendingLeft, TakenLeft, TakesLeft, PageLeft, PlansLeft, PlannedLeft, BatchesLeft, BatchedLeft, AgainLeft, MovesLeft, MovedLeft, AskedLeft, UnmarksLeft, HasCounts, IsKept, IsCandidate, HasTaken, IsTaking, HasPlan, IsPlanning, HasPlanned, IsBatching, HasMoves, HasAgain, IsPuttingAgain, IsPuttingMoved, IsMove, Gives};
 
-use crate::ends::{drawn_in, move_in, words_in};
-use crate::lists::{again_of, count_aborts, first_or, is_among, is_mapped, is_moved_locked};
+use crate::lists::{
+    aborts_of, again_of, clear_aborts, count_aborts_in, first_or, is_among, is_mapped,
+    is_moved_locked,
+};
 use crate::migrating::{Migrating, MigratingStage};
 use nm_batch::PieceList;
 use nm_cool::Cooled;
 use nm_drawing::Drawn;
-use nm_event::Reply;
-use nm_locked::LockedEnd;
-use nm_migrator_work::{MigratorEnd, MigratorPiece};
+use nm_event::{Reply, Spent};
+use nm_migrator_work::MigratorPiece;
+use nm_transfer::TakenWords;
 use nm_txn::TxnEnd;
 use nm_vpages::VPageSet;
 use nm_worker::Task;
@@ -70,7 +71,7 @@ impl<'a> Migrating<'a> {
         ensures next { Gives IsNewWork self.old.geometry.now self.old.spent self.new result (JudgedLeft self.old page hot) }
     {
         if hot {
-            self.aborts[page as usize] = 0;
+            clear_aborts(&mut self.aborts, page);
             self.go(MigratingStage::Heating(page))
         } else {
             self.go(MigratingStage::Cooling(page))
@@ -85,9 +86,9 @@ impl<'a> Migrating<'a> {
     {
         match reply {
             Reply::Done => self.go(MigratingStage::PuttingHot(page)),
-            Reply::Word(_) | Reply::Busy(_) | Reply::Lost(_) => {
-                self.go(MigratingStage::TakingCandidate)
-            }
+            Reply::Word(_) => self.go(MigratingStage::TakingCandidate),
+            Reply::Busy(_) => self.go(MigratingStage::TakingCandidate),
+            Reply::Lost(_) => self.go(MigratingStage::TakingCandidate),
         }
     }
 
@@ -228,13 +229,15 @@ impl<'a> Migrating<'a> {
         ensures next { Gives IsNewWork self.old.geometry.now self.old.spent self.new result (PlannedLeft self.old index page mapped) }
     {
         let count = mapped.len();
-        if is_moved_locked(self.retry, self.aborts[page as usize], count) {
+        let aborts = aborts_of(&self.aborts, page);
+        if is_moved_locked(self.retry, aborts, count) {
             self.moves.push((page, count));
+            self.plan_from(index + 1)
         } else {
             let vpage = first_or(&mapped, &VPageSet::of_page(self.geometry, page));
             self.pieces.push((page, vpage));
+            self.plan_from(index + 1)
         }
-        self.plan_from(index + 1)
     }
 
     /// Begins the batch; where it has no piece, the locked moves begin.
@@ -256,7 +259,7 @@ impl<'a> Migrating<'a> {
         ensures made { migrating_made self.new ≡ migrating_made self.old }
         ensures next { Gives IsNewWork self.old.geometry.now told.spent self.new result (BatchedLeft self.old told) }
     {
-        count_aborts(&mut self.aborts, &self.pieces, &told.end);
+        count_aborts_in(&mut self.aborts, &self.pieces, &told.end);
         self.again = again_of(&self.pieces, &told.end);
         self.spent = told.spent;
         self.again_from(0)
@@ -304,24 +307,26 @@ impl<'a> Migrating<'a> {
         }
     }
 
-    /// After a locked move: where the page was busy, it is put in the pending pages again.
+    /// After a locked move, at whose end so much was drawn, and which gives the room for taken words back: where the page was
+    /// busy, it is put in the pending pages again.
     pub(crate) fn moved(
         &mut self,
         index: usize,
         page: u32,
-        end: MigratorEnd,
+        busy: bool,
+        spent: Spent,
+        words: Option<TakenWords>,
     ) -> Task<MigratorPiece<'a>>
         requires has { HasCounts self.old.geometry.now self.old.aborts.items }
         requires moves { All (IsMove self.old.geometry.now) self.old.moves }
         requires few { length self.old.moves ≤ most_taken }
         requires index { index < most_taken }
-        requires words { HoldsWords (words_in end) }
+        requires words { HoldsWords words }
         ensures made { migrating_made self.new ≡ migrating_made self.old }
-        ensures next { Gives IsNewWork self.old.geometry.now (drawn_in end) self.new result (MovedLeft self.old index page (move_in end) (drawn_in end)) }
+        ensures next { Gives IsNewWork self.old.geometry.now spent self.new result (MovedLeft self.old index page busy spent) }
     {
-        self.spent = drawn_in(&end);
-        let busy = move_in(&end) == LockedEnd::Busy;
-        self.words = words_in(end);
+        self.spent = spent;
+        self.words = words;
         if busy {
             self.go(MigratingStage::PuttingMoved { index, page })
         } else {
