@@ -344,7 +344,7 @@ fault-over {F} {M} {X} kinds made_of awaits_of ended a fault tally heard reply r
       ready = record {
         all = run.all;
         on = run.on;
-        free = record { ops = ap (λ (v : View). v.ops) run.seat ∙ free.ops; turn = ap (λ (v : View). v.turn) run.seat ∙ free.turn };
+        free = record { ops = ap (λ (v : View). v.ops) run.seat ∙ free.ops; owned = ap (λ (v : View). v.owned) run.seat ∙ free.owned; turn = ap (λ (v : View). v.turn) run.seat ∙ free.turn };
       };
     }
 

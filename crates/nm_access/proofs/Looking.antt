@@ -48,7 +48,7 @@ begins-with {F} {M} {X} kinds may_begin pick a fault stamp word g was view turns
     let R : M → Type 0 = λ m. FaultBegins kinds may_begin a m g was view turns in
     let B : Geometry → Type 0 = λ n. (x : View) → MayFaultOn n v x → may_begin (pick n v) n x in
     let L : Geometry → Type 0 = λ n. (x left : View) (end : X) → kinds.leaves (pick n v) n x end left → HasNothingOpen left in
-    let free : MayFaultOn g v (desk g now) = record { geometry = h.well.may.geometry; vpage = h.well.may.vpage; page = a.made.page; mapped = h.well.may.mapped; exists = h.well.may.page; free = record { ops = h.known.ready.free.ops; turn = h.known.ready.free.turn } } in
+    let free : MayFaultOn g v (desk g now) = record { geometry = h.well.may.geometry; vpage = h.well.may.vpage; page = a.made.page; mapped = h.well.may.mapped; exists = h.well.may.page; free = record { ops = h.known.ready.free.ops; owned = h.known.ready.free.owned; turn = h.known.ready.free.turn } } in
     let same : fault ≡ pick g v = is ∙ ap (λ (n : Geometry). pick n v) h.well.same in
     subst R (sym same) (record {
       faulting = record { ends = h.ends; well = h.well; due = due; ready = h.known.ready };

@@ -184,7 +184,7 @@ tried-goes kinds made_of awaits_of a false ends g was view turns is well due rea
     ready
 
 pub free-as : (g : Geometry) (view later : View) → desk g later ≡ desk g view → HasNothingOpen view → HasNothingOpen later
-free-as g view later same h = record { ops = ap (λ (v : View). v.ops) same ∙ h.ops; turn = ap (λ (v : View). v.turn) same ∙ h.turn }
+free-as g view later same h = record { ops = ap (λ (v : View). v.ops) same ∙ h.ops; owned = ap (λ (v : View). v.owned) same ∙ h.owned; turn = ap (λ (v : View). v.turn) same ∙ h.turn }
 
 pub catch-over : {F M X : Type 0} (kinds : FaultKinds M X) (made_of : F → M) (awaits_of : F → Geometry → View → Own → Action → Type 0) (a : Access F) (later : TranslationCache) (heard : Heard) (reply : Reply) (result : Step (Unit {0})) (g : Geometry) (was : Carried X) (view : View) (turns : Turns) (turn : Turn)
     → a.stage ≡ CatchingUp → heard ≡ Answer reply → result ≡ steps.Over tt → Catches a.cache later reply result

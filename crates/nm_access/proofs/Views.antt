@@ -101,12 +101,12 @@ permitted-turn g made Touching kept view may known = touch-allowed g made made.t
 
 -- The view after a turn.
 
-pub ready-as : (g : Geometry) (kept : Kept) (view later : View) → later.number ≡ view.number → later.cache ≡ view.cache → later.acked ≡ view.acked → later.ops ≡ [] → later.turn ≡ view.turn → IsAccessReady g kept view → IsAccessReady g kept later
-ready-as g kept view later number cache acked ops turn h = record { all = kept-as g kept view later number cache acked h.all; on = h.on; free = record { ops = ops; turn = turn ∙ h.free.turn } }
+pub ready-as : (g : Geometry) (kept : Kept) (view later : View) → later.number ≡ view.number → later.cache ≡ view.cache → later.acked ≡ view.acked → later.ops ≡ [] → later.owned ≡ view.owned → later.turn ≡ view.turn → IsAccessReady g kept view → IsAccessReady g kept later
+ready-as g kept view later number cache acked ops owned turn h = record { all = kept-as g kept view later number cache acked h.all; on = h.on; free = record { ops = ops; owned = owned ∙ h.free.owned; turn = turn ∙ h.free.turn } }
 
 pub peeked-then : (g : Geometry) (made : AccessMade) (kept : Kept) (view : View) (stamp : ℕ) → IsAccessReady g kept view → IsPeeked g made stamp kept (after_of g view (Peek made.vpage) (Word stamp))
 peeked-then g made kept view stamp h = record {
-  ready = ready-as g kept view (after_of g view (Peek made.vpage) (Word stamp)) refl refl refl h.free.ops refl h;
+  ready = ready-as g kept view (after_of g view (Peek made.vpage) (Word stamp)) refl refl refl h.free.ops refl refl h;
   peek = find_put peeked_page (fresh_peek made.vpage stamp) view.peeked;
 }
 
@@ -115,7 +115,7 @@ edit-none g v page f ops mapped none = rw (mapped, none) refl
 
 pub looked-then : (g : Geometry) (made : AccessMade) (kept : Kept) (view : View) (stamp word : ℕ) → IsAccessMade g made → IsPeeked g made stamp kept view → IsPeeked g made stamp kept (after_of g view (Look made.vpage) (Word word))
 looked-then g made kept view stamp word may h = record {
-  ready = ready-as g kept view (after_of g view (Look made.vpage) (Word word)) refl refl refl (edit-none g made.vpage made.page _ view.ops may.mapped h.ready.free.ops) refl h.ready;
+  ready = ready-as g kept view (after_of g view (Look made.vpage) (Word word)) refl refl refl (edit-none g made.vpage made.page _ view.ops may.mapped h.ready.free.ops) refl refl h.ready;
   peek = h.peek;
 }
 
@@ -193,7 +193,7 @@ walked-then g made kept view stamp word may h =
           acked = acked-as kept.acked view (after_of g view (Walk made.vpage word (is_write made.touch)) Done) refl all.acked;
         };
         on = h.peeked.ready.on;
-        free = record { ops = h.peeked.ready.free.ops; turn = h.peeked.ready.free.turn };
+        free = record { ops = h.peeked.ready.free.ops; owned = h.peeked.ready.free.owned; turn = h.peeked.ready.free.turn };
       };
       served = rw now (serves-write made.touch (is_writable word) (is_dirty word) h.writable);
     }

@@ -57,7 +57,7 @@ pub record IsAccessMade (g : Geometry) (made : AccessMade) : Type 0 where
 
 -- The view.
 
--- the translations agree with the view, which has no operation and holds no turn; and something was acknowledged
+-- the translations agree with the view, in which nothing is open; and something was acknowledged
 pub record IsAccessReady (g : Geometry) (kept : Kept) (view : View) : Type 0 where
   pub all : IsKeptWith g kept view
   pub on : IsSome kept.acked

@@ -22,9 +22,10 @@ pub record FaultKinds (M X : Type 0) : Type 1 where
 abbrev pub fault_kinds : {M X : Type 0} → (M → Geometry → Own → X → Type 0) → (M → Geometry → View → X → View → Type 0) → (Own → Action → Bool) → (Geometry → ℕ → M) → (Geometry → ℕ → M) → (X → Tally) → FaultKinds M X
 fault_kinds shape leaves waits missing shadowed counts = record { shape = shape; leaves = leaves; waits = waits; missing = missing; shadowed = shadowed; counts = counts }
 
--- the view has no operation, and holds no turn
+-- the view has no operation, owns no frame and holds no turn
 pub record HasNothingOpen (view : View) : Type 0 where
   pub ops : view.ops ≡ []
+  pub owned : view.owned ≡ []
   pub turn : view.turn ≡ None
 
 -- a fault on a virtual page may begin

@@ -322,7 +322,7 @@ impl<'a, F: Faults<'a> + Drop> Access<'a, F> {
     }
 
     /// Begins an access, by catching up. Conditions where it is begun: the virtual page is mapped to the page, the numbers
-    /// are in range, the translations agree with the processor's view, which has no operation and holds no turn, and the
+    /// are in range, the translations agree with the processor's view, which has no operation, frame or turn, and the
     /// processor has acknowledged a number.
     pub fn begin(&mut self, made: AccessMade) -> AccessStep
         ensures step { (g : Geometry) (was : Carried F.Outcome) (view : View) → IsOpening (fault_kinds F.shape F.leaves F.waits_at F.missing F.shadowed F.counted) self.old made g was view

@@ -27,7 +27,7 @@ pub trait Faults<'a>: Piece {
     ghost counted: { Self.Outcome → Tally };
 
     /// The fault on a virtual page that is not mapped in the table. It may begin where the virtual page has a backing page and
-    /// the view has no operation and holds no turn.
+    /// the view has no operation, owns no frame and holds no turn.
     fn on_missing(g: &'a Geometry, v: u32) -> Self
         ensures new { Self.is_new result }
         ensures made { Self.made result ≡ missing g.now v }

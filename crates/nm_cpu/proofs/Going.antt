@@ -29,7 +29,7 @@ use Rattle.nm_access.specs.declared.access.AccessStep.TheVariants.{Give}
 use Rattle.nm_access.specs.Turning.{IsTurnBegun}
 use Rattle.nm_access.specs.Faults.{FaultKinds, ends_tally}
 use Rattle.nm_access.specs.Accesses.{Carried, IsWholeAccess}
-use Rattle.nm_access.specs.Accessing.{IsAccessMade, IsAtAccessStage}
+use Rattle.nm_access.specs.Accessing.{IsTouchWord, IsAccessMade, IsAtAccessStage}
 use Rattle.nm_access.specs.Moving.{AwaitsOf, IsStepOf, IsOpening}
 use Rattle.nm_script.specs.declared.script.Line.{Line}
 use Rattle.nm_report.specs.Follows.{AreMade}
@@ -39,7 +39,7 @@ use Rattle.nm_cpu.specs.declared.actor.CpuStage.TheVariants.{Accessing, Ending}
 use Rattle.nm_cpu.specs.Programs.{CpuEnd, IsLineOf, IsCpu, line_access, held_with, IsProgramMade}
 use Rattle.nm_cpu.specs.Lines.{AccessLeft, NextLeft, after_access, after_line}
 use Rattle.nm_cpu.specs.Parts.{IsCpuPart}
-use Rattle.nm_cpu.specs.Agreeing.{geometry_of, program_of, opened_view, accesses_of_turns, IsBetween, IsAtNext, IsAtAccess, IsAtEnding, IsAtCpuStage, ComesNext, is_end, IsAdvanced}
+use Rattle.nm_cpu.specs.Agreeing.{geometry_of, program_of, opened_view, accesses_of_turns, IsBetween, IsAtNext, IsAtAccess, IsAtEnding, IsAtCpuStage, IsLeftAt, ComesNext, is_end, IsAdvanced}
 use Rattle.nm_cpu.proofs.Followed.{followed-part, followed-all}
 use Rattle.nm_cpu.proofs.Mapped.{line-made, one-line, line-at, none-left}
 use Rattle.nm_cpu.proofs.Ends.{after-access-can, turns-begun, inside-begun}
@@ -83,6 +83,12 @@ comes-next kinds g program turns (Put lane page) not begun = begun
 comes-next kinds g program turns (Take lane) not begun = begun
 comes-next kinds g program turns End not begun = tt
 
+left-at : (view : View) (turn : Turn) → turn ≢ End → IsLeftAt view (Some turn)
+left-at view (Do action) not = tt
+left-at view (Put lane page) not = tt
+left-at view (Take lane) not = tt
+left-at view End not = absurd (not refl)
+
 pub sum-as : (a b c d : Tally) → a ≡ c → b ≡ d → sum_of a b ≡ sum_of c d
 sum-as a b c d e f = ap (λ (t : Tally). sum_of t b) e ∙ ap (λ (t : Tally). sum_of c t) f
 
@@ -98,7 +104,7 @@ pub going : {F M X : Type 0} (kinds : FaultKinds M X) (made_of : F → M) (await
 going {F} {M} {X} kinds made_of awaits_of c turns turn done lines more ends not permitted begun cpu room between counted at =
     let P : Tally → Bool → Type 0 = λ counts b. IsCpuPart kinds (geometry_of c) c.made.number (program_of c) turns b c.results.items (sum_of counts c.access.tally) in
     record {
-      at = record { cpu = cpu; room = room; next = comes-next kinds (geometry_of c) (program_of c) turns turn not begun; permitted = permitted; at = at };
+      at = record { cpu = cpu; room = room; next = comes-next kinds (geometry_of c) (program_of c) turns turn not begun; permitted = permitted; left = left-at (opened_view c turns) turn not; at = at };
       part = λ counts is. subst (λ (b : Bool). P counts b) (sym (goes-on turn not)) (record {
         ends = ends;
         sequence = turns-begun (IsProgramMade kinds (geometry_of c) (program_of c)) turns turn begun;
@@ -137,17 +143,17 @@ access-given {F} {M} {X} kinds made_of awaits_of c front inner turn done line li
 -- The next access is begun.
 
 pub access-begins : {F M X : Type 0} (kinds : FaultKinds M X) (made_of : F → M) (awaits_of : F → Geometry → View → Own → Action → Type 0) (c : Processor F) (a : Access F) (made : AccessMade) (turn : Turn) (line d : Line) (n : ℕ) (turns : Turns)
-    → n ≡ length c.results.items → n < length (program_of c) → get_or (program_of c) n d ≡ line → made ≡ line_access (geometry_of c) line → a.made ≡ made
+    → n ≡ length c.results.items → n < length (program_of c) → get_or (program_of c) n d ≡ line → made ≡ line_access (geometry_of c) line → IsTouchWord made.touch → a.made ≡ made
     → ((g : Geometry) (was : Carried X) (view : View) → IsOpening kinds c.access made g was view → IsStepOf kinds made_of awaits_of a g was view [] (Give turn))
     → IsAtNext kinds c turns → IsAdvanced kinds made_of awaits_of (record c { access = a; stage = Accessing }) turns turn
-access-begins {F} {M} {X} kinds made_of awaits_of c a made turn line d n turns number some at access same begins h =
+access-begins {F} {M} {X} kinds made_of awaits_of c a made turn line d n turns number some at access value same begins h =
     let first = line-at (program_of c) h.done h.lines line d n h.between.is (h.between.as_many ∙ sym number) some at in
     let B : List Line → Type 0 = λ l. IsBetween c h.done l h.more turns in
     let between : B (line ∷ first.rest) = subst B first.is h.between in
     let L : List Line → Type 0 = λ l. IsLeft (IsProgramMade kinds (geometry_of c) (program_of c)) turns (NextLeft kinds (geometry_of c) l c.results.items c.loads h.more (held_with (kept_of c.access.cache) h.ends)) in
     let step = begins (geometry_of c) (held_with (kept_of c.access.cache) h.ends) (opened_view c turns) (record {
       same = h.same;
-      may = subst (λ (m : AccessMade). IsAccessMade (geometry_of c) m) (sym access) (line-made (geometry_of c) line h.cpu.geometry (one-line _ h.done first.rest line (subst (λ (l : List Line). AllByRecursion (IsLineOf (geometry_of c)) l) between.is h.cpu.lines)));
+      may = subst (λ (m : AccessMade). IsAccessMade (geometry_of c) m) (sym access) (line-made (geometry_of c) line h.cpu.geometry (one-line _ h.done first.rest line (subst (λ (l : List Line). AllByRecursion (IsLineOf (geometry_of c)) l) between.is h.cpu.lines)) (subst (λ (m : AccessMade). IsTouchWord m.touch) access value));
       kept = refl;
       counted = h.counted;
       ready = h.ready;
@@ -177,6 +183,7 @@ ending-begins {F} {M} {X} kinds made_of awaits_of c n turns number all h =
       same = h.same;
       ends = h.ends;
       counted = h.counted;
+      free = h.ready.free;
       as_many = sym between.as_many ∙ sym (ap (λ (l : List Line). length l) whole);
       follows = subst A (sym whole) (followed-all c.made.number h.done c.results.items c.loads (accesses_of_turns c turns) between.follows);
       due = due;

@@ -39,11 +39,11 @@ access-made g v w touch geometry some word value = record {
   value = value;
 }
 
-pub line-made : (g : Geometry) (line : Line) → IsGeometry g → IsLineOf g line → IsAccessMade g (line_access g line)
-line-made g (Load v w) geometry h = access-made g v w _ geometry h.0 h.1 tt
-line-made g (Store v w x) geometry h = access-made g v w _ geometry (some-and (vpage_at g v) _ h.0) h.1 h.2
-line-made g (Add v w x) geometry h = access-made g v w _ geometry (some-and (vpage_at g v) _ h.0) h.1 h.2
-line-made g (Await v w x max) geometry h = access-made g v w _ geometry h.0 h.1 tt
+pub line-made : (g : Geometry) (line : Line) → IsGeometry g → IsLineOf g line → IsTouchWord (line_access g line).touch → IsAccessMade g (line_access g line)
+line-made g (Load v w) geometry h value = access-made g v w _ geometry h.0 h.1 value
+line-made g (Store v w x) geometry h value = access-made g v w _ geometry (some-and (vpage_at g v) _ h.0) h.1 value
+line-made g (Add v w x) geometry h value = access-made g v w _ geometry (some-and (vpage_at g v) _ h.0) h.1 value
+line-made g (Await v w x max) geometry h value = access-made g v w _ geometry h.0 h.1 value
 
 -- A line of the program.
 

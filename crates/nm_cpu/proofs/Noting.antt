@@ -137,12 +137,12 @@ at-kept kinds made_of awaits_of Accessing c counter turn turns last h = record {
   };
   awaited = h.awaited;
 }
-at-kept kinds made_of awaits_of Ending c counter turn turns last h = record { given = h.given; same = h.same; ends = h.ends; counted = h.counted; as_many = h.as_many; follows = h.follows; due = h.due }
+at-kept kinds made_of awaits_of Ending c counter turn turns last h = record { given = h.given; same = h.same; ends = h.ends; counted = h.counted; free = h.free; as_many = h.as_many; follows = h.follows; due = h.due }
 at-kept kinds made_of awaits_of Over c counter turn turns last h = h
 
 pub turn-kept : {F M X : Type 0} (kinds : FaultKinds M X) (made_of : F → M) (awaits_of : F → Geometry → View → Own → Action → Type 0) (c : Processor F) (counter : Counter) (turn : Turn) (turns : Turns) (last : Option Turn)
     → IsAtTurn kinds made_of awaits_of c turns last → IsAtTurn kinds made_of awaits_of (record c { counter = counter; given = turn }) turns last
-turn-kept kinds made_of awaits_of c counter turn turns last h = record { cpu = h.cpu; room = h.room; next = h.next; permitted = h.permitted; at = at-kept kinds made_of awaits_of c.stage c counter turn turns last h.at }
+turn-kept kinds made_of awaits_of c counter turn turns last h = record { cpu = h.cpu; room = h.room; next = h.next; permitted = h.permitted; left = h.left; at = at-kept kinds made_of awaits_of c.stage c counter turn turns last h.at }
 
 -- what is agreed with speaks of all but the counter
 pub at-noted : {F M X : Type 0} (kinds : FaultKinds M X) (made_of : F → M) (awaits_of : F → Geometry → View → Own → Action → Type 0) (c n : Processor F) (turns : Turns) (last : Option Turn) → n ≡ record c { counter = n.counter }

@@ -217,6 +217,6 @@ opening-over {F} {M} {X} kinds made_of awaits_of c a reply result turns last at 
       same = ap (λ (x : Access F). x.geometry.now) rest ∙ o.same;
       ends = [];
       counted = ap (λ (x : Access F). x.tally) rest ∙ o.counted;
-      ready = subst R (sym there) (record { all = over.all; on = over.on; free = free-as g start (view_after g start own) over.seat (record { ops = refl; turn = refl }) });
+      ready = subst R (sym there) (record { all = over.all; on = over.on; free = free-as g start (view_after g start own) over.seat (record { ops = refl; owned = refl; turn = refl }) });
       due = subst (λ (r : List LineResult). D r c.loads) (sym o.results) (subst (λ n. D [] n) (sym o.loads) begins.due);
     })

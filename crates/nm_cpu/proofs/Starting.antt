@@ -37,7 +37,7 @@ starts kinds made_of awaits_of c cpu at fresh results loads room events pages =
         follows = followed-part c.made.number (program_of c) [] (program_of c) c.results.items c.loads first.0 [] between.is between.as_many between.loads between.follows;
         counted = sum-as c.counter.tally c.access.tally (events_tally []) (ends_tally kinds.counts []) events.tally fresh.counted;
       };
-      at = record { cpu = cpu; room = room; next = refl; permitted = tt; at = subst (λ s. IsAtCpuStage kinds made_of awaits_of s c [] None) (sym at) here };
+      at = record { cpu = cpu; room = room; next = refl; permitted = tt; left = tt; at = subst (λ s. IsAtCpuStage kinds made_of awaits_of s c [] None) (sym at) here };
       events = events;
       pages = pages;
       kept = tt;

@@ -11,7 +11,7 @@ use Rattle.nm_action.specs.declared.tally.Tally.{Tally}
 use Rattle.nm_action.specs.Tally.{sum_of}
 use Rattle.nm_flat.specs.declared.access.Access as flat
 use Rattle.nm_flat.specs.declared.access.AccessKind.TheVariants as kind
-use Rattle.nm_view.specs.Views.{View}
+use Rattle.nm_view.specs.Views.{View, end_word}
 use Rattle.nm_view.specs.Opening.{opening}
 use Rattle.nm_part.specs.Patterns.{Ends, Follows, IsLeft}
 use Rattle.nm_tally.specs.Counts.{events_tally}
@@ -20,7 +20,7 @@ use Rattle.nm_actor.specs.Turns.{Turns, own_list, turns_view}
 use Rattle.nm_actor.specs.Actors.{IsPermittedTurn}
 use Rattle.nm_catchup.specs.Catching.{kept_of, AwaitsCatch}
 use Rattle.nm_access.specs.Turning.{Hears, action_turns, IsTurnBegun}
-use Rattle.nm_access.specs.Faults.{FaultKinds, ends_tally}
+use Rattle.nm_access.specs.Faults.{FaultKinds, HasNothingOpen, ends_tally}
 use Rattle.nm_access.specs.Accesses.{Carried}
 use Rattle.nm_access.specs.Accessing.{IsAccessReady, IsAccessOver}
 use Rattle.nm_access.specs.Moving.{AwaitsOf, IsFresh}
@@ -154,6 +154,7 @@ pub record IsAtEnding {F M X : Type 0} (kinds : FaultKinds M X) (c : Processor F
   pub same : c.access.geometry.now ≡ geometry_of c
   pub ends : List X
   pub counted : c.access.tally ≡ ends_tally kinds.counts ends
+  pub free : HasNothingOpen (opened_view c turns)
   pub as_many : length c.results.items ≡ length (program_of c)
   pub follows : AreMade c.made.number (program_of c) c.results.items (accesses_of_turns c turns)
   pub due : IsLeft (IsProgramMade kinds (geometry_of c) (program_of c)) turns (Follows (Hears (geometry_of c) (Do (Ack ack.End))) (λ heard. Ends (record { results = c.results.items; ends = ends })))
@@ -189,12 +190,23 @@ abbrev pub IsPermittedLast : Geometry → View → Option Turn → Type 0
 IsPermittedLast g view None = Unit {0}
 IsPermittedLast g view (Some turn) = IsPermittedTurn g view turn
 
+-- the view of a processor that has ended: nothing is open, and the end is acknowledged
+pub record IsEndedCpu (view : View) : Type 0 where
+  pub free : HasNothingOpen view
+  pub acked : view.acked ≡ end_word
+
+-- where End was given the view is that of a processor that has ended
+abbrev pub IsLeftAt : View → Option Turn → Type 0
+IsLeftAt view (Some End) = IsEndedCpu view
+IsLeftAt view _ = Unit {0}
+
 -- how far it has come: the last turn comes next in its sequence, and its action is permitted
 pub record IsAtTurn {F M X : Type 0} (kinds : FaultKinds M X) (made_of : F → M) (awaits_of : F → Geometry → View → Own → Action → Type 0) (c : Processor F) (turns : Turns) (last : Option Turn) : Type 0 where
   pub cpu : IsCpu (geometry_of c) c.made.number (program_of c)
   pub room : length (program_of c) ≤ vec_capacity c.results
   pub next : ComesNext kinds (geometry_of c) (program_of c) turns last
   pub permitted : IsPermittedLast (geometry_of c) (opened_view c turns) last
+  pub left : IsLeftAt (opened_view c turns) last
   pub at : IsAtCpuStage kinds made_of awaits_of c.stage c turns last
 
 -- it has these answered turns, and this one awaits its answer

@@ -2,7 +2,6 @@
 use Rattle.std.specs.Prelude.{ℕ, zero, suc, ◌+◌, ◌<◌, ◌≤◌, ◌==◌, IsSome, List, [], ◌∷◌, ◌++◌, Option, Some, None}
 use Rattle.std.specs.List.{AllByRecursion}
 use Rattle.nm_base.specs.Geometry.{Geometry, IsGeometry, vpage_at, backing_page, IsWritable}
-use Rattle.nm_base.specs.Ranges.{IsWord}
 use Rattle.nm_action.specs.declared.action.AckTo.TheVariants as ack
 use Rattle.nm_action.specs.declared.action.Action.TheVariants.{Ack}
 use Rattle.nm_action.specs.declared.turn.Turn.TheVariants.{Do}
@@ -24,8 +23,8 @@ use Rattle.nm_report.specs.declared.line_result.LineResult.TheVariants.{Loaded, 
 -- may make a load
 abbrev pub IsLineOf : Geometry → Line → Type 0
 IsLineOf g (Load v w) = IsSome (vpage_at g v) × (w < g.words)
-IsLineOf g (Store v w x) = IsWritable g v × (w < g.words) × IsWord x
-IsLineOf g (Add v w x) = IsWritable g v × (w < g.words) × IsWord x
+IsLineOf g (Store v w x) = IsWritable g v × (w < g.words)
+IsLineOf g (Add v w x) = IsWritable g v × (w < g.words)
 IsLineOf g (Await v w x max) = IsSome (vpage_at g v) × (w < g.words) × (1 ≤ max)
 
 -- a processor and its program

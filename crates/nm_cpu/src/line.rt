@@ -1,6 +1,7 @@
 //! The accesses of a line, and what it gives.
 
 ghost use Rattle.std.specs.Prelude.{◌≡◌, ◌+◌, ◌<◌, ◌^◌, IfNone};
+ghost use Rattle.nm_access.specs.Accessing.{IsTouchWord};
 ghost use Rattle.nm_cpu.specs.Programs.{page_or, line_access};
 ghost use Rattle.nm_cpu.specs.Lines.{line_result, HasLoadsLeft};
 
@@ -21,7 +22,8 @@ fn page_or(page: Option<u32>) -> u32
 
 /// The access that a line makes, or makes again.
 pub(crate) fn line_access(g: &Geometry, line: Line) -> AccessMade
-    ensures { result ≡ line_access g.now line }
+    ensures made { result ≡ line_access g.now line }
+    ensures value { IsTouchWord result.touch }
 {
     let (vpage, word, touch) = match line {
         Line::Load { v, w } => (v, w, Touch::Load),

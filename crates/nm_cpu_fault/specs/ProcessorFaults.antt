@@ -1,4 +1,5 @@
 -- The faults of a processor, as its accesses see them.
+use Rattle.std.specs.Prelude.{◌≡◌, []}
 use Rattle.nm_base.specs.Geometry.{Geometry}
 use Rattle.nm_action.specs.declared.action.Action.{Action}
 use Rattle.nm_action.specs.declared.tally.Tally.{Tally}
@@ -7,7 +8,7 @@ use Rattle.nm_view.specs.Views.{View}
 use Rattle.nm_compose.specs.declared.or.Or.TheVariants.{This, Other}
 use Rattle.nm_shadow_fault.specs.declared.fault.FaultEnd.{FaultEnd}
 use Rattle.nm_shadow_fault.specs.declared.fault.FaultEnd.TheVariants.{Demand, Alias, Ready, Granted}
-use Rattle.nm_shadow_fault.specs.Granting.{fault_made, IsFaulted}
+use Rattle.nm_shadow_fault.specs.Granting.{FaultsMade, fault_made, MayFault, IsFaulted}
 use Rattle.nm_fault.specs.Tasks.{FaultBegun, fault_at, IsFault}
 use Rattle.nm_fault.specs.Waits.{is_waiting}
 use Rattle.nm_access.specs.Faults.{FaultKinds, HasNothingOpen, zero_fault_counts}
@@ -18,6 +19,11 @@ fault_counts Demand = record zero_fault_counts { demand = 1 }
 fault_counts Alias = record zero_fault_counts { alias = 1 }
 fault_counts Ready = zero_fault_counts
 fault_counts (Granted shadow) = zero_fault_counts
+
+-- a fault may begin, and no frame is owned
+pub record MayFaultFree (made : FaultsMade) (g : Geometry) (view : View) : Type 0 where
+  pub may : MayFault made g view
+  pub owned : view.owned ≡ []
 
 -- a fault leaves all of the view as it was, but what is known of owned frames, and the scan; nothing is open in it
 pub record IsLeftFree (view left : View) : Type 0 where

@@ -36,15 +36,14 @@ impl<'a> Part for ProcessorFault<'a> {
     // a missing fault, or one on a page that is read-only for its shadow
     type Made = Or<(Geometry, FaultMade), (Geometry, FaultMade)>;
 
-    ghost use Rattle.nm_shadow_fault.specs.Granting.{MayFault};
     ghost use Rattle.nm_fault.specs.Tasks.{fault_in, IsFault};
-    ghost use Rattle.nm_cpu_fault.specs.ProcessorFaults.{IsLeftFree, AwaitsFree};
+    ghost use Rattle.nm_cpu_fault.specs.ProcessorFaults.{MayFaultFree, IsLeftFree, AwaitsFree};
 
     ghost made = { λ f. ⟦<FaultTask<'a> as Part>⟧.made f.task };
 
     ghost is_new = { λ f. ⟦<FaultTask<'a> as Part>⟧.is_new f.task };
 
-    ghost may_begin = { λ made g view. MayFault (fault_in made) g view };
+    ghost may_begin = { λ made g view. MayFaultFree (fault_in made) g view };
 
     ghost shape = { λ made g own end. IsFault made g own end };
 
