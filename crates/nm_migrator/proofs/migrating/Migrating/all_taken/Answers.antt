@@ -1,0 +1,26 @@
+use Rattle.std.proofs.Common.{◌≡◌, ◌<◌, ◌≤◌, ◌+◌, ℕ, Bool, true, false, List, [], length, drop, Option, Some, None, sym, ap, ◌∙◌, subst, arith}
+use Rattle.nm_action.specs.declared.action.Reply.{Reply}
+use Rattle.nm_action.specs.declared.action.Reply.TheVariants as replies
+use Rattle.nm_cool.specs.declared.cool.Cooled.{Cooled}
+use Rattle.nm_cool.specs.declared.cool.Cooled.TheVariants as cooled
+use Rattle.nm_batch.proofs.Lists.{all-drop}
+use Rattle.nm_migrator_work.specs.Works.{IsNewWork}
+use Rattle.nm_migrator.specs.declared.migrating.Migrating.{Migrating}
+use Rattle.nm_migrator.specs.declared.migrating.MigratingStage.TheVariants.{TakingCandidate, Judging, Heating, PuttingHot, Cooling, PuttingBack, Spilling, TakingPending, PuttingTwice, Planning, Batching, PuttingAgain, Moving, PuttingMoved, Asking, TakingLast, Unmarking, Over}
+use Rattle.nm_migrator.specs.Planned.{most_taken, no_plan}
+use Rattle.nm_migrator.specs.Stages.{kept_of, plan_of, CandidateLeft, LastLeft, JudgedLeft, HeatedLeft, CooledLeft, BackLeft, PutLeft, CandidatesLeft, PendingLeft, TakenLeft, TakesLeft, PageLeft, PlansLeft, PlannedLeft, BatchesLeft, BatchedLeft, AgainLeft, MovesLeft, MovedLeft, AskedLeft, UnmarksLeft, IsMove, Gives}
+use Rattle.nm_migrator.proofs.Giving.{gives, gives-stage, gives-over, gives-fit}
+use Rattle.nm_migrator.proofs.Planning.{is-mapped}
+use Rattle.nm_migrator.proofs.Fitting.{candidates-fit, candidate-judged, candidate-dropped, last-judged, last-dropped, unmarks-start, pending-begins, takes-one, takes-all, page-dropped, page-twice, page-taken, taken-asks, taken-planned, plans-one, plans-all, batches-some, batches-none, again-one, again-all, moves-one, moves-all, unmarks-one, unmarks-all, some-item}
+use Rattle.nm_migrator.proofs.migrating.Migrating.all_taken.Goals as goal
+
+pub returns-in-None-clause-next : goal.returns-in-None-clause-next
+returns-in-None-clause-next c =
+    let old = c.args.self.now in
+    gives-stage IsNewWork old c.go.new.self Asking c.go.result (TakenLeft old old.taken) c.go.ensures.stage c.go.ensures.made c.go.ensures.new (c.requires.0) tt (taken-asks old c.in-None.ensures.none)
+
+pub returns-in-Some-clause-next : goal.returns-in-Some-clause-next
+returns-in-Some-clause-next c =
+    let old = c.args.self.now in
+    let m : Migrating = record old { pieces = c.new-self.result; moves = c.new-self-in-Some.result } in
+    gives-fit IsNewWork old.geometry.now old.spent c.plan_from.new.self c.plan_from.result (PlansLeft m 0 (plan_of m)) (TakenLeft old old.taken) c.plan_from.ensures.next (taken-planned old c.in-Some.field-0 c.new-self.result c.new-self-in-Some.result c.new-self.ensures c.new-self-in-Some.ensures c.in-Some.ensures.some)

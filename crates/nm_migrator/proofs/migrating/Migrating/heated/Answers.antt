@@ -1,0 +1,42 @@
+use Rattle.std.proofs.Common.{◌≡◌, ◌<◌, ◌≤◌, ◌+◌, ◌++◌, ◌∷◌, ℕ, Bool, true, false, List, [], length, slice_index, drop, All, Option, Some, None, sym, ap, ◌∙◌, subst, arith}
+use Rattle.std.proofs.lemmas.List.Elements.{All-head}
+use Rattle.std.proofs.Math.ListN.{length-set}
+use Rattle.nm_action.specs.declared.action.Reply.{Reply}
+use Rattle.nm_action.specs.declared.action.Reply.TheVariants as replies
+use Rattle.nm_cool.specs.declared.cool.Cooled.{Cooled}
+use Rattle.nm_cool.specs.declared.cool.Cooled.TheVariants as cooled
+use Rattle.nm_batch.proofs.Lists.{all-drop}
+use Rattle.nm_migrator_work.specs.Works.{IsNewWork}
+use Rattle.nm_migrator.specs.declared.migrating.Migrating.{Migrating}
+use Rattle.nm_migrator.specs.declared.migrating.MigratingStage.TheVariants.{TakingCandidate, Judging, Heating, PuttingHot, Cooling, PuttingBack, Spilling, TakingPending, PuttingTwice, Planning, Batching, PuttingAgain, Moving, PuttingMoved, Asking, TakingLast, Unmarking, Over}
+use Rattle.nm_base.specs.Geometry.{page_count}
+use Rattle.nm_base.specs.Ranges.{IsPage}
+use Rattle.nm_view.specs.Lists.{first}
+use Rattle.nm_vpages.specs.VPages.{vpages_of}
+use Rattle.nm_migrator_work.proofs.Beginning.{mapped-is-page}
+use Rattle.nm_migrator.specs.Planned.{most_taken, no_plan, Plan, is_mapped, is_among, first_or, is_moved_locked}
+use Rattle.nm_migrator.specs.Stages.{kept_of, plan_of, CandidateLeft, LastLeft, JudgedLeft, HeatedLeft, CooledLeft, BackLeft, PutLeft, CandidatesLeft, PendingLeft, TakenLeft, TakesLeft, PageLeft, PlansLeft, PlannedLeft, BatchesLeft, BatchedLeft, AgainLeft, MovesLeft, MovedLeft, AskedLeft, UnmarksLeft, IsMove, IsMappedPage, AreTaken, IsPlanWith, Gives}
+use Rattle.nm_migrator.proofs.Giving.{gives, gives-stage, gives-over, gives-fit}
+use Rattle.nm_migrator.proofs.Planning.{is-mapped, taken-more, plan-move, plan-piece, some-move}
+use Rattle.nm_migrator.proofs.Fitting.{candidates-fit, candidate-judged, candidate-dropped, last-judged, last-dropped, unmarks-start, pending-begins, takes-one, takes-all, page-dropped, page-twice, page-taken, taken-asks, taken-planned, plans-one, plans-all, batches-some, batches-none, again-one, again-all, moves-one, moves-all, unmarks-one, unmarks-all, some-item, heats-fit, planned-moves, planned-pieces, again-starts}
+use Rattle.nm_migrator.proofs.migrating.Migrating.heated.Goals as goal
+
+pub returns-in-Done-clause-next : goal.returns-in-Done-clause-next
+returns-in-Done-clause-next c =
+    let old = c.args.self.now in
+    subst (λ (x : Reply). Gives IsNewWork old.geometry.now old.spent c.go.new.self c.go.result (HeatedLeft old c.args.page x)) (sym c.in-Done.is) (gives-stage IsNewWork old c.go.new.self (PuttingHot c.args.page) c.go.result (HeatedLeft old c.args.page replies.Done) c.go.ensures.stage c.go.ensures.made c.go.ensures.new (c.requires) tt (λ notes outcome s. s))
+
+pub returns-in-Word-clause-next : goal.returns-in-Word-clause-next
+returns-in-Word-clause-next c =
+    let old = c.args.self.now in
+    subst (λ (x : Reply). Gives IsNewWork old.geometry.now old.spent c.go-in-Word.new.self c.go-in-Word.result (HeatedLeft old c.args.page x)) (sym c.in-Word.is) (gives-stage IsNewWork old c.go-in-Word.new.self TakingCandidate c.go-in-Word.result (HeatedLeft old c.args.page (replies.Word c.in-Word.field-0)) c.go-in-Word.ensures.stage c.go-in-Word.ensures.made c.go-in-Word.ensures.new (c.requires.0) tt (candidates-fit old))
+
+pub returns-in-Busy-clause-next : goal.returns-in-Busy-clause-next
+returns-in-Busy-clause-next c =
+    let old = c.args.self.now in
+    subst (λ (x : Reply). Gives IsNewWork old.geometry.now old.spent c.go-in-Busy.new.self c.go-in-Busy.result (HeatedLeft old c.args.page x)) (sym c.in-Busy.is) (gives-stage IsNewWork old c.go-in-Busy.new.self TakingCandidate c.go-in-Busy.result (HeatedLeft old c.args.page (replies.Busy c.in-Busy.field-0)) c.go-in-Busy.ensures.stage c.go-in-Busy.ensures.made c.go-in-Busy.ensures.new (c.requires.0) tt (candidates-fit old))
+
+pub returns-in-Lost-clause-next : goal.returns-in-Lost-clause-next
+returns-in-Lost-clause-next c =
+    let old = c.args.self.now in
+    subst (λ (x : Reply). Gives IsNewWork old.geometry.now old.spent c.go-in-Lost.new.self c.go-in-Lost.result (HeatedLeft old c.args.page x)) (sym c.in-Lost.is) (gives-stage IsNewWork old c.go-in-Lost.new.self TakingCandidate c.go-in-Lost.result (HeatedLeft old c.args.page (replies.Lost c.in-Lost.field-0)) c.go-in-Lost.ensures.stage c.go-in-Lost.ensures.made c.go-in-Lost.ensures.new (c.requires.0) tt (candidates-fit old))

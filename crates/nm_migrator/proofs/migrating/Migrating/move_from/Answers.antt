@@ -1,0 +1,30 @@
+use Rattle.std.proofs.Common.{◌≡◌, ◌<◌, ◌≤◌, ◌+◌, ℕ, Bool, true, false, List, [], length, drop, Option, Some, None, sym, ap, ◌∙◌, subst, arith}
+use Rattle.nm_action.specs.declared.action.Reply.{Reply}
+use Rattle.nm_action.specs.declared.action.Reply.TheVariants as replies
+use Rattle.nm_cool.specs.declared.cool.Cooled.{Cooled}
+use Rattle.nm_cool.specs.declared.cool.Cooled.TheVariants as cooled
+use Rattle.nm_batch.proofs.Lists.{all-drop, drop-within}
+use Rattle.nm_migrator_work.specs.Works.{IsNewWork}
+use Rattle.nm_migrator.specs.declared.migrating.Migrating.{Migrating}
+use Rattle.nm_migrator.specs.declared.migrating.MigratingStage.TheVariants.{TakingCandidate, Judging, Heating, PuttingHot, Cooling, PuttingBack, Spilling, TakingPending, PuttingTwice, Planning, Batching, PuttingAgain, Moving, PuttingMoved, Asking, TakingLast, Unmarking, Over}
+use Rattle.nm_migrator.specs.Planned.{most_taken, no_plan}
+use Rattle.nm_migrator.specs.Stages.{kept_of, plan_of, CandidateLeft, LastLeft, JudgedLeft, HeatedLeft, CooledLeft, BackLeft, PutLeft, CandidatesLeft, PendingLeft, TakenLeft, TakesLeft, PageLeft, PlansLeft, PlannedLeft, BatchesLeft, BatchedLeft, AgainLeft, MovesLeft, MovedLeft, AskedLeft, UnmarksLeft, IsMove, Gives}
+use Rattle.nm_migrator.proofs.Giving.{gives, gives-stage, gives-over, gives-fit}
+use Rattle.nm_migrator.proofs.Planning.{is-mapped}
+use Rattle.nm_migrator.proofs.Fitting.{candidates-fit, candidate-judged, candidate-dropped, last-judged, last-dropped, unmarks-start, pending-begins, takes-one, takes-all, page-dropped, page-twice, page-taken, taken-asks, taken-planned, plans-one, plans-all, batches-some, batches-none, again-one, again-all, moves-one, moves-all, unmarks-one, unmarks-all, some-item}
+use Rattle.nm_migrator.proofs.migrating.Migrating.move_from.Goals as goal
+
+pub returns-in-Some-clause-next : goal.returns-in-Some-clause-next
+returns-in-Some-clause-next c =
+    let old = c.args.self.now in
+    let at = drop-within c.args.index old.moves _ _ c.in-Some.ensures.some in
+    let few = c.requires.2 in
+    let within : c.args.index < most_taken = omega arith in
+    let m : Migrating = record old { stage = Moving c.args.index c.in-Some.page c.in-Some.count; words = None } in
+    subst (λ (x : Migrating). Gives IsNewWork old.geometry.now old.spent x c.go_move.result (MovesLeft old c.args.index (kept_of old))) (sym c.go_move.ensures.stage)
+    (gives IsNewWork m c.go_move.result (MovesLeft old c.args.index (kept_of old)) c.go_move.ensures.made c.go_move.ensures.new (c.requires.0.has, c.requires.1, all-drop (IsMove old.geometry.now) c.args.index old.moves _ _ c.in-Some.ensures.some c.requires.1, c.requires.2, within) tt (moves-one old c.args.index c.in-Some.page c.in-Some.count c.in-Some.ensures.some))
+
+pub returns-in-None-clause-next : goal.returns-in-None-clause-next
+returns-in-None-clause-next c =
+    let old = c.args.self.now in
+    gives-stage IsNewWork old c.go.new.self TakingCandidate c.go.result (MovesLeft old c.args.index (kept_of old)) c.go.ensures.stage c.go.ensures.made c.go.ensures.new (c.requires.0) tt (moves-all old c.args.index c.in-None.ensures.none)

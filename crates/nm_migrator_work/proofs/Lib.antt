@@ -1,0 +1,5 @@
+pub mod Beginning
+pub mod Choosing
+pub mod Ends
+pub mod Listing
+pub mod Resting

@@ -1,0 +1,101 @@
+//! The pieces of the migrator's work.
+
+ghost use Rattle.std.specs.Prelude.{◌≡◌, ◌≢◌, []};
+ghost use Rattle.nm_vpages.specs.VPages.{vpages_of};
+ghost use Rattle.nm_migrator_work.specs.Works.{work_made, made_mark, made_looks, made_cool, made_batch, made_move, made_ask, IsNewWork};
+
+use crate::parts::{BatchWork, CoolWork, MoveWork};
+use crate::work::MigratorWork;
+use nm_base::Geometry;
+use nm_batch::PieceList;
+use nm_compose::{Act, Composite};
+use nm_cool::Cooled;
+use nm_drawing::Drawn;
+use nm_ended::AskEnded;
+use nm_event::{Action, Reply, Spent};
+use nm_locked::LockedOver;
+use nm_looks::{Looks, LooksPart, Seen};
+use nm_transfer::TakenWords;
+use nm_txn::TxnEnd;
+use nm_vpages::VPageSet;
+
+/// The tier that Looks of the migrator ask for.
+const FASTEST: u32 = 0;
+
+/// The question to the processors whether they have ended, as a part.
+pub type AskPart = Composite<AskEnded, Act>;
+
+/// A piece of the migrator's work.
+pub type MigratorPiece<'a> =
+    MigratorWork<Act, LooksPart<'a>, CoolWork<'a>, BatchWork<'a>, MoveWork<'a>, AskPart>;
+
+/// How a piece of the migrator's work ends: with the reply to a Mark; with what Looks have seen; with how a candidate was
+/// cooled; with how each piece of a batch ended, in order; with how a locked move is over; or with whether all processors have
+/// ended.
+pub type MigratorEnd =
+    MigratorWork<Reply, Seen, Cooled, Drawn<PieceList<TxnEnd>>, Drawn<LockedOver>, bool>;
+
+/// The Mark of a page. Where it begins the page is there, and the mark makes a step that needs no operation.
+pub fn mark_work<'a>(page: u32, from: u64, to: u64) -> MigratorPiece<'a>
+    ensures made { work_made result ≡ made_mark page from to }
+    ensures new { IsNewWork result }
+{
+    MigratorWork::Mark(Act::new(Action::Mark { page, from, to }))
+}
+
+/// The Looks at the virtual pages of a page. Condition: there is one.
+pub fn looks_work<'a>(g: &'a Geometry, page: u32) -> MigratorPiece<'a>
+    requires { vpages_of g.now page ≢ [] }
+    ensures made { work_made result ≡ made_looks g.now page }
+    ensures new { IsNewWork result }
+{
+    let plan = Looks::new(g, page, FASTEST, VPageSet::of_page(g, page));
+    MigratorWork::Looks(Composite::new(plan))
+}
+
+/// The cooling of a candidate. Where it begins the page is there, has a virtual page, and may be locked.
+pub fn cool_work<'a>(g: &'a Geometry, page: u32) -> MigratorPiece<'a>
+    ensures made { work_made result ≡ made_cool g.now page }
+    ensures new { IsNewWork result }
+{
+    MigratorWork::Cool(CoolWork::new(g, page))
+}
+
+/// The batch of these pieces, pages each with a virtual page, by an actor that has drawn so much. Condition: there is a piece.
+/// Where it begins the pages are there and no page stands twice, the view has no open operation and holds no turn, and `spent`
+/// is what the view has made.
+pub fn batch_work<'a>(
+    g: &'a Geometry,
+    pieces: PieceList<(u32, u32)>,
+    spent: Spent,
+) -> MigratorPiece<'a>
+    requires { pieces ≢ [] }
+    ensures made { work_made result ≡ made_batch g.now pieces spent }
+    ensures new { IsNewWork result }
+{
+    MigratorWork::Batch(BatchWork::new(g, pieces, spent))
+}
+
+/// The locked move of a page of which so many virtual pages are to have table words, by an actor that has drawn so much;
+/// `taken` gives the room for the words that are taken. Where it begins the page is there, the count is at least 1, the view
+/// has no open operation and holds no turn, and `spent` is what the view has made.
+pub fn move_work<'a>(
+    g: &'a Geometry,
+    page: u32,
+    count: u32,
+    spent: Spent,
+    taken: TakenWords,
+) -> MigratorPiece<'a>
+    ensures made { work_made result ≡ made_move g.now page count spent }
+    ensures new { IsNewWork result }
+{
+    MigratorWork::Move(MoveWork::new(g, page, count, spent, taken))
+}
+
+/// The question to the processors of a geometry. Where it begins the view has no open operation.
+pub fn ask_work<'a>(g: &Geometry) -> MigratorPiece<'a>
+    ensures made { work_made result ≡ made_ask g.now }
+    ensures new { IsNewWork result }
+{
+    MigratorWork::Ask(Composite::new(AskEnded::new(g)))
+}

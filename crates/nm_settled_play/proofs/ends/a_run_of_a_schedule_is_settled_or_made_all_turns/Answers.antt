@@ -1,0 +1,8 @@
+use Rattle.nm_settled_play.proofs.Ending.{settled-schedule, unsettled-schedule}
+use Rattle.nm_settled_play.proofs.ends.a_run_of_a_schedule_is_settled_or_made_all_turns.Goals as goal
+
+pub returns-clause-ended : goal.returns-clause-ended
+returns-clause-ended c = settled-schedule
+
+pub returns-clause-unsettled : goal.returns-clause-unsettled
+returns-clause-unsettled c = unsettled-schedule

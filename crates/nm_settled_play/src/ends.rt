@@ -1,0 +1,39 @@
+//! What holds at the end of every simulation, whoever the actors are.
+
+ghost use Rattle.std.specs.Prelude.{◌≡◌, ℕ, List, [], length, Option};
+ghost use Rattle.nm_base.specs.Geometry.{Geometry, IsGeometry};
+ghost use Rattle.nm_action.specs.declared.action.Event.{Event};
+ghost use Rattle.nm_action.specs.declared.turn.Turn.{Turn};
+ghost use Rattle.nm_core.specs.Roles.{IsSettled};
+ghost use Rattle.nm_core.specs.Runs.{IsRun, state_after};
+ghost use Rattle.nm_core.specs.State.{State, actor_count};
+ghost use Rattle.nm_actor.specs.Turns.{Turns};
+ghost use Rattle.nm_script.specs.declared.schedule.Schedule.{Schedule};
+ghost use Rattle.nm_schedule.specs.declared.turn.Played.{Played};
+ghost use Rattle.nm_schedule.specs.declared.turn.SimTurn.{SimTurn};
+ghost use Rattle.nm_schedule.specs.Played.{active_actors, events_of};
+ghost use Rattle.nm_schedule.specs.Picks.{most_turns};
+ghost use Rattle.nm_play.specs.Played.{IsRunOf};
+ghost use Rattle.nm_settled.specs.Ended.{HasNoMark};
+ghost use Rattle.nm_settled_play.specs.EndedTurns.{HaveEndedTurns, LeaveEndedViews, LeaveNoMark};
+
+/// After turns whose events are a run, of which each actor's part leaves the view of an actor that has ended, and which leave
+/// no mark, the machine is settled.
+pub fn ended_turns_settle_the_machine()
+    ensures { (g : Geometry) (played : List Played) → IsGeometry g → IsRun g (events_of played)
+        → HaveEndedTurns g played → HasNoMark (state_after g (events_of played))
+        → IsSettled (state_after g (events_of played)) }
+{}
+
+/// A run of a schedule in which every actor has ended is settled, so one that is not settled made all turns of the schedule: for
+/// actors that leave nothing in their views when they end, and together no mark.
+pub fn a_run_of_a_schedule_is_settled_or_made_all_turns()
+    ensures ended { (g : Geometry) (schedule : Schedule) (agrees : ℕ → Turns → Option Turn → Type 0) (state : State) (events : List Event) (order : List SimTurn)
+        → IsGeometry g → LeaveEndedViews g agrees → LeaveNoMark g schedule agrees
+        → (run : IsRunOf g schedule agrees state events order)
+        → active_actors (actor_count g) run.played ≡ [] → IsSettled state }
+    ensures unsettled { (g : Geometry) (schedule : Schedule) (agrees : ℕ → Turns → Option Turn → Type 0) (state : State) (events : List Event) (order : List SimTurn)
+        → IsGeometry g → LeaveEndedViews g agrees → LeaveNoMark g schedule agrees
+        → IsRunOf g schedule agrees state events order
+        → ¬ IsSettled state → length order ≡ most_turns schedule }
+{}

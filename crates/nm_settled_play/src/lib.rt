@@ -1,0 +1,4 @@
+//! When a run of a schedule ends settled.
+#![tactic(auto)]
+
+pub mod ends;
