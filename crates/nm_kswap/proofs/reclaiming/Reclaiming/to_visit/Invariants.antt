@@ -1,0 +1,13 @@
+use Rattle.std.proofs.Common.{◌≡◌}
+use Rattle.nm_kswap.specs.Stages.{to_visit}
+use Rattle.nm_kswap.specs.Knowing.{AreHands}
+use Rattle.nm_kswap.proofs.reclaiming.Reclaiming.to_visit.Given as goal
+
+abbrev pub invariant-loop-left : goal.invariant-loop-left
+invariant-loop-left l =
+    (to_visit l.self.geometry.now l.last l.tier l.level l.left l.self.kept ≡ to_visit l.fn.self.geometry.now l.last l.tier l.level l.fn.left l.fn.self.kept)
+    × (l.self ≡ record l.fn.self { kept = l.self.kept })
+    × AreHands l.self.geometry.now l.self.kept.hands
+
+abbrev pub decreases-loop-left : goal.decreases-loop-left
+decreases-loop-left l = l.left
