@@ -46,7 +46,7 @@ DemotePart = Drawing DemoteWork
 
 -- the demotion has given no action yet
 abbrev pub IsNewDemoteWork : DemoteWork → Type 0
-IsNewDemoteWork w = HasFirst demote_parts IsNewDemotePiece MayDemotePiece IsDemotePiece (IsPlanPlaced demote_piece DemoteKnown w.run.plan.geometry.now w.run.plan.made (demote_at w.run.plan)) (demote_left w.run.plan.made (demote_at w.run.plan))
+IsNewDemoteWork w = HasFirst {Q = Geometry × DemoteMade} demote_parts IsNewDemotePiece MayDemotePiece IsDemotePiece (IsPlanPlaced demote_piece DemoteKnown w.run.plan.geometry.now w.run.plan.made (demote_at w.run.plan)) (demote_left w.run.plan.made (demote_at w.run.plan))
     (λ made g view. MayDemote made.0 made.1 g view) (λ made g own over. IsDemotion made.1 g own over.end) (record { 0 = w.run.plan.geometry.now; 1 = w.run.plan.made }) w.run.piece
 
 abbrev pub ReclaimerPiece : Type 0
