@@ -196,8 +196,9 @@ impl<'a> Reclaiming<'a> {
                 let Or::Other(end) = end else { unreachable!() };
                 let Or::Other(told) = end else { unreachable!() };
                 self.kept.spent = told.spent;
-                self.taken = Some(told.end.taken);
-                let level = visit.level + freed_by(told.end.end);
+                let over = told.end;
+                let level = visit.level + freed_by(over.end);
+                self.taken = Some(over.taken);
                 to_visit(g, &mut self.kept, visit.last, visit.tier, level, visit.left)
             }
         }
