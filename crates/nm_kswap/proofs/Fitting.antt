@@ -74,7 +74,10 @@ inspected-by g visit kept Idle rounds notes outcome h = h
 pub going-fits : (g : Geometry) (kept : Kept) (stage : Stage) (end : WorkEnd) (rounds : ℕ) (notes : Notes) (outcome : Unit {0}) → IsRunning stage
     → GoingOn g (going_on g kept stage end) rounds notes outcome → StageLeft g kept stage end rounds notes outcome
 going-fits g kept New end rounds notes outcome runs h = absurd runs
-going-fits g kept Asking end rounds notes outcome runs h = tiers-fit g (all_ended_in end) 0 kept rounds notes outcome h
+going-fits g kept Asking end rounds notes outcome runs h =
+    let all : last_tier g - 0 ≡ last_tier g = omega arith in
+    let T : ℕ → Type 0 = λ n. Tiers g 0 n kept (AfterRound g rounds (all_ended_in end)) notes outcome in
+    subst T all (tiers-fit g (all_ended_in end) 0 kept rounds notes outcome h)
 going-fits g kept (Counting last tier) end rounds notes outcome runs h = level-by g last tier (level_in end) kept rounds notes outcome (nat_le (level_in end) (marks_of g tier).low) h
 going-fits g kept (Inspecting visit) end rounds notes outcome runs h = inspected-by g visit kept (inspected_in end) rounds notes outcome h
 going-fits g kept (Demoting visit) end rounds notes outcome runs h = visits-fit g visit.last visit.tier (visit.level + freed_by (demoted_in end)) visit.left (with_drawn (drawn_in end) kept) rounds notes outcome h

@@ -1,10 +1,12 @@
 -- The task of a stage is a next task, and which stage may come next.
-use Rattle.std.proofs.Common.{◌≡◌, ◌≢◌, ℕ, zero, suc, ◌+◌, ◌<◌, ◌%◌, nat_lt, nat_le, if◌then◌else◌, Bool, true, false, List, [], ◌∷◌, length, All, Option, Some, None, refl, sym, ap, subst, ◌∙◌, arith}
+use Rattle.std.proofs.Common.{◌≡◌, ◌≢◌, ℕ, zero, suc, ◌+◌, ◌<◌, ◌≤◌, ◌%◌, nat_lt, nat_le, if◌then◌else◌, Bool, true, false, List, [], ◌∷◌, length, All, Option, Some, None, refl, sym, ap, subst, ◌∙◌, arith}
 use Rattle.std.proofs.lemmas.List.{length-set}
-use Rattle.std.proofs.lemmas.List.Elements.{All-get_or, All-set}
+use Rattle.std.proofs.lemmas.Nat.{mod_below}
+use Rattle.std.proofs.lemmas.List.Elements.{All-nil, All-cons, All-get_or, All-set}
 use Rattle.nm_base.specs.Geometry.{Geometry, IsGeometry, page_count}
 use Rattle.nm_base.specs.Ranges.{IsPage}
 use Rattle.nm_action.specs.Own.{Own}
+use Rattle.nm_view.specs.Opening.{opening}
 use Rattle.nm_view.specs.Views.{View}
 use Rattle.nm_compose.specs.declared.or.Or.TheVariants.{This, Other}
 use Rattle.nm_pool.specs.declared.job.PoolEnd.TheVariants as pools
@@ -26,10 +28,10 @@ use Rattle.nm_kswap.specs.declared.stage.Stage.{Stage}
 use Rattle.nm_kswap.specs.declared.stage.Stage.TheVariants.{New, Asking, Counting, Inspecting, Demoting, Over}
 use Rattle.nm_kswap.specs.declared.reclaiming.Reclaiming.{Reclaiming}
 use Rattle.nm_kswap.specs.Works.{ReclaimerPiece, WorkMade, WorkEnd, work_made, MayWork, IsWork, WorkLeaves, made_ask, made_level, made_inspect, made_demote}
-use Rattle.nm_kswap.specs.Ends.{level_in, inspected_in, demoted_in, drawn_in, freed_by, work_counts}
-use Rattle.nm_kswap.specs.Reclaiming.{Sequence, hand_of, moved, with_drawn, marks_of, has_any, has_vpage, Does}
+use Rattle.nm_kswap.specs.Ends.{nothing_drawn, level_in, inspected_in, demoted_in, drawn_in, freed_by, work_counts}
+use Rattle.nm_kswap.specs.Reclaiming.{Sequence, fresh_kept, IsReclaiming, hand_of, moved, with_drawn, marks_of, has_any, has_vpage, Does}
 use Rattle.nm_kswap.specs.Stages.{task_at, Going, to_stage, tier_stage, to_visit, to_demote, going_on, words_after, StageOn, StageLeft, TaskLeft}
-use Rattle.nm_kswap.specs.Knowing.{IsResting, AreHands, IsVisit, IsStageOf, IsRunning, HasWords, IsEndAt, IsAble, KnowsReclaiming, ReclaimingLeft, IsNewTask}
+use Rattle.nm_kswap.specs.Knowing.{IsResting, AreHands, IsVisit, IsStageOf, IsRunning, HasWords, IsEndAt, IsAble, IsNewReclaiming, KnowsReclaiming, ReclaimingLeft, IsNewTask, GivesTask}
 use Rattle.nm_kswap.proofs.Lists.{left-can}
 use Rattle.nm_kswap.proofs.Fitting.{GoingOn, going-fits}
 use Rattle.nm_kswap.proofs.Resting.{IsPieceOver, IsOverIn, may-ask, may-level, may-inspect, may-demote, over-kind, over-runs, going-rests}
@@ -91,7 +93,7 @@ pub gives-task : (is_new : ReclaimerPiece → Type 0) (r : Reclaiming) (g : Geom
     → task_data work_made task ≡ task_at g kept stage → IsNewTask is_new task → IsResting g kept.spent now
     → ((notes : Notes) (outcome : Unit {0}) → Sometimes (StageOn g kept stage) notes outcome → was notes outcome)
     → IsNextTask work_made is_new MayWork IsWork work_counts (KnowsReclaiming r) (ReclaimingLeft r) was g now task
-gives-task is_new r g kept stage task now was geometry-is kept-is stage-is hands there words data fresh rests fits =
+gives-task is_new r g kept stage task now was geometry-is kept-is stage-is hands there words told fresh rests fits =
     let L : Geometry → Kept → Stage → Type 0 = λ h k s. NextIn (KnowsReclaiming r) (TaskLeft h k s) was g now (task_data work_made task) in
     let D : Task WorkMade → Type 0 = λ t. NextIn (KnowsReclaiming r) (TaskLeft g kept stage) was g now t in
     let able : IsAble r = record {
@@ -103,7 +105,7 @@ gives-task is_new r g kept stage task now was geometry-is kept-is stage-is hands
     let task-is : task_at g kept stage ≡ task_at r.geometry.now r.kept r.stage = λ i. task_at (sym geometry-is i) (sym kept-is i) (sym stage-is i) in
     let known : KnowsReclaiming r now (task_at g kept stage) = record { is = task-is; able = able; resting = resting } in
     let next = next-at g kept stage now (KnowsReclaiming r) was known there rests fits in
-    let here : L g kept stage = subst D (sym data) next in
+    let here : L g kept stage = subst D (sym told) next in
     by-data is_new (KnowsReclaiming r) (ReclaimingLeft r) was g now task fresh
     (subst (λ (h : Geometry). L h r.kept r.stage) (sym geometry-is) (subst (λ (k : Kept). L g k r.stage) (sym kept-is) (subst (λ (s : Stage). L g kept s) (sym stage-is) here)))
 
@@ -170,12 +172,12 @@ runs-over ends r now later task end known over = ends-run ends r.geometry.now no
 
 -- What may come next.
 
-moved-hands : (g : Geometry) (tier : ℕ) (kept : Kept) → IsGeometry g → AreHands g kept.hands → AreHands g (moved g tier kept).hands
+pub moved-hands : (g : Geometry) (tier : ℕ) (kept : Kept) → IsGeometry g → AreHands g kept.hands → AreHands g (moved g tier kept).hands
 moved-hands g tier kept fine hands =
-    let some : 1 ≤ page_count g = fine.ranges.2.1.1 in
+    let some : 1 ≤ page_count g = fine.ranges.3.1 in
     record {
       size = length-set kept.hands tier _ ∙ hands.size;
-      within = All-set (IsPage g) kept.hands tier _ (omega (arith, some)) hands.within;
+      within = All-set (IsPage g) kept.hands tier _ (mod_below (hand_of tier kept + 1) (page_count g) some) hands.within;
     }
 
 tier-of : (g : Geometry) (last : Bool) (tier : ℕ) (more : Bool) → nat_lt (tier + 1) (length g.tiers) ≡ more → IsStageOf g (if more then Counting last tier else (if last then Over else Asking))
@@ -247,3 +249,69 @@ going-words (Demoting visit) (Other (This end)) taken kind words = absurd kind
 going-words (Demoting visit) (Other (Other (This found))) taken kind words = absurd kind
 going-words (Demoting visit) (Other (Other (Other told))) taken kind words = tt
 going-words Over end taken kind words = absurd kind
+
+-- The steps of the routine.
+
+fresh-hands : (g : Geometry) → IsGeometry g → AreHands g fresh_kept.hands
+fresh-hands g fine =
+    let some : 1 ≤ page_count g = fine.ranges.3.1 in
+    let at : IsPage g 0 = omega (arith, some) in
+    record { size = refl; within = All-cons (IsPage g) 0 (0 ∷ 0 ∷ []) at (All-cons (IsPage g) 0 (0 ∷ []) at (All-cons (IsPage g) 0 [] at (All-nil (IsPage g)))) }
+
+opening-rests : (g : Geometry) (number : ℕ) → IsGeometry g → IsResting g nothing_drawn (opening g number)
+opening-rests g number fine = record { geometry = fine; empty = record { ops = refl; owned = refl; turn = refl }; drawn = record { bumps = refl; raises = refl } }
+
+-- the first task
+pub first-task : (is_new : ReclaimerPiece → Type 0) (old new : Reclaiming) (result : Task ReclaimerPiece) (number : ℕ)
+    → IsNewReclaiming old → new.geometry.now ≡ old.geometry.now → new.kept ≡ old.kept → new.stage ≡ Asking → HasWords Asking new.taken
+    → task_data work_made result ≡ task_at old.geometry.now old.kept Asking → IsNewTask is_new result
+    → GivesTask is_new new result (IsReclaiming old.geometry.now) old.geometry.now (opening old.geometry.now number)
+first-task is_new old new result number fresh geometry kept stage words told made =
+    gives-task is_new new old.geometry.now fresh_kept Asking result (opening old.geometry.now number) (IsReclaiming old.geometry.now) geometry (kept ∙ fresh.fresh) stage
+    (fresh-hands old.geometry.now fresh.geometry) tt words told made (opening-rests old.geometry.now number fresh.geometry) (λ notes outcome s. s)
+
+-- the task after one that is over
+pub next-task : (is_new : ReclaimerPiece → Type 0) (ends : ReclaimerPiece → Geometry → Own → WorkEnd → Type 0) (old mid new : Reclaiming) (stage : Stage) (task result : Task ReclaimerPiece) (given : Ended WorkEnd) (end : WorkEnd) (now later : View)
+    → given ≡ ended.Run end
+    → stage ≡ (going_on old.geometry.now old.kept old.stage end).stage → mid.kept ≡ (going_on old.geometry.now old.kept old.stage end).kept → mid.geometry.now ≡ old.geometry.now
+    → new.geometry.now ≡ mid.geometry.now → new.kept ≡ mid.kept → new.stage ≡ stage → HasWords stage new.taken
+    → task_data work_made result ≡ task_at mid.geometry.now mid.kept stage → IsNewTask is_new result
+    → KnowsReclaiming old now (task_data work_made task) → IsTaskOver work_made IsWork WorkLeaves ends old.geometry.now now later task given
+    → GivesTask is_new new result (ReclaimingLeft old given) old.geometry.now later
+next-task is_new ends old mid new stage task result given end now later so stage-is kept-is mid-is new-is same at words told made known over =
+    let g : Geometry = old.geometry.now in
+    let going : Going = going_on g old.kept old.stage end in
+    let O : Ended WorkEnd → Type 0 = λ e. IsTaskOver work_made IsWork WorkLeaves ends g now later task e in
+    let piece = over-at ends old now later task end known (subst O so over) in
+    let runs : IsRunning old.stage = over-runs g old.kept old.stage now later end piece in
+    let there : IsGoing g going = going-there g old.kept old.stage end known.resting.geometry known.able.stage runs known.able.hands in
+    let W : Stage → Type 0 = λ s. HasWords s new.taken in
+    let task-is : task_at mid.geometry.now mid.kept stage ≡ task_at g going.kept going.stage = λ i. task_at (mid-is i) (kept-is i) (stage-is i) in
+    let G : Ended WorkEnd → Type 0 = λ e. GivesTask is_new new result (ReclaimingLeft old e) g later in
+    subst G (sym so) (gives-task is_new new g going.kept going.stage result later (ReclaimingLeft old (ended.Run end)) (new-is ∙ mid-is) (same ∙ kept-is) (at ∙ stage-is)
+    there.hands there.stage (subst W stage-is words) (told ∙ task-is) made (going-rests g old.kept old.stage now later end piece known.resting)
+    (λ notes outcome s. record { tries = s.tries; is = going-fits g old.kept old.stage end s.tries notes outcome runs s.is }))
+
+-- a task is over: what the routine may do then
+
+pub over-able : (ends : ReclaimerPiece → Geometry → Own → WorkEnd → Type 0) (old : Reclaiming) (task : Task ReclaimerPiece) (given : Ended WorkEnd) (end : WorkEnd) (now later : View) → given ≡ ended.Run end
+    → KnowsReclaiming old now (task_data work_made task) → IsTaskOver work_made IsWork WorkLeaves ends old.geometry.now now later task given → IsEndAt old.stage end
+over-able ends old task given end now later so known over =
+    let O : Ended WorkEnd → Type 0 = λ e. IsTaskOver work_made IsWork WorkLeaves ends old.geometry.now now later task e in
+    over-kind old.geometry.now old.kept old.stage now later end (over-at ends old now later task end known (subst O so over))
+
+pub over-stage : (ends : ReclaimerPiece → Geometry → Own → WorkEnd → Type 0) (old mid : Reclaiming) (stage : Stage) (task : Task ReclaimerPiece) (given : Ended WorkEnd) (end : WorkEnd) (now later : View) → given ≡ ended.Run end
+    → stage ≡ (going_on old.geometry.now old.kept old.stage end).stage → mid.geometry.now ≡ old.geometry.now
+    → KnowsReclaiming old now (task_data work_made task) → IsTaskOver work_made IsWork WorkLeaves ends old.geometry.now now later task given → IsStageOf mid.geometry.now stage
+over-stage ends old mid stage task given end now later so stage-is mid-is known over =
+    let g : Geometry = old.geometry.now in
+    let O : Ended WorkEnd → Type 0 = λ e. IsTaskOver work_made IsWork WorkLeaves ends g now later task e in
+    let piece = over-at ends old now later task end known (subst O so over) in
+    let there = going-there g old.kept old.stage end known.resting.geometry known.able.stage (over-runs g old.kept old.stage now later end piece) known.able.hands in
+    subst (λ (h : Geometry). IsStageOf h stage) (sym mid-is) (subst (IsStageOf g) (sym stage-is) there.stage)
+
+pub over-words : (ends : ReclaimerPiece → Geometry → Own → WorkEnd → Type 0) (old : Reclaiming) (taken : Option (List (ℕ × ℕ))) (task : Task ReclaimerPiece) (given : Ended WorkEnd) (end : WorkEnd) (now later : View) → given ≡ ended.Run end
+    → taken ≡ words_after old.stage end old.taken
+    → KnowsReclaiming old now (task_data work_made task) → IsTaskOver work_made IsWork WorkLeaves ends old.geometry.now now later task given → HoldsWords taken
+over-words ends old taken task given end now later so is known over =
+    subst HoldsWords (sym is) (going-words old.stage end old.taken (over-able ends old task given end now later so known over) known.able.words)

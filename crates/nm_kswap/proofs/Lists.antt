@@ -20,8 +20,7 @@ use Rattle.nm_inspect.specs.declared.inspect.Inspected.TheVariants.{Elsewhere, I
 use Rattle.nm_inspect.proofs.Steps.{some-inspection}
 use Rattle.nm_demote.proofs.DemoteSteps.{some-demotion}
 use Rattle.nm_drawing.specs.Draws.{drawn_over}
-use Rattle.nm_worker.specs.Notes.{Notes, IsWorkDone}
-use Rattle.nm_worker.proofs.Routing.{some-work}
+use Rattle.nm_worker.specs.Notes.{Notes, worked}
 use Rattle.nm_kswap.specs.declared.stage.Kept.{Kept}
 use Rattle.nm_kswap.specs.declared.stage.Visit.{Visit}
 use Rattle.nm_kswap.specs.declared.stage.Stage.{Stage}
@@ -43,7 +42,11 @@ asks-ended g cpu (suc more) =
 
 -- a piece that has a list can be done, and what comes after it be finished
 does-can : (g : Geometry) (work : WorkMade) (after : WorkEnd → Sequence) (some : CanEnd (IsWork work g)) → CanEnd (after some.outcome) → CanEnd (Does g work after)
-does-can g work after some can = can-follow (IsWorkDone IsWork work_counts work g) after (some-work IsWork work_counts work g some) can
+does-can g work after some can = record {
+  rest = worked (work_counts some.outcome) some.rest ++ can.rest;
+  outcome = can.outcome;
+  shown = record { end = some.outcome; front = worked (work_counts some.outcome) some.rest; back = can.rest; shown = record { own = some.rest; shown = some.shown; is = refl }; rest = can.shown; is = refl };
+}
 
 some-level : (g : Geometry) (tier : ℕ) → tier < length g.tiers → CanEnd (IsWork (made_level g tier) g)
 some-level g tier there = let some = some-pool g (Level tier) there in record { rest = some.rest; outcome = Other (This some.outcome); shown = some.whole }

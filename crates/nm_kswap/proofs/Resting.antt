@@ -1,7 +1,5 @@
 -- The pieces of the reclaimer's work begin in a view with nothing open, and leave such a one.
 use Rattle.std.proofs.Common.{◌≡◌, ◌≢◌, ℕ, zero, suc, ◌+◌, ◌<◌, ◌≤◌, ◌%◌, nat_lt, nat_le, if◌then◌else◌, Bool, true, false, List, [], ◌∷◌, length, map, All, Option, None, refl, sym, ap, subst, ◌∙◌, arith}
-use Rattle.std.proofs.lemmas.List.{length-set}
-use Rattle.std.proofs.lemmas.List.Elements.{All-get_or, All-set}
 use Rattle.nm_base.specs.Geometry.{Geometry, IsGeometry, page_count}
 use Rattle.nm_base.specs.Ranges.{IsPage}
 use Rattle.nm_action.specs.declared.spent.Spent.{Spent}
@@ -37,7 +35,7 @@ use Rattle.nm_kswap.specs.Knowing.{IsResting, IsRunning, IsEndAt}
 -- They may begin.
 
 pub may-ask : (g : Geometry) (spent : Spent) (view : View) → IsResting g spent view → MayWork (made_ask g) g view
-may-ask g spent view h = let some = h.geometry.ranges.2.0 in record { all = refl; some = omega (arith, some.0); ops = h.empty.ops }
+may-ask g spent view h = let some = h.geometry.ranges.2.0 in record { all = refl; some = omega (arith, some); ops = h.empty.ops }
 
 pub may-level : (g : Geometry) (tier : ℕ) (spent : Spent) (view : View) → tier < length g.tiers → IsResting g spent view → MayWork (made_level g tier) g view
 may-level g tier spent view there h = record { geometry = h.geometry; is = refl; work = there; turn = h.empty.turn }
@@ -113,13 +111,13 @@ over-runs g kept Over now later end h = absurd h
 
 -- What was drawn is kept.
 
-visit-spent : (g : Geometry) (last : Bool) (tier level left : ℕ) (kept : Kept) → (to_visit g last tier level left kept).kept.spent ≡ kept.spent
 visit-spent-by : (g : Geometry) (last : Bool) (tier level left : ℕ) (kept : Kept) (below some : Bool) → (to_visit g last tier level left (moved g tier kept)).kept.spent ≡ kept.spent
     → (if below then (if some then to_stage (Inspecting (record { last = last; tier = tier; level = level; page = hand_of tier kept; left = left })) (moved g tier kept) else to_visit g last tier level left (moved g tier kept)) else to_stage (tier_stage g last (tier + 1)) kept).kept.spent ≡ kept.spent
 visit-spent-by g last tier level left kept true true later = refl
 visit-spent-by g last tier level left kept true false later = later
 visit-spent-by g last tier level left kept false some later = refl
 
+visit-spent : (g : Geometry) (last : Bool) (tier level left : ℕ) (kept : Kept) → (to_visit g last tier level left kept).kept.spent ≡ kept.spent
 visit-spent g last tier level zero kept = refl
 visit-spent g last tier level (suc left) kept = visit-spent-by g last tier level left kept (nat_lt level (marks_of g tier).high) (has_vpage g (hand_of tier kept)) (visit-spent g last tier level left (moved g tier kept))
 

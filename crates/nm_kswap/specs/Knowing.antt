@@ -12,12 +12,13 @@ use Rattle.nm_worker.specs.declared.routine.Task.{Task}
 use Rattle.nm_worker.specs.declared.routine.Task.TheVariants.{Run, Put, Take, Stop}
 use Rattle.nm_worker.specs.declared.routine.Ended.{Ended}
 use Rattle.nm_worker.specs.Notes.{Notes}
-use Rattle.nm_worker.specs.Routines.{IsDrawn, IsLeftEmpty}
+use Rattle.nm_worker.specs.Routines.{IsDrawn, IsLeftEmpty, IsNextTask}
 use Rattle.nm_kswap.specs.declared.stage.Visit.{Visit}
 use Rattle.nm_kswap.specs.declared.stage.Stage.{Stage}
 use Rattle.nm_kswap.specs.declared.stage.Stage.TheVariants.{New, Asking, Counting, Inspecting, Demoting, Over}
 use Rattle.nm_kswap.specs.declared.reclaiming.Reclaiming.{Reclaiming}
-use Rattle.nm_kswap.specs.Works.{ReclaimerPiece, WorkMade, WorkEnd}
+use Rattle.nm_kswap.specs.Works.{ReclaimerPiece, WorkMade, WorkEnd, work_made, MayWork, IsWork}
+use Rattle.nm_kswap.specs.Ends.{work_counts}
 use Rattle.nm_kswap.specs.Reclaiming.{fresh_kept, marks_of}
 use Rattle.nm_kswap.specs.Stages.{task_at, TaskLeft}
 
@@ -95,3 +96,7 @@ IsNewTask is_new (Run piece) = is_new piece
 IsNewTask is_new (Put lane page) = ⊥
 IsNewTask is_new (Take lane) = ⊥
 IsNewTask is_new Stop = Unit {0}
+
+-- this task comes next, where this was left
+abbrev pub GivesTask : (ReclaimerPiece → Type 0) → Reclaiming → Task ReclaimerPiece → (Notes → Unit {0} → Type 0) → Geometry → View → Type 0
+GivesTask is_new r task was g now = IsNextTask work_made is_new MayWork IsWork work_counts (KnowsReclaiming r) (ReclaimingLeft r) was g now task

@@ -4,6 +4,7 @@
 pub mod actor;
 pub mod reclaiming;
 pub mod stage;
+pub mod task;
 pub mod work;
 
 pub use actor::ReclaimerActor;

@@ -4,13 +4,14 @@ ghost use Rattle.std.specs.Prelude.{◌≡◌, ◌≢◌, ◌<◌, [], length};
 ghost use Rattle.nm_vpages.specs.VPages.{vpages_of};
 ghost use Rattle.nm_kswap.specs.Works.{work_made, made_ask, made_level, made_inspect, made_demote};
 
+use crate::task::{DemoteWork, InspectTask};
 use nm_base::Geometry;
 use nm_compose::{Act, Composite, Or};
-use nm_demote::{Demote, DemoteOver, DemotePiece};
+use nm_demote::{Demote, DemoteOver};
 use nm_drawing::{Drawing, Drawn};
 use nm_ended::AskEnded;
 use nm_event::Spent;
-use nm_inspect::{Inspect, InspectPiece, Inspected};
+use nm_inspect::{Inspect, Inspected};
 use nm_part::Part;
 use nm_pool::{PoolEnd, PoolTask};
 use nm_transfer::TakenWords;
@@ -18,15 +19,12 @@ use nm_transfer::TakenWords;
 /// The question to all processors, as a part.
 pub type AskPart = Composite<AskEnded, Act>;
 
-/// The inspection of a page, as a part.
-pub type InspectPart<'a> = Composite<Inspect<'a>, InspectPiece<'a>>;
-
 /// The demotion of a page, as a part that tells what it has drawn.
-pub type DemotePart<'a> = Drawing<Composite<Demote<'a>, DemotePiece<'a>>>;
+pub type DemotePart<'a> = Drawing<DemoteWork<'a>>;
 
 /// A piece of the reclaimer's work: all processors are asked whether they have ended, the free frames of a tier are counted, a
 /// page is inspected, or it is demoted.
-pub type ReclaimerPiece<'a> = Or<AskPart, Or<PoolTask, Or<InspectPart<'a>, DemotePart<'a>>>>;
+pub type ReclaimerPiece<'a> = Or<AskPart, Or<PoolTask, Or<InspectTask<'a>, DemotePart<'a>>>>;
 
 /// How a piece of the reclaimer's work ends.
 pub type ReclaimerEnd = Or<bool, Or<PoolEnd, Or<Inspected, Drawn<DemoteOver>>>>;
@@ -55,7 +53,8 @@ pub(crate) fn inspect_work<'a>(g: &'a Geometry, page: u32, tier: u32) -> Reclaim
     ensures made { work_made result ≡ made_inspect g.now page tier }
     ensures new { ⟦<ReclaimerPiece<'a> as Part>⟧.is_new result }
 {
-    Or::Other(Or::Other(Or::This(Composite::new(Inspect::new(g, page, tier)))))
+    let run = Composite::new(Inspect::new(g, page, tier));
+    Or::Other(Or::Other(Or::This(InspectTask { run })))
 }
 
 /// The demotion of a page, by an actor that has drawn so much; `taken` gives the room for the words that are taken. Where it
@@ -70,5 +69,6 @@ pub(crate) fn demote_work<'a>(
     ensures new { ⟦<ReclaimerPiece<'a> as Part>⟧.is_new result }
 {
     let plan = Demote::new(g, page, spent, taken);
-    Or::Other(Or::Other(Or::Other(Drawing::new(Composite::new(plan), spent))))
+    let run = Composite::new(plan);
+    Or::Other(Or::Other(Or::Other(Drawing::new(DemoteWork { run }, spent))))
 }

@@ -1,0 +1,39 @@
+-- What the worker of the reclaimer agrees with is a reclaimer's part.
+use Rattle.std.proofs.Common.{◌≡◌, ℕ, [], Option, Some, None, sym, subst}
+use Rattle.nm_base.specs.Geometry.{Geometry, IsGeometry}
+use Rattle.nm_action.specs.declared.action.Action.{Action}
+use Rattle.nm_action.specs.declared.tally.Tally.{Tally}
+use Rattle.nm_action.specs.declared.turn.Turn.{Turn}
+use Rattle.nm_action.specs.declared.turn.Turn.TheVariants as turn
+use Rattle.nm_action.specs.Own.{Own}
+use Rattle.nm_action.specs.Tally.{sum_of}
+use Rattle.nm_view.specs.Views.{View}
+use Rattle.nm_actor.specs.Turns.{Turns, turns_view}
+use Rattle.nm_worker.specs.Workers.{FollowsRoutine}
+use Rattle.nm_worker.proofs.Ending.{known-at-end}
+use Rattle.nm_routine_part.specs.Parts.{is_end}
+use Rattle.nm_routine_part.proofs.Parts.{part-of-routine}
+use Rattle.nm_kswap.specs.Works.{ReclaimerPiece, work_made, MayWork, IsWork}
+use Rattle.nm_kswap.specs.Ends.{work_counts}
+use Rattle.nm_kswap.specs.Reclaiming.{IsReclaiming}
+use Rattle.nm_kswap.specs.Knowing.{KnowsReclaiming, ReclaimingLeft}
+use Rattle.nm_kswap.specs.Parts.{reclaimer_number, IsReclaimerPart, IsEmptyAtEnd, ReclaimerWorker}
+use Rattle.nm_kswap.proofs.Lists.{reclaiming-can}
+
+-- what the worker says of itself
+abbrev pub FollowsReclaiming : (ReclaimerPiece → Type 0) → (ReclaimerPiece → Geometry → View → Own → Action → Type 0) → ReclaimerWorker → Turns → Option Turn → Type 0
+FollowsReclaiming is_new awaits w turns last = FollowsRoutine work_made is_new MayWork IsWork awaits work_counts (KnowsReclaiming w.routine) (ReclaimingLeft w.routine) (IsReclaiming w.routine.geometry.now) w.routine.geometry.now (reclaimer_number w.routine.geometry.now) w.action w.task w.events w.ends w.spent turns last
+
+pub worker-part : (is_new : ReclaimerPiece → Type 0) (awaits : ReclaimerPiece → Geometry → View → Own → Action → Type 0) (w : ReclaimerWorker) (turns : Turns) (last : Option Turn)
+    → FollowsReclaiming is_new awaits w turns last → IsReclaimerPart w.routine.geometry.now turns (is_end last) (sum_of w.events.tally w.ends)
+worker-part is_new awaits w turns last h =
+    part-of-routine work_made is_new MayWork IsWork awaits work_counts (KnowsReclaiming w.routine) (ReclaimingLeft w.routine) (IsReclaiming w.routine.geometry.now) w.routine.geometry.now (reclaimer_number w.routine.geometry.now) w.action w.task w.events w.ends w.spent turns last (reclaiming-can w.routine.geometry.now) h
+
+pub worker-empty : (is_new : ReclaimerPiece → Type 0) (awaits : ReclaimerPiece → Geometry → View → Own → Action → Type 0) (w : ReclaimerWorker) (turns : Turns) (last : Option Turn)
+    → FollowsReclaiming is_new awaits w turns last → IsEmptyAtEnd (is_end last) (turns_view w.routine.geometry.now (reclaimer_number w.routine.geometry.now) turns)
+worker-empty is_new awaits w turns None h = tt
+worker-empty is_new awaits w turns (Some turn.End) h =
+    (known-at-end work_made is_new MayWork IsWork awaits work_counts (KnowsReclaiming w.routine) (ReclaimingLeft w.routine) (IsReclaiming w.routine.geometry.now) w.routine.geometry.now (reclaimer_number w.routine.geometry.now) w.action w.task w.events w.ends w.spent turns h).resting.empty
+worker-empty is_new awaits w turns (Some (turn.Do action)) h = tt
+worker-empty is_new awaits w turns (Some (turn.Put lane page)) h = tt
+worker-empty is_new awaits w turns (Some (turn.Take lane)) h = tt
