@@ -11,3 +11,4 @@ pub mod Gave
 pub mod Noting
 pub mod Starting
 pub mod Ended
+pub mod OwnAccesses

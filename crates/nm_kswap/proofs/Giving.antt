@@ -172,7 +172,7 @@ runs-over ends r now later task end known over = ends-run ends r.geometry.now no
 
 -- What may come next.
 
-moved-hands : (g : Geometry) (tier : ℕ) (kept : Kept) → IsGeometry g → AreHands g kept.hands → AreHands g (moved g tier kept).hands
+pub moved-hands : (g : Geometry) (tier : ℕ) (kept : Kept) → IsGeometry g → AreHands g kept.hands → AreHands g (moved g tier kept).hands
 moved-hands g tier kept fine hands =
     let some : 1 ≤ page_count g = fine.ranges.3.1 in
     record {

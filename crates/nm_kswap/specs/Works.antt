@@ -5,12 +5,14 @@ use Rattle.nm_action.specs.declared.spent.Spent.{Spent}
 use Rattle.nm_action.specs.Own.{Own}
 use Rattle.nm_view.specs.Views.{View}
 use Rattle.nm_compose.specs.Choices.{or_made, MayBeginOr, IsOr, LeavesOr}
+use Rattle.nm_compose.specs.Composites.{HasFirst}
 use Rattle.nm_compose.specs.declared.act.Act.{Act}
 use Rattle.nm_compose.specs.declared.composite.Composite.{Composite}
 use Rattle.nm_compose.specs.declared.or.Or.{Or}
 use Rattle.nm_compose.specs.declared.or.Or.TheVariants.{This, Other}
 use Rattle.nm_ended.specs.declared.ask.AskEnded.{AskEnded}
 use Rattle.nm_ended.specs.Asking.{MayAsk, IsAsking}
+use Rattle.nm_prepare.specs.Placing.{IsPlanPlaced}
 use Rattle.nm_pool.specs.Pool.{IsPool}
 use Rattle.nm_pool.specs.Given.{pool_made, MayBegin, Leaves}
 use Rattle.nm_pool.specs.Stages.{made_of}
@@ -28,6 +30,8 @@ use Rattle.nm_demote.specs.declared.demote.DemoteOver.{DemoteOver}
 use Rattle.nm_demote.specs.Selections.{MayDemote}
 use Rattle.nm_demote.specs.Demotions.{IsDemotion}
 use Rattle.nm_demote.specs.Leaving.{IsDemoteLeft}
+use Rattle.nm_demote.specs.Pieces.{demote_parts, IsNewDemotePiece, MayDemotePiece, IsDemotePiece}
+use Rattle.nm_demote.specs.Places.{demote_at, demote_piece, demote_left, DemoteKnown}
 use Rattle.nm_drawing.specs.declared.drawing.Drawing.{Drawing}
 use Rattle.nm_drawing.specs.declared.drawing.Drawn.{Drawn}
 use Rattle.nm_drawing.specs.Draws.{MayDraw, IsDrawingList, IsDrawnLeft}
@@ -39,6 +43,11 @@ AskPart = Composite AskEnded Act
 
 abbrev pub DemotePart : Type 0
 DemotePart = Drawing DemoteWork
+
+-- the demotion has given no action yet
+abbrev pub IsNewDemoteWork : DemoteWork → Type 0
+IsNewDemoteWork w = HasFirst {Q = Geometry × DemoteMade} demote_parts IsNewDemotePiece MayDemotePiece IsDemotePiece (IsPlanPlaced demote_piece DemoteKnown w.run.plan.geometry.now w.run.plan.made (demote_at w.run.plan)) (demote_left w.run.plan.made (demote_at w.run.plan))
+    (λ made g view. MayDemote made.0 made.1 g view) (λ made g own over. IsDemotion made.1 g own over.end) (record { 0 = w.run.plan.geometry.now; 1 = w.run.plan.made }) w.run.piece
 
 abbrev pub ReclaimerPiece : Type 0
 ReclaimerPiece = Or AskPart (Or PoolTask (Or InspectTask DemotePart))

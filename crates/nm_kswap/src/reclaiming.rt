@@ -73,6 +73,66 @@ fn demotion_counts(end: DemoteEnd) -> Tally
     }
 }
 
+/// The watermarks of a tier.
+fn marks_of(g: &Geometry, tier: u32) -> Watermarks
+    requires geometry { IsGeometry g.now }
+    requires tier { tier < length g.now.tiers }
+    ensures { result ≡ marks_of g.now tier }
+{
+    Watermarks::of(g.tiers[tier as usize])
+}
+
+/// Where a round goes on with the tiers from this one on.
+fn tier_stage(g: &Geometry, last: bool, tier: u32) -> Stage
+    requires { tier + 1 < 2 ^ 32 }
+    ensures { result ≡ tier_stage g.now last tier }
+{
+    if ((tier + 1) as usize) < g.tiers.len() {
+        Stage::Counting { last, tier }
+    } else if last {
+        Stage::Over
+    } else {
+        Stage::Asking
+    }
+}
+
+/// Where it goes on with so many visits at most by a tier of this counted level. The hand of the tier goes on.
+fn to_visit(
+    g: &Geometry,
+    kept: &mut Kept,
+    last: bool,
+    tier: u32,
+    level: u32,
+    left: u32,
+) -> Stage
+    requires geometry { IsGeometry g.now }
+    requires tier { tier + 1 < length g.now.tiers }
+    requires hands { AreHands g.now kept.old.hands }
+    ensures stage { result ≡ (to_visit g.now last tier level left kept.old).stage }
+    ensures kept { kept.new ≡ (to_visit g.now last tier level left kept.old).kept }
+{
+    if enough(level, marks_of(g, tier)) {
+        return tier_stage(g, last, tier + 1);
+    }
+    let place = tier as usize;
+    let mut left = left;
+    while left > 0 {
+        left -= 1;
+        let page = kept.hands[place];
+        kept.hands[place] = (page + 1) % g.pages();
+        if has_vpage(g, page) {
+            return Stage::Inspecting(Visit {
+                last,
+                tier,
+                level,
+                page,
+                left,
+            });
+        }
+    }
+    tier_stage(g, last, tier + 1)
+}
+
 impl<'a> Reclaiming<'a> {
     /// The routine of a geometry's reclaimer, with room for the words that a demotion takes. The only error is want of memory.
     pub fn new(alloc: Global, g: &'a Geometry) -> Result<Reclaiming<'a>, AllocError>
@@ -92,60 +152,6 @@ impl<'a> Reclaiming<'a> {
         })
     }
 
-    /// The watermarks of a tier.
-    fn marks(&self, tier: u32) -> Watermarks
-        requires geometry { IsGeometry self.now.geometry.now }
-        requires tier { tier < length self.now.geometry.now.tiers }
-        ensures { result ≡ marks_of self.now.geometry.now tier }
-    {
-        let g = self.geometry;
-        Watermarks::of(g.tiers[tier as usize])
-    }
-
-    /// Where a round goes on with the tiers from this one on.
-    fn tier_stage(&self, last: bool, tier: u32) -> Stage
-        requires { tier + 1 < 2 ^ 32 }
-        ensures { result ≡ tier_stage self.now.geometry.now last tier }
-    {
-        let g = self.geometry;
-        if ((tier + 1) as usize) < g.tiers.len() {
-            Stage::Counting { last, tier }
-        } else if last {
-            Stage::Over
-        } else {
-            Stage::Asking
-        }
-    }
-
-    /// Where it goes on with so many visits at most by a tier of this counted level. The hand of the tier goes on.
-    fn to_visit(&mut self, last: bool, tier: u32, level: u32, left: u32) -> Stage
-        requires geometry { IsGeometry self.old.geometry.now }
-        requires tier { tier + 1 < length self.old.geometry.now.tiers }
-        requires hands { AreHands self.old.geometry.now self.old.kept.hands }
-        ensures stage { result ≡ (to_visit self.old.geometry.now last tier level left self.old.kept).stage }
-        ensures kept { self.new ≡ record self.old { kept = (to_visit self.old.geometry.now last tier level left self.old.kept).kept } }
-    {
-        let g = self.geometry;
-        let marks = self.marks(tier);
-        let place = tier as usize;
-        let mut left = left;
-        while left > 0 && !enough(level, marks) {
-            left -= 1;
-            let page = self.kept.hands[place];
-            self.kept.hands[place] = (page + 1) % g.pages();
-            if has_vpage(g, page) {
-                return Stage::Inspecting(Visit {
-                    last,
-                    tier,
-                    level,
-                    page,
-                    left,
-                });
-            }
-        }
-        self.tier_stage(last, tier + 1)
-    }
-
     /// Where it goes on after the piece of its stage, which has ended so.
     fn going_on(&mut self, end: ReclaimerEnd) -> Stage
         requires geometry { IsGeometry self.old.geometry.now }
@@ -156,11 +162,12 @@ impl<'a> Reclaiming<'a> {
         ensures words { self.new.taken ≡ words_after self.old.stage end self.old.taken }
         ensures geometry { self.new.geometry.now ≡ self.old.geometry.now }
     {
+        let g = self.geometry;
         match self.stage {
             Stage::New | Stage::Over => unreachable!(),
             Stage::Asking => {
                 let Or::This(all) = end else { unreachable!() };
-                self.tier_stage(all, 0)
+                tier_stage(g, all, 0)
             }
             Stage::Counting { last, tier } => {
                 let Or::Other(end) = end else { unreachable!() };
@@ -168,11 +175,10 @@ impl<'a> Reclaiming<'a> {
                 let PoolEnd::Level(level) = end else {
                     unreachable!()
                 };
-                if wants_demotion(level, self.marks(tier)) {
-                    let pages = self.geometry.pages();
-                    self.to_visit(last, tier, level, pages)
+                if wants_demotion(level, marks_of(g, tier)) {
+                    to_visit(g, &mut self.kept, last, tier, level, g.pages())
                 } else {
-                    self.tier_stage(last, tier + 1)
+                    tier_stage(g, last, tier + 1)
                 }
             }
             Stage::Inspecting(visit) => {
@@ -181,7 +187,7 @@ impl<'a> Reclaiming<'a> {
                 let Or::This(found) = end else { unreachable!() };
                 match found {
                     Inspected::Elsewhere | Inspected::InUse =>
-                        self.to_visit(visit.last, visit.tier, visit.level, visit.left),
+                        to_visit(g, &mut self.kept, visit.last, visit.tier, visit.level, visit.left),
                     Inspected::Idle => Stage::Demoting(visit),
                 }
             }
@@ -190,9 +196,10 @@ impl<'a> Reclaiming<'a> {
                 let Or::Other(end) = end else { unreachable!() };
                 let Or::Other(told) = end else { unreachable!() };
                 self.kept.spent = told.spent;
-                self.taken = Some(told.end.taken);
-                let level = visit.level + freed_by(told.end.end);
-                self.to_visit(visit.last, visit.tier, level, visit.left)
+                let over = told.end;
+                let level = visit.level + freed_by(over.end);
+                self.taken = Some(over.taken);
+                to_visit(g, &mut self.kept, visit.last, visit.tier, level, visit.left)
             }
         }
     }

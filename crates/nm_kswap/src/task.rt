@@ -71,10 +71,11 @@ impl<'a> Part for DemoteWork<'a> {
     ghost use Rattle.nm_demote.specs.Selections.{MayDemote};
     ghost use Rattle.nm_demote.specs.Demotions.{IsDemotion};
     ghost use Rattle.nm_demote.specs.Leaving.{IsDemoteLeft};
+    ghost use Rattle.nm_kswap.specs.Works.{IsNewDemoteWork};
 
     ghost made = { λ t. record { 0 = t.run.plan.geometry.now; 1 = t.run.plan.made } };
 
-    ghost is_new = { λ t. ⟦<DemoteRun<'a> as Part>⟧.is_new t.run };
+    ghost is_new = { IsNewDemoteWork };
 
     ghost may_begin = { λ made g view. MayDemote made.0 made.1 g view };
 

@@ -18,8 +18,8 @@ use Rattle.nm_programs.specs.Cpus.{program_of}
 
 line-of : (g : Geometry) (line : Line) → IsAccess g line → IsLineOf g line
 line-of g (Load v w) is = is
-line-of g (Store v w x) is = is
-line-of g (Add v w x) is = is
+line-of g (Store v w x) is = (is.0, is.1)
+line-of g (Add v w x) is = (is.0, is.1)
 line-of g (Await v w x max) is = (is.0, is.1, is.3)
 
 lines-of : (g : Geometry) (lines : List Line) → AllByRecursion (IsAccess g) lines → AllByRecursion (IsLineOf g) lines

@@ -1,1 +1,3 @@
 pub mod Cpus
+pub mod Plain
+pub mod Runs

@@ -1,6 +1,8 @@
-//! The processors of a script, before a simulation and after it.
+//! The processors of a script, and its run with any migrator and reclaimer.
 #![tactic(auto)]
 
 pub mod cpus;
+pub mod run;
 
 pub use cpus::{cpus_of, results_of};
+pub use run::{SimRun, run_programs};

@@ -1,4 +1,3 @@
-pub mod Running
 pub mod Ending
 pub mod Acting
 pub mod Migrators

@@ -12,7 +12,7 @@ use Rattle.nm_migrator.specs.Migrating as migrating
 use Rattle.nm_migrator.specs.Migrating.{Sequence, TakesTry, IsMigrating}
 use Rattle.nm_migrator.specs.declared.actor.MigratorActor.{MigratorActor}
 use Rattle.nm_migrator.specs.Parts.{MigratorWorker, migrator_made, AgreesMigrator, IsMigratorPart}
-use Rattle.nm_crew.specs.Crewed.{IsAgreed}
+use Rattle.nm_programs.specs.Runs.{HasPart}
 use Rattle.nm_sched.proofs.Acting.{front-none}
 use Rattle.nm_sched.proofs.Ending.{routine-agreed}
 
@@ -34,9 +34,11 @@ migrating-acts g retry h = turns-act g retry h.tries _ h.is
 
 -- ---- its part
 
-pub migrator-agreed : (agrees : MigratorWorker → Turns → Option Turn → Type 0) (counted : MigratorWorker → Tally) (a : MigratorActor) (script : Script) (turns : Turns) (ended : Bool)
-    → migrator_made a ≡ record { 0 = script.geometry; 1 = script.retry } → IsAgreed (AgreesMigrator agrees counted a) turns ended
-    → IsMigratorPart script.geometry script.retry turns ended (counted a.worker)
-migrator-agreed agrees counted a script turns ended made h =
+pub migrator-part : (agrees : MigratorWorker → Turns → Option Turn → Type 0) (counted : MigratorWorker → Tally) (script : Script) (made_with : Geometry × Option ℕ) (turns : Turns) (ended : Bool) (counts : Tally)
+    → made_with ≡ record { 0 = script.geometry; 1 = script.retry } → HasPart migrator_made (AgreesMigrator agrees counted) (λ a. counted a.worker) made_with turns ended counts
+    → IsMigratorPart script.geometry script.retry turns ended counts
+migrator-part agrees counted script made_with turns ended counts made h =
+    let a = h.actor in
     let Made : Geometry × Option ℕ → Type 0 = λ m. IsMigratorPart m.0 m.1 turns ended (counted a.worker) in
-    subst Made made (routine-agreed (AgreesMigrator agrees counted a) (λ turns ended. IsMigratorPart (migrator_made a).0 (migrator_made a).1 turns ended (counted a.worker)) turns ended (λ turns last k. k.part) h)
+    let Counted : Tally → Type 0 = λ t. IsMigratorPart script.geometry script.retry turns ended t in
+    subst Counted (sym h.counts_so) (subst Made (h.same ∙ made) (routine-agreed (AgreesMigrator agrees counted a) (λ turns ended. IsMigratorPart (migrator_made a).0 (migrator_made a).1 turns ended (counted a.worker)) turns ended (λ turns last k. k.part) h.agreed))

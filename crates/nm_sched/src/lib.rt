@@ -3,5 +3,6 @@
 
 pub mod simulation;
 
+pub use nm_programs::SimRun;
 pub use nm_schedule::{SimAct, SimTurn};
-pub use simulation::{SimRun, simulate};
+pub use simulation::simulate;

@@ -1,47 +1,14 @@
 //! A simulation of a script.
 
-ghost use Rattle.std.specs.Prelude.{◌≡◌, IfOk};
+ghost use Rattle.std.specs.Prelude.{IfOk};
 ghost use Rattle.nm_script.specs.Script.{IsScript};
 ghost use Rattle.nm_sched.specs.Runs.{IsRunOfScript};
 
-use nm_action::{Event, Tally};
-use nm_core::EndWords;
-use nm_crew::run_crew;
 use nm_kswap::ReclaimerActor;
 use nm_migrator::MigratorActor;
-use nm_play::Actors;
-use nm_programs::{cpus_of, results_of};
-use nm_report::LineResult;
-use nm_schedule::SimTurn;
+use nm_programs::{SimRun, run_programs};
 use nm_script::Script;
 use std::alloc::{AllocError, Global};
-use std::marker::Model;
-
-/// The run of a script.
-#[derive(Debug, Drop)]
-pub struct SimRun {
-    /// The events, in order.
-    pub events: Vec<Event>,
-    /// The turns, in order.
-    pub order: Vec<SimTurn>,
-    /// For each processor what the lines of its program gave, in order, as far as they were made.
-    pub results: Vec<Vec<LineResult>>,
-    /// The words at the end.
-    pub end: EndWords,
-    /// The counts of all actors.
-    pub tally: Tally,
-    /// How many turns were made.
-    pub turns: u32,
-}
-
-impl Model for SimRun {
-    ghost use Rattle.std.specs.Prelude.{map};
-    ghost use Rattle.nm_sched.specs.Plain as plain;
-
-    ghost Value = { plain.SimRun };
-
-    ghost view = { λ r. record { events = r.events.items; order = r.order.items; results = map (λ v. v.items) r.results.items; end = r.end; tally = r.tally; turns = r.turns } };
-}
 
 /// Runs a script on one thread: its processors, a migrator and a reclaimer make their turns on the machine in the order of its
 /// schedule, until every actor has ended or all turns were made. It returns. The lists grow with the run, and `AllocError` comes
@@ -51,22 +18,8 @@ pub fn simulate(alloc: Global, script: &Script) -> Result<SimRun, AllocError>
     ensures { IfOk result (IsRunOfScript script.now) }
 {
     let g = &script.geometry;
-    let cpus = cpus_of(alloc, script)?;
     let migrator = MigratorActor::new(alloc, g, script.retry)?;
     let reclaimer = ReclaimerActor::new(alloc, g)?;
-    let crew = Actors {
-        cpus,
-        migrator,
-        reclaimer,
-    };
-    let run = run_crew(alloc, g, &script.schedule, crew)?;
-    let results = results_of(alloc, run.crew.cpus)?;
-    Ok(SimRun {
-        events: run.events,
-        order: run.order,
-        results,
-        end: run.end,
-        tally: run.tally,
-        turns: run.turns,
-    })
+    let run = run_programs(alloc, script, migrator, reclaimer)?;
+    Ok(run)
 }

@@ -1,0 +1,57 @@
+-- The run of a script, and the report of it.
+use Rattle.std.specs.Prelude.{◌≡◌, ℕ, ◌+◌, ◌<◌, Bool, List, [], length, slice_index_or, Option}
+use Rattle.nm_flat.specs.Memory.{own_part_of}
+use Rattle.nm_action.specs.declared.tally.Tally.{Tally}
+use Rattle.nm_action.specs.declared.turn.Turn.{Turn}
+use Rattle.nm_core.specs.State.{actor_count}
+use Rattle.nm_core.specs.Runs.{accesses_of}
+use Rattle.nm_actor.specs.Turns.{Turns}
+use Rattle.nm_script.specs.Plain.{Script}
+use Rattle.nm_report.specs.declared.line_result.LineResult.{LineResult}
+use Rattle.nm_report.specs.Plain.{Report}
+use Rattle.nm_report.specs.Follows.{FollowsProgram}
+use Rattle.nm_report.specs.Texts.{IsPrintable}
+use Rattle.nm_schedule.specs.declared.turn.Played.{Played}
+use Rattle.nm_schedule.specs.Played.{turns_by, has_ended}
+use Rattle.nm_crew.specs.Crewed.{IsAgreed, tally_of, counts_of}
+use Rattle.nm_crew.specs.Simulated.{IsSimulated}
+use Rattle.nm_cpu_fault.specs.ProcessorFaults.{processor_faults}
+use Rattle.nm_cpu.specs.Parts.{IsCpuPart}
+use Rattle.nm_programs.specs.Cpus.{program_of}
+use Rattle.nm_programs.specs.Plain.{SimRun}
+
+-- what the lines of a processor gave
+abbrev pub results_of : SimRun → ℕ → List LineResult
+results_of run cpu = slice_index_or run.results cpu []
+
+-- the report of a script and its run
+abbrev pub report_of : Script → SimRun → Report
+report_of script run = record { script = script; results = run.results; end = run.end; tally = run.tally }
+
+-- a processor's part of the turns is that of its program, gave these results and counted this; and its accesses among the
+-- events follow its program with the results
+pub record IsCpuRun (script : Script) (run : SimRun) (played : List Played) (cpu : ℕ) (counts : Tally) : Type 0 where
+  pub part : IsCpuPart processor_faults script.geometry cpu (program_of script cpu) (turns_by cpu played) (has_ended played cpu) (results_of run cpu) counts
+  pub follows : FollowsProgram cpu (has_ended played cpu) (program_of script cpu) (results_of run cpu) (own_part_of cpu (accesses_of run.events))
+
+-- an actor that was made so has these turns as its part, and counted this: it agrees with exactly them, and has given a turn
+-- since, which is End where it has ended
+pub record HasPart {K Made : Type 0} (made : K → Made) (agrees : K → Turns → Option Turn → Type 0) (counted : K → Tally) (made_with : Made) (turns : Turns) (ended : Bool) (counts : Tally) : Type 0 where
+  pub actor : K
+  pub same : made actor ≡ made_with
+  pub agreed : IsAgreed (agrees actor) turns ended
+  pub counts_so : counts ≡ counted actor
+
+-- a run of a script, by what is said of the migrator's part of the turns and of the reclaimer's, whether it has ended, and what
+-- it counted: the turns are those of the schedule, with the facts of their events and of the end; each processor's part is that
+-- of its program; the tally is the sum of what the actors counted; and the report of the run can be printed
+pub record IsRunWith (migrator_part reclaimer_part : Turns → Bool → Tally → Type 0) (script : Script) (run : SimRun) : Type 0 where
+  pub played : List Played
+  pub tallies : List Tally
+  pub simulated : IsSimulated script.geometry script.schedule run.events run.order run.turns run.end played
+  pub actors : length tallies ≡ actor_count script.geometry
+  pub cpus : (cpu : ℕ) → cpu < script.geometry.cpus → IsCpuRun script run played cpu (counts_of tallies cpu)
+  pub migrator : migrator_part (turns_by script.geometry.cpus played) (has_ended played script.geometry.cpus) (counts_of tallies script.geometry.cpus)
+  pub reclaimer : reclaimer_part (turns_by (script.geometry.cpus + 1) played) (has_ended played (script.geometry.cpus + 1)) (counts_of tallies (script.geometry.cpus + 1))
+  pub tally : run.tally ≡ tally_of tallies
+  pub printable : IsPrintable (report_of script run)

@@ -1,0 +1,5 @@
+//! Rows of simulations of scripts.
+#![tactic(auto)]
+
+#[cfg(test)]
+mod rows;
