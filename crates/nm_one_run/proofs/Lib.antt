@@ -1,3 +1,3 @@
 pub mod Answering
+pub mod OneRun
 pub mod Picking
-pub mod Single
