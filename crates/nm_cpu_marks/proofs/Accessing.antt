@@ -113,7 +113,7 @@ after-look kinds g made stamp again held hinted word faults rest =
         (turn-then IsProcessing g (Walk made.vpage word (is_write made.touch)) (AfterWalk g made stamp word again held hinted) tt (λ heard. after-walk g made stamp word again held hinted heard rest))))
 
 translates : {M X : Type 0} (kinds : FaultKinds M X) (g : Geometry) (made : AccessMade) → FaultsOnly kinds → (n : ℕ) → AgainOnly (Translates kinds g made n)
-translates kinds g made faults zero held hinted turns outcome h = absurd h
+translates kinds g made faults zero held hinted = λ turns outcome h. absurd h
 translates kinds g made faults (suc n) held hinted =
     turn-then IsProcessing g (Peek made.vpage) (λ peek. Follows (Hears g (Do (Look made.vpage))) (λ look. AfterLook kinds g made (word_heard peek) (Translates kinds g made n) held hinted (word_heard look))) tt (λ peek.
     turn-then IsProcessing g (Look made.vpage) (λ look. AfterLook kinds g made (word_heard peek) (Translates kinds g made n) held hinted (word_heard look)) tt (λ look.

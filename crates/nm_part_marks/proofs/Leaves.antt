@@ -89,8 +89,10 @@ pub pool-actions : (may : ℕ → ℕ → Type 0) (ack : AckTo → Type 0) (g : 
 pool-actions may ack g job own end h =
     let M : Own → Type 0 = λ l. HasOnly (IsActionOf may ack) l in
     let last : Own = (ReleaseTurn (tier_for g job), Done) ∷ [] in
-    subst M (sym h.is) (only-both (IsActionOf may ack) (refused (tier_for g job) h.busy) ((TakeTurn (tier_for g job), Done) ∷ (h.inner ++ last)) (refused-actions may ack (tier_for g job) h.busy)
-    (tt, only-both (IsActionOf may ack) h.inner last (work-actions may ack g job h.inner end h.work) (tt, tt)))
+    let begun : Own = (TakeTurn (tier_for g job), Done) ∷ h.inner in
+    let so : HasOnly (IsActionOf may ack) (refused (tier_for g job) h.busy ++ begun) =
+        only-both (IsActionOf may ack) (refused (tier_for g job) h.busy) begun (refused-actions may ack (tier_for g job) h.busy) (tt, work-actions may ack g job h.inner end h.work) in
+    subst M (sym h.is) (only-both (IsActionOf may ack) (refused (tier_for g job) h.busy ++ begun) last so (tt, tt))
 
 -- ---- locks
 
