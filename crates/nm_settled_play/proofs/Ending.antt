@@ -33,8 +33,8 @@ ended-views g played is run ended =
     let s : State = state_after g (events_of played) in
     let H : Geometry → Type 0 = λ n. (actor : ℕ) → IsActor n actor → IsEndedView n actor (view_of s actor) in
     subst H (sym (lawful_run g (events_of played) is run).machine) (λ actor there.
-      let V : View → Type 0 = λ v. IsEndedView g actor v in
-      subst V (sym (view-of-turns g s played actor view_after-run there run refl)) (ended actor there))
+    let V : View → Type 0 = λ v. IsEndedView g actor v in
+    subst V (sym (view-of-turns g s played actor view_after-run there run refl)) (ended actor there))
 
 pub settled-turns : (g : Geometry) (played : List Played) → IsGeometry g → IsRun g (events_of played) → HaveEndedTurns g played → HasNoMark (state_after g (events_of played)) → IsSettled (state_after g (events_of played))
 settled-turns g played is run ended unmarked = settled-run g (events_of played) is run (ended-views g played is run ended) unmarked
