@@ -35,7 +35,7 @@ own-go : (actor a : ℕ) (turn : Turn) (heard : Heard) (events : List Event) (tu
 own-go actor a (Do action) (Answer reply) events turns h = own-two (own_of a events) (action, reply) (Do action) (Answer reply) turns (actor == a) refl h
 own-go actor a turn heard events turns h = own-none (own_of a events) turn heard turns (actor == a) refl h
 
-own-turns : (a : ℕ) (played : List Played) → own_of a (events_of played) ≡ own_list (turns_by a played)
+pub own-turns : (a : ℕ) (played : List Played) → own_of a (events_of played) ≡ own_list (turns_by a played)
 own-turns a [] = refl
 own-turns a (p ∷ played) =
     own-go p.actor a p.turn p.heard (events_of played) (turns_by a played) (own-turns a played) ∙ ap own_list (sym (turns-cons a p played (p.actor == a)))

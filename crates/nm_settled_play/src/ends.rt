@@ -13,7 +13,7 @@ ghost use Rattle.nm_schedule.specs.Played.{active_actors, events_of};
 ghost use Rattle.nm_schedule.specs.Picks.{most_turns};
 ghost use Rattle.nm_play.specs.Played.{IsRunOf};
 ghost use Rattle.nm_settled.specs.Ended.{HasNoMark};
-ghost use Rattle.nm_settled_play.specs.EndedTurns.{HaveEndedTurns, LeaveEndedViews, LeaveNoMark};
+ghost use Rattle.nm_settled_play.specs.EndedTurns.{HaveEndedTurns, TurnsTakeMarksBack, LeaveEndedViews, LeaveNoMark};
 
 use nm_play::Crew;
 
@@ -23,6 +23,12 @@ pub fn ended_turns_settle_the_machine()
     ensures { (g : Geometry) (played : List Played) → IsGeometry g → IsRun g (events_of played)
         → HaveEndedTurns g played → HasNoMark (state_after g (events_of played))
         → IsSettled (state_after g (events_of played)) }
+{}
+
+/// After turns whose events are a run, and of which each actor's part shows that it takes its marks back, no page has a mark.
+pub fn ended_turns_leave_no_mark()
+    ensures { (g : Geometry) (played : List Played) → IsGeometry g → IsRun g (events_of played)
+        → TurnsTakeMarksBack g played → HasNoMark (state_after g (events_of played)) }
 {}
 
 /// A run of a schedule in which every actor has ended is settled, so one that is not settled made all turns of the schedule: for
