@@ -10,7 +10,7 @@ use Rattle.nm_action.specs.declared.action.Action.TheVariants.{Ack, Mark}
 use Rattle.nm_action.specs.declared.action.Event.{Event}
 use Rattle.nm_action.specs.declared.action.Reply.{Reply}
 use Rattle.nm_action.specs.Own.{Own, own_of}
-use Rattle.nm_view.specs.Views.{View, end_word}
+use Rattle.nm_view.specs.Views.{View}
 use Rattle.nm_view.specs.Opening.{IsActor}
 use Rattle.nm_permit.specs.Permitted.{Allowed}
 use Rattle.nm_words.specs.declared.names.Where.TheVariants as words
@@ -19,7 +19,6 @@ use Rattle.nm_core.specs.Runs.{IsStep, IsRun, IsRunFrom, after_event, state_afte
 use Rattle.nm_core.specs.State.{State, view_of, start}
 use Rattle.nm_core.proofs.Starts.{view_of-start}
 use Rattle.nm_world.specs.Worlds.{World, moved, reply_in}
-use Rattle.nm_world.specs.Laws.{AreAll}
 use Rattle.nm_world.specs.Seen.{world_of}
 use Rattle.nm_world.proofs.Bridge.{seen_of, seen_word-place, world_of-step}
 use Rattle.nm_runs.proofs.EachRun.{IsLawful, lawful_run, reply_same}

@@ -1,5 +1,5 @@
 -- What the own lists of a run tell of the marks so far, and that each step keeps it.
-use Rattle.std.proofs.Common.{◌≡◌, ◌≢◌, ℕ, ◌+◌, ◌<◌, ◌≤◌, ◌⊎◌, [], ◌∷◌, ◌++◌, refl, sym, ap, subst, inl, inr, ◌∙◌, arith, append_assoc}
+use Rattle.std.proofs.Common.{◌≡◌, ◌≢◌, ℕ, ◌<◌, ◌≤◌, ◌⊎◌, [], ◌∷◌, ◌++◌, sym, ap, subst, inl, inr, ◌∙◌, arith, append_assoc}
 use Rattle.std.proofs.lemmas.Bool.{cases_eq, cases_lt}
 use Rattle.nm_base.specs.Geometry.{Geometry}
 use Rattle.nm_action.specs.declared.action.AckTo.TheVariants.{End}
@@ -19,7 +19,7 @@ use Rattle.nm_marks.specs.Marks.{IsTakenBack}
 use Rattle.nm_marks.proofs.Contents.{has-left}
 use Rattle.nm_unmarked.specs.Unmarking.{IsEndSeen, IsSwept}
 use Rattle.nm_unmarked.proofs.Owns.{has-last, has-new, within-or-last}
-use Rattle.nm_unmarked.proofs.Steps.{mark_at, IsMade, mark-step, mark-made, mark-told, mark-allowed, acked-step, polled-on, seen-end}
+use Rattle.nm_unmarked.proofs.Steps.{mark_at, mark-step, mark-made, mark-told, mark-allowed, acked-step, polled-on, seen-end}
 
 -- a processor acknowledged its end
 abbrev pub IsEndAck : Action → Reply → Type 0
