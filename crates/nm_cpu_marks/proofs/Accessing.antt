@@ -40,7 +40,7 @@ peeks : (g : Geometry) (number from : ℕ) (kept : Kept) → ListsOnly IsProcess
 peeks g number from kept =
     only-each IsProcessing (PeeksAt g) (range_with_len from (length g.vpages - from)) (Acknowledges g number)
     (λ page kept next rest. only-either IsProcessing (is_some (entry_of kept page)) (Follows (IsAct (Peek page) g) (λ reply. next (peeked_with page (told_word reply) kept))) (next kept)
-      (only-then IsProcessing (Peek page) g (λ reply. next (peeked_with page (told_word reply) kept)) tt (λ reply. rest (peeked_with page (told_word reply) kept))) (rest kept))
+    (only-then IsProcessing (Peek page) g (λ reply. next (peeked_with page (told_word reply) kept)) tt (λ reply. rest (peeked_with page (told_word reply) kept))) (rest kept))
     (acknowledges g number) kept
 
 catches : (g : Geometry) (kept : Kept) → ListsOnly IsProcessing (CatchesUp g kept)
@@ -107,13 +107,13 @@ after-look kinds g made stamp again held hinted word faults rest =
     turn-either IsProcessing (word == 0) (Faults kinds g made again (kinds.missing g made.vpage) held hinted) (Either (has_hint word) softens shadowed)
     (faulted kinds g made again (kinds.missing g made.vpage) held hinted faults rest)
     (turn-either IsProcessing (has_hint word) softens shadowed
-      (turn-then IsProcessing g (Soften made.vpage Hint) (λ softened. again held true) tt (λ softened. rest held true))
-      (turn-either IsProcessing (is_write made.touch && not (is_writable word)) (Faults kinds g made again (kinds.shadowed g made.vpage) held hinted) walks
-        (faulted kinds g made again (kinds.shadowed g made.vpage) held hinted faults rest)
-        (turn-then IsProcessing g (Walk made.vpage word (is_write made.touch)) (AfterWalk g made stamp word again held hinted) tt (λ heard. after-walk g made stamp word again held hinted heard rest))))
+    (turn-then IsProcessing g (Soften made.vpage Hint) (λ softened. again held true) tt (λ softened. rest held true))
+    (turn-either IsProcessing (is_write made.touch && not (is_writable word)) (Faults kinds g made again (kinds.shadowed g made.vpage) held hinted) walks
+    (faulted kinds g made again (kinds.shadowed g made.vpage) held hinted faults rest)
+    (turn-then IsProcessing g (Walk made.vpage word (is_write made.touch)) (AfterWalk g made stamp word again held hinted) tt (λ heard. after-walk g made stamp word again held hinted heard rest))))
 
 translates : {M X : Type 0} (kinds : FaultKinds M X) (g : Geometry) (made : AccessMade) → FaultsOnly kinds → (n : ℕ) → AgainOnly (Translates kinds g made n)
-translates kinds g made faults zero held hinted turns outcome h = absurd h
+translates kinds g made faults zero held hinted = λ turns outcome h. absurd h
 translates kinds g made faults (suc n) held hinted =
     turn-then IsProcessing g (Peek made.vpage) (λ peek. Follows (Hears g (Do (Look made.vpage))) (λ look. AfterLook kinds g made (word_heard peek) (Translates kinds g made n) held hinted (word_heard look))) tt (λ peek.
     turn-then IsProcessing g (Look made.vpage) (λ look. AfterLook kinds g made (word_heard peek) (Translates kinds g made n) held hinted (word_heard look)) tt (λ look.

@@ -1,5 +1,5 @@
 -- What holds of the events of lists one after the other.
-use Rattle.std.proofs.Common.{◌≡◌, ◌⊎◌, ℕ, [], ◌∷◌, ◌++◌, inl, inr}
+use Rattle.std.proofs.Common.{ℕ, [], ◌∷◌, ◌++◌, inl, inr}
 use Rattle.nm_action.specs.declared.action.Action.{Action}
 use Rattle.nm_action.specs.declared.action.Action.TheVariants as actions
 use Rattle.nm_action.specs.declared.action.Reply.{Reply}

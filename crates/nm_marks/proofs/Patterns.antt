@@ -1,5 +1,5 @@
 -- Patterns whose lists have only such actions, or have such an event, from those that they are joined of.
-use Rattle.std.proofs.Common.{◌≡◌, ℕ, Bool, true, false, List, [], ◌∷◌, ◌++◌, sym, subst, inl, inr}
+use Rattle.std.proofs.Common.{ℕ, Bool, true, false, List, [], ◌∷◌, sym, subst, inl}
 use Rattle.nm_base.specs.Geometry.{Geometry}
 use Rattle.nm_action.specs.declared.action.Action.{Action}
 use Rattle.nm_action.specs.declared.action.Reply.{Reply}
@@ -66,8 +66,8 @@ has-first P may first after now own outcome h here =
 pub has-now : {O : Type 0} (P : Action → Reply → Type 0) (may : O → Type 0) (action : Action) (g : Geometry) (after : Reply → Own → O → Type 0) → ((reply : Reply) → P action reply) → ListsHave P may (Follows (IsAct action g) after)
 has-now P may action g after so =
     has-first P may (IsAct action g) after (λ own reply h.
-      let E : Own → Type 0 = λ l. HasEvent P l in
-      subst E (sym h.is) (inl (so reply)))
+    let E : Own → Type 0 = λ l. HasEvent P l in
+    subst E (sym h.is) (inl (so reply)))
 
 -- nothing more happens, and the outcome is none of these
 pub has-none : {O : Type 0} (P : Action → Reply → Type 0) (may : O → Type 0) (end : O) → ¬ may end → ListsHave P may (Ends end)

@@ -170,7 +170,7 @@ all-back (piece ∷ pieces) (prepared.Ready home frame ∷ ends) (w ∷ words) (
 pub batch-back : (made : BatchMade) (g : Geometry) (own : Own) (outcome : List TxnEnd) → IsBatch made g own outcome → ArePiecesBack made.pieces outcome own
 batch-back made g own outcome h =
     let c = collect (λ (piece : ℕ × ℕ) (kept : List Prepared) own end. IsPrepare (record { page = piece.0; vpage = piece.1; spent = drawn_with made.spent kept }) g own end) ClosedBack (λ ends own outcome. AfterPrepares g ends (ready_of made.pieces ends) own outcome)
-        (λ piece kept own end shown closed. prepare-back (record { page = piece.0; vpage = piece.1; spent = drawn_with made.spent kept }) g own end shown closed) closed-grows made.pieces [] own outcome h in
+    (λ piece kept own end shown closed. prepare-back (record { page = piece.0; vpage = piece.1; spent = drawn_with made.spent kept }) g own end shown closed) closed-grows made.pieces [] own outcome h in
     let d = after-prepares g c.found (ready_of made.pieces c.found) c.back outcome c.rest in
     let B : List TxnEnd → Type 0 = λ l. ArePiecesBack made.pieces l own in
     let O : Own → Type 0 = λ l. ArePiecesBack made.pieces (ends_of c.found d.decided) l in

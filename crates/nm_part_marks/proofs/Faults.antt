@@ -69,9 +69,9 @@ round-actions may ack made g again rest =
     let M = IsActionOf may ack in
     let last : ListsOnly M (TakesLast g again) = only-follows M (IsPool g (Take 0 0)) (λ end. FoundOr again (frame_taken end)) (pool-actions may ack g (Take 0 0)) (λ end. found-actions may ack again (frame_taken end) rest) in
     let seeks : ListsOnly M (SeeksFrom made g 1 again) =
-        only-each M (SeeksIn made g) (range_with_len 1 (length g.tiers - 1)) (λ kept. TakesLast g again)
-        (λ tier kept next then. only-follows M (IsObtain (record { page = made.page; tier = tier }) g) (λ end. FoundOr (next kept) (frame_obtained end)) (obtain-actions may ack (record { page = made.page; tier = tier }) g) (λ end. found-actions may ack (next kept) (frame_obtained end) (then kept)))
-        (λ kept. last) tt in
+    only-each M (SeeksIn made g) (range_with_len 1 (length g.tiers - 1)) (λ kept. TakesLast g again)
+    (λ tier kept next then. only-follows M (IsObtain (record { page = made.page; tier = tier }) g) (λ end. FoundOr (next kept) (frame_obtained end)) (obtain-actions may ack (record { page = made.page; tier = tier }) g) (λ end. found-actions may ack (next kept) (frame_obtained end) (then kept)))
+    (λ kept. last) tt in
     only-follows M (IsPool g (Take 0 (low_mark g))) (λ end. FoundOr (SeeksFrom made g 1 again) (frame_taken end)) (pool-actions may ack g (Take 0 (low_mark g))) (λ end. found-actions may ack (SeeksFrom made g 1 again) (frame_taken end) seeks)
 
 rounds-actions : (may : ℕ → ℕ → Type 0) (ack : AckTo → Type 0) (made : SearchMade) (g : Geometry) (n : ℕ) → ListsOnly (IsActionOf may ack) (Rounds made g n)

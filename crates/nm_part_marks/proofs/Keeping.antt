@@ -82,7 +82,7 @@ pub reclaim-actions : (may : ℕ → ℕ → Type 0) (ack : AckTo → Type 0) (g
 reclaim-actions may ack g made =
     only-each (IsActionOf may ack) (Visits g made) (pages_visited g made) (λ all. Ends all)
     (λ page freed next rest. only-either (IsActionOf may ack) (nat_lt freed (most_freed made)) (Follows (IsAct (Lock page) g) (λ reply. VisitAfterLock g made page reply freed next)) (next freed)
-      (only-then (IsActionOf may ack) (Lock page) g (λ reply. VisitAfterLock g made page reply freed next) tt (λ reply. visit-lock-actions may ack g made page reply freed next rest)) (rest freed))
+    (only-then (IsActionOf may ack) (Lock page) g (λ reply. VisitAfterLock g made page reply freed next) tt (λ reply. visit-lock-actions may ack g made page reply freed next rest)) (rest freed))
     (λ all. only-ends (IsActionOf may ack) all) 0
 
 -- ---- frames that are sought

@@ -89,8 +89,10 @@ pub pool-actions : (may : ℕ → ℕ → Type 0) (ack : AckTo → Type 0) (g : 
 pool-actions may ack g job own end h =
     let M : Own → Type 0 = λ l. HasOnly (IsActionOf may ack) l in
     let last : Own = (ReleaseTurn (tier_for g job), Done) ∷ [] in
-    subst M (sym h.is) (only-both (IsActionOf may ack) (refused (tier_for g job) h.busy) ((TakeTurn (tier_for g job), Done) ∷ (h.inner ++ last)) (refused-actions may ack (tier_for g job) h.busy)
-    (tt, only-both (IsActionOf may ack) h.inner last (work-actions may ack g job h.inner end h.work) (tt, tt)))
+    let begun : Own = (TakeTurn (tier_for g job), Done) ∷ h.inner in
+    let so : HasOnly (IsActionOf may ack) (refused (tier_for g job) h.busy ++ begun) =
+    only-both (IsActionOf may ack) (refused (tier_for g job) h.busy) begun (refused-actions may ack (tier_for g job) h.busy) (tt, work-actions may ack g job h.inner end h.work) in
+    subst M (sym h.is) (only-both (IsActionOf may ack) (refused (tier_for g job) h.busy ++ begun) last so (tt, tt))
 
 -- ---- locks
 
@@ -109,7 +111,7 @@ pub copying-actions : (may : ℕ → ℕ → Type 0) (ack : AckTo → Type 0) (m
 copying-actions may ack made g =
     only-each (IsActionOf may ack) (CopyOf made g) (range_with_len 0 (made.words - 0)) (λ kept. Ends tt)
     (λ index kept next rest. only-then (IsActionOf may ack) (CopyLoad made.page index) g (λ reply. Follows (IsAct (CopyStore (Some made.page) made.frame index (told reply)) g) (λ stored. next kept)) tt
-      (λ reply. only-then (IsActionOf may ack) (CopyStore (Some made.page) made.frame index (told reply)) g (λ stored. next kept) tt (λ stored. rest kept)))
+    (λ reply. only-then (IsActionOf may ack) (CopyStore (Some made.page) made.frame index (told reply)) g (λ stored. next kept) tt (λ stored. rest kept)))
     (λ kept. only-ends (IsActionOf may ack) tt) tt
 
 pub zeroing-actions : (may : ℕ → ℕ → Type 0) (ack : AckTo → Type 0) (made : ZeroesMade) (g : Geometry) → ListsOnly (IsActionOf may ack) (IsZeroing made g)

@@ -1,7 +1,8 @@
 -- A run of a schedule ends where every actor has ended, and then it is settled, or where all turns were made.
-use Rattle.std.proofs.Common.{◌≡◌, ℕ, zero, suc, ◌<◌, Bool, true, false, not, cond, List, [], ◌∷◌, length, get_or, map, Option, Some, refl, sym, ap, subst, inl, inr, ◌∙◌, arith}
+use Rattle.std.proofs.Common.{◌≡◌, ℕ, zero, suc, ◌+◌, ◌<◌, Bool, true, false, not, cond, List, [], ◌∷◌, length, get_or, map, Option, Some, refl, sym, ap, subst, inl, inr, ◌∙◌, arith}
 use Rattle.std.specs.List.{filter, range_with_len}
 use Rattle.std.proofs.lemmas.Bool.{true≢false}
+use Rattle.std.proofs.lemmas.List.{length-map}
 use Rattle.std.proofs.lemmas.List.FromFn.{length-range_with_len, get_or-range_with_len}
 use Rattle.nm_base.specs.Geometry.{Geometry, IsGeometry}
 use Rattle.nm_action.specs.declared.action.Event.{Event}
@@ -32,8 +33,8 @@ ended-views g played is run ended =
     let s : State = state_after g (events_of played) in
     let H : Geometry → Type 0 = λ n. (actor : ℕ) → IsActor n actor → IsEndedView n actor (view_of s actor) in
     subst H (sym (lawful_run g (events_of played) is run).machine) (λ actor there.
-      let V : View → Type 0 = λ v. IsEndedView g actor v in
-      subst V (sym (view-of-turns g s played actor view_after-run there run refl)) (ended actor there))
+    let V : View → Type 0 = λ v. IsEndedView g actor v in
+    subst V (sym (view-of-turns g s played actor view_after-run there run refl)) (ended actor there))
 
 pub settled-turns : (g : Geometry) (played : List Played) → IsGeometry g → IsRun g (events_of played) → HaveEndedTurns g played → HasNoMark (state_after g (events_of played)) → IsSettled (state_after g (events_of played))
 settled-turns g played is run ended unmarked = settled-run g (events_of played) is run (ended-views g played is run ended) unmarked
@@ -59,7 +60,8 @@ all-ended actors played none a there =
     let p : ℕ → Bool = λ b. not (has_ended played b) in
     let there_too : a < length (range_with_len 0 actors) = subst (λ (n : ℕ). a < n) (sym (length-range_with_len 0 actors)) there in
     let fails : p (get_or (range_with_len 0 actors) a 0) ≡ false = none-kept p (range_with_len 0 actors) a none there_too in
-    not-false (has_ended played a) (sym (ap p (get_or-range_with_len 0 actors a 0 there)) ∙ fails)
+    let zero_more : 0 + a ≡ a = omega arith in
+    not-false (has_ended played a) (sym (ap p (get_or-range_with_len 0 actors a 0 there ∙ zero_more)) ∙ fails)
 
 -- an actor that has ended has given End
 end-given : (turn : Turn) → is_end turn ≡ true → turn ≡ End
@@ -86,14 +88,10 @@ settled-schedule g schedule agrees state events order is views marks run none =
     subst IsSettled (sym (run.reached ∙ ap (λ (l : List Event). state_after g l) run.listed))
     (settled-turns g run.played is lasts ended (marks run.played run.scheduled lasts given))
 
-length-order : (played : List Played) → length (order_of played) ≡ length played
-length-order [] = refl
-length-order (p ∷ played) = ap (λ (n : ℕ). 1 + n) (length-order played)
-
 pub unsettled-schedule : (g : Geometry) (schedule : Schedule) (agrees : ℕ → Turns → Option Turn → Type 0) (state : State) (events : List Event) (order : List SimTurn)
     → IsGeometry g → LeaveEndedViews g agrees → LeaveNoMark g schedule agrees
     → IsRunOf g schedule agrees state events order → ¬ IsSettled state → length order ≡ most_turns schedule
 unsettled-schedule g schedule agrees state events order is views marks run unsettled = elim run.scheduled.stops [
   | inl none ↦ absurd (unsettled (settled-schedule g schedule agrees state events order is views marks run none))
-  | inr many ↦ ap (λ (l : List SimTurn). length l) run.ordered ∙ length-order run.played ∙ many
+  | inr many ↦ ap (λ (l : List SimTurn). length l) run.ordered ∙ length-map run.played sim_turn ∙ many
 ]

@@ -10,7 +10,7 @@ use Rattle.nm_action.specs.declared.action.Action.TheVariants.{Ack, Mark}
 use Rattle.nm_action.specs.declared.action.Event.{Event}
 use Rattle.nm_action.specs.declared.action.Reply.{Reply}
 use Rattle.nm_action.specs.Own.{Own, own_of}
-use Rattle.nm_view.specs.Views.{View, end_word}
+use Rattle.nm_view.specs.Views.{View}
 use Rattle.nm_view.specs.Opening.{IsActor}
 use Rattle.nm_permit.specs.Permitted.{Allowed}
 use Rattle.nm_words.specs.declared.names.Where.TheVariants as words
@@ -19,7 +19,6 @@ use Rattle.nm_core.specs.Runs.{IsStep, IsRun, IsRunFrom, after_event, state_afte
 use Rattle.nm_core.specs.State.{State, view_of, start}
 use Rattle.nm_core.proofs.Starts.{view_of-start}
 use Rattle.nm_world.specs.Worlds.{World, moved, reply_in}
-use Rattle.nm_world.specs.Laws.{AreAll}
 use Rattle.nm_world.specs.Seen.{world_of}
 use Rattle.nm_world.proofs.Bridge.{seen_of, seen_word-place, world_of-step}
 use Rattle.nm_runs.proofs.EachRun.{IsLawful, lawful_run, reply_same}
@@ -65,25 +64,25 @@ mark-in may actor before rest e b old new same is marks =
 no-candidate : (g : Geometry) (before rest : List Event) (e : Event) → IsActor g e.actor → TakeMarksBack g (before ++ e ∷ rest) → g.cpus ≤ e.actor → (b : ℕ) → ¬ (e.action ≡ Mark b 0 1)
 no-candidate g before rest e there back past b is = elim (actors g e.actor there past) [
   | inl same ↦ elim (mark-in IsMigratorMark g.cpus before rest e b 0 1 same is back.migrator.marks) [
-      | inl h ↦ omega (arith, h.old_is)
-      | inr h ↦ elim h [
-          | inl k ↦ omega (arith, k.old_is)
-          | inr k ↦ omega (arith, k.old_is)
-        ]
+    | inl h ↦ omega (arith, h.old_is)
+    | inr h ↦ elim h [
+      | inl k ↦ omega (arith, k.old_is)
+      | inr k ↦ omega (arith, k.old_is)
     ]
+  ]
   | inr same ↦ mark-in IsNoMark (g.cpus + 1) before rest e b 0 1 same is back.reclaimer
 ]
 
 no-pending : (g : Geometry) (before rest : List Event) (e : Event) → IsActor g e.actor → TakeMarksBack g (before ++ e ∷ rest) → e.actor ≢ g.cpus → (b : ℕ) → ¬ (e.action ≡ Mark b 1 2)
 no-pending g before rest e there back other b is = elim (cases_lt e.actor g.cpus) [
   | inl below ↦ elim (mark-in IsCandidateMark e.actor before rest e b 1 2 refl is (back.processors e.actor below).marks) [
-      | inl h ↦ omega (arith, h.old_is)
-      | inr h ↦ omega (arith, h.new_is)
-    ]
+    | inl h ↦ omega (arith, h.old_is)
+    | inr h ↦ omega (arith, h.new_is)
+  ]
   | inr past ↦ elim (actors g e.actor there past) [
-      | inl same ↦ other same
-      | inr same ↦ mark-in IsNoMark (g.cpus + 1) before rest e b 1 2 same is back.reclaimer
-    ]
+    | inl same ↦ other same
+    | inr same ↦ mark-in IsNoMark (g.cpus + 1) before rest e b 1 2 same is back.reclaimer
+  ]
 ]
 
 -- a processor that makes a step has not acknowledged its end
@@ -91,7 +90,7 @@ not-ended : (own rest : Own) (e : Action × Reply) → EndsLast (own ++ e ∷ re
 not-ended own rest e last has =
     let at = has-at IsEndAck own has in
     let there : own ++ e ∷ rest ≡ at.front ++ (Ack End, at.event.1) ∷ (at.rest ++ e ∷ rest) =
-        ap (λ (l : Own). l ++ e ∷ rest) at.is ∙ append_assoc at.front (at.event ∷ at.rest) (e ∷ rest) ∙ ap (λ (x : Action). at.front ++ (x, at.event.1) ∷ (at.rest ++ e ∷ rest)) at.holds in
+    ap (λ (l : Own). l ++ e ∷ rest) at.is ∙ append_assoc at.front (at.event ∷ at.rest) (e ∷ rest) ∙ ap (λ (x : Action). at.front ++ (x, at.event.1) ∷ (at.rest ++ e ∷ rest)) at.holds in
     no-middle at.rest e rest (sym (last at.front (at.rest ++ e ∷ rest) at.event.1 there))
 
 processor-runs : (g : Geometry) (before rest : List Event) (e : Event) → TakeMarksBack g (before ++ e ∷ rest) → e.actor < g.cpus → ¬ HasEvent IsEndAck (own_of e.actor before)
@@ -124,7 +123,7 @@ marked-more g before rest e is run made back marked =
     let s : State = state_after g before in
     let lawful : IsLawful g s = lawful_run g before is run in
     let same : world_of (after_event s e) ≡ moved g (world_of s) e.actor e.action =
-        world_of-step s e.actor e.action lawful.kept made.actor made.allowed ∙ ap (λ (n : Geometry). moved n (world_of s) e.actor e.action) lawful.machine in
+    world_of-step s e.actor e.action lawful.kept made.actor made.allowed ∙ ap (λ (n : Geometry). moved n (world_of s) e.actor e.action) lawful.machine in
     let M : World → Type 0 = λ m. AreMarked g m (λ a. own_of a (before ++ e ∷ [])) in
     subst M (sym same) (marked-step g (world_of s) e.actor e.action e.reply (λ a. own_of a before) (λ a. own_of a (before ++ e ∷ [])) (own-step g before rest e is run made back) marked)
 

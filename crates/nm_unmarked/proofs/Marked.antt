@@ -1,5 +1,5 @@
 -- What the own lists of a run tell of the marks so far, and that each step keeps it.
-use Rattle.std.proofs.Common.{◌≡◌, ◌≢◌, ℕ, ◌+◌, ◌<◌, ◌≤◌, ◌⊎◌, [], ◌∷◌, ◌++◌, refl, sym, ap, subst, inl, inr, ◌∙◌, arith, append_assoc}
+use Rattle.std.proofs.Common.{◌≡◌, ◌≢◌, ℕ, ◌<◌, ◌≤◌, ◌⊎◌, [], ◌∷◌, ◌++◌, sym, ap, subst, inl, inr, ◌∙◌, arith, append_assoc}
 use Rattle.std.proofs.lemmas.Bool.{cases_eq, cases_lt}
 use Rattle.nm_base.specs.Geometry.{Geometry}
 use Rattle.nm_action.specs.declared.action.AckTo.TheVariants.{End}
@@ -19,7 +19,7 @@ use Rattle.nm_marks.specs.Marks.{IsTakenBack}
 use Rattle.nm_marks.proofs.Contents.{has-left}
 use Rattle.nm_unmarked.specs.Unmarking.{IsEndSeen, IsSwept}
 use Rattle.nm_unmarked.proofs.Owns.{has-last, has-new, within-or-last}
-use Rattle.nm_unmarked.proofs.Steps.{mark_at, IsMade, mark-step, mark-made, mark-told, mark-allowed, acked-step, polled-on, seen-end}
+use Rattle.nm_unmarked.proofs.Steps.{mark_at, mark-step, mark-made, mark-told, mark-allowed, acked-step, polled-on, seen-end}
 
 -- a processor acknowledged its end
 abbrev pub IsEndAck : Action → Reply → Type 0
@@ -80,15 +80,15 @@ ended-after g m a action reply owns later h i p there =
     let P : View → Type 0 = λ v. v.acked ≡ end_word → HasEvent IsEndAck (later p) in
     choose P p a new (m.view p)
     (λ same says.
-      let E : ℕ → Type 0 = λ n. (m.view n).acked ≡ end_word in
-      let polled : (m.view a).req_seen ≢ end_word = not-polled g m a h.all (omega (arith, same, there)) in
-      elim (acked-step g (m.view a) action (reply_in g m a action) polled says) [
-        | inl before ↦ grown IsEndAck g m a action reply owns later h p (i.ended p there (subst E (sym same) before))
-        | inr is ↦
-            let L : ℕ → Type 0 = λ n. HasEvent IsEndAck (later n) in
-            let H : Own → Type 0 = λ l. HasEvent IsEndAck l in
-            subst L (sym same) (subst H (sym h.own) (has-new IsEndAck (owns a) (action, reply) is))
-      ])
+    let E : ℕ → Type 0 = λ n. (m.view n).acked ≡ end_word in
+    let polled : (m.view a).req_seen ≢ end_word = not-polled g m a h.all (omega (arith, same, there)) in
+    elim (acked-step g (m.view a) action (reply_in g m a action) polled says) [
+      | inl before ↦ grown IsEndAck g m a action reply owns later h p (i.ended p there (subst E (sym same) before))
+      | inr is ↦
+          let L : ℕ → Type 0 = λ n. HasEvent IsEndAck (later n) in
+          let H : Own → Type 0 = λ l. HasEvent IsEndAck l in
+          subst L (sym same) (subst H (sym h.own) (has-new IsEndAck (owns a) (action, reply) is))
+    ])
     (λ other says. grown IsEndAck g m a action reply owns later h p (i.ended p there says))
 
 seen-after : (g : Geometry) (m : World) (a : ℕ) (action : Action) (reply : Reply) (owns later : ℕ → Own) → IsOwnStep g m a action reply owns later → AreMarked g m owns
@@ -97,11 +97,11 @@ seen-after g m a action reply owns later h i p there has =
     let S : Own → Type 0 = λ l. HasEvent (IsEndSeen p) l in
     elim (list-after g m a action reply owns later h g.cpus) [
       | inl more ↦ elim (has-last (IsEndSeen p) (owns g.cpus) (action, reply) (subst S more.1 has)) [
-          | inl before ↦ grown IsEndAck g m a action reply owns later h p (i.seen p there before)
-          | inr last ↦
-              let at = seen-end g m a p action reply h.told last.action_is last.reply_is in
-              grown IsEndAck g m a action reply owns later h p (i.ended p there ((h.all.caches.desks p).acked there ∙ at))
-        ]
+        | inl before ↦ grown IsEndAck g m a action reply owns later h p (i.seen p there before)
+        | inr last ↦
+            let at = seen-end g m a p action reply h.told last.action_is last.reply_is in
+            grown IsEndAck g m a action reply owns later h p (i.ended p there ((h.all.caches.desks p).acked there ∙ at))
+      ]
       | inr same ↦ grown IsEndAck g m a action reply owns later h p (i.seen p there (subst S same has))
     ]
 
@@ -162,16 +162,16 @@ still-pending g m a action reply owns later h i b before after =
     let w : IsPending b (owns g.cpus) = i.pending b before in
     elim (list-after g m a action reply owns later h g.cpus) [
       | inl more ↦ subst P (sym more.1) (record {
-          front = w.front;
-          rest = w.rest ++ (action, reply) ∷ [];
-          is = ap (λ (l : Own). l ++ (action, reply) ∷ []) w.is ∙ append_assoc w.front ((Mark b 1 2, Done) ∷ w.rest) ((action, reply) ∷ []);
-          left = λ has. elim (has-last (IsTakenBack b) w.rest (action, reply) has) [
-            | inl earlier ↦ w.left earlier
-            | inr last ↦
-                let none : mark_at (moved g m a action) b ≡ 0 = mark-made g m a action b 2 0 last before in
-                omega (arith, none, after)
-          ];
-        })
+        front = w.front;
+        rest = w.rest ++ (action, reply) ∷ [];
+        is = ap (λ (l : Own). l ++ (action, reply) ∷ []) w.is ∙ append_assoc w.front ((Mark b 1 2, Done) ∷ w.rest) ((action, reply) ∷ []);
+        left = λ has. elim (has-last (IsTakenBack b) w.rest (action, reply) has) [
+          | inl earlier ↦ w.left earlier
+          | inr last ↦
+              let none : mark_at (moved g m a action) b ≡ 0 = mark-made g m a action b 2 0 last before in
+              omega (arith, none, after)
+        ];
+      })
       | inr same ↦ subst P (sym same) w
     ]
 

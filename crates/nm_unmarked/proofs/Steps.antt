@@ -33,8 +33,8 @@ mark-step g m a (Mark c old new) b =
     let P : ℕ → Type 0 = λ n. (n ≡ mark_at m b) ⊎ IsMade b (Mark c old new) (mark_at m b) n in
     choose P b c _ (mark_at m b)
     (λ same. choose P (mark_at m c) old new (mark_at m c)
-      (λ found. inr (record { old = old; new = new; is = ap (λ (k : ℕ). Mark k old new) (sym same); found = ap (mark_at m) same ∙ found; left = refl }))
-      (λ other. inl (ap (mark_at m) (sym same))))
+    (λ found. inr (record { old = old; new = new; is = ap (λ (k : ℕ). Mark k old new) (sym same); found = ap (mark_at m) same ∙ found; left = refl }))
+    (λ other. inl (ap (mark_at m) (sym same))))
     (λ other. inl refl)
 mark-step g m a (Read c (Home n)) b = inl refl
 mark-step g m a (Read c (Shadow k)) b = inl refl
