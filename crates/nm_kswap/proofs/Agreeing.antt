@@ -1,5 +1,5 @@
 -- What the worker of the reclaimer agrees with is a reclaimer's part.
-use Rattle.std.proofs.Common.{false, [], Option, Some, None, refl}
+use Rattle.std.proofs.Common.{[], Option, Some, None, refl}
 use Rattle.nm_base.specs.Geometry.{Geometry}
 use Rattle.nm_action.specs.declared.action.Action.{Action}
 use Rattle.nm_action.specs.declared.turn.Turn.{Turn}
@@ -39,10 +39,8 @@ worker-empty is_new awaits w turns (Some (turn.Do action)) h = tt
 worker-empty is_new awaits w turns (Some (turn.Put lane page)) h = tt
 worker-empty is_new awaits w turns (Some (turn.Take lane)) h = tt
 
--- a new worker has the part of a reclaimer that has made no turn
-pub new-part : (is_new : ReclaimerPiece → Type 0) (w : ReclaimerWorker)
+-- a new worker agrees with no turns
+pub new-follows : (is_new : ReclaimerPiece → Type 0) (awaits : ReclaimerPiece → Geometry → View → Own → Action → Type 0) (w : ReclaimerWorker)
     → IsNewWorker (IsNextTask work_made is_new MayWork IsWork work_counts (KnowsReclaiming w.routine) (ReclaimingLeft w.routine) (IsReclaiming w.routine.geometry.now) w.routine.geometry.now (opening w.routine.geometry.now (reclaimer_number w.routine.geometry.now)) w.task) w.routine.geometry.now (reclaimer_number w.routine.geometry.now) w.events w.ends w.spent
-    → IsReclaimerPart w.routine.geometry.now [] false (sum_of w.events.tally w.ends)
-new-part is_new w new =
-    let awaits : ReclaimerPiece → Geometry → View → Own → Action → Type 0 = λ p g view own action. ⊥ in
-    worker-part is_new awaits w [] None (record { notes = []; is = refl; next = refl; events = new.events; ends = new.ends; pages = new.pages; drawn = new.drawn; few = new.few; at = new.next })
+    → FollowsReclaiming is_new awaits w [] None
+new-follows is_new awaits w new = record { notes = []; is = refl; next = refl; events = new.events; ends = new.ends; pages = new.pages; drawn = new.drawn; few = new.few; at = new.next }
