@@ -109,7 +109,7 @@ module _ (m : Migrating) where
   page-taken page is among notes outcome s = more-fits page is notes outcome (record {
     tries = s.tries;
     is = either-other (is_among page m.taken) (Puts page (TakenLeft m m.taken s.tries)) (TakesPending m.geometry.now (λ taken. TakenLeft m taken s.tries) (most_taken - (length m.taken + 1)) (m.taken ++ page ∷ [])) notes outcome among
-      (subst (λ (k : ℕ). TakesPending m.geometry.now (λ taken. TakenLeft m taken s.tries) (most_taken - k) (m.taken ++ page ∷ []) notes outcome) (length_push m.taken page) s.is);
+        (subst (λ (k : ℕ). TakesPending m.geometry.now (λ taken. TakenLeft m taken s.tries) (most_taken - k) (m.taken ++ page ∷ []) notes outcome) (length_push m.taken page) s.is);
   })
 
   -- The plan.

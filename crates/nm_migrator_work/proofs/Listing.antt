@@ -93,9 +93,10 @@ some-migrator-work (works.Ask cpus) g = let can = some-asking cpus g in record {
 all-asked : (g : Geometry) (cpu more : ℕ) → (own : Own) × (AsksFrom g cpu more own true)
 all-asked g cpu zero = ([], ends-now true)
 all-asked g cpu (suc more) =
-    let rest = all-asked g (cpu + 1) more in
-    ((SeeAck cpu, replies.Word end_word) ∷ [] ++ rest.0,
-     record { end = replies.Word end_word; front = (SeeAck cpu, replies.Word end_word) ∷ []; back = rest.0; shown = record { is = refl; kind = λ view. tt }; rest = rest.1; is = refl })
+    let rest = all-asked g (cpu + 1) more in (
+      (SeeAck cpu, replies.Word end_word) ∷ [] ++ rest.0,
+      record { end = replies.Word end_word; front = (SeeAck cpu, replies.Word end_word) ∷ []; back = rest.0; shown = record { is = refl; kind = λ view. tt }; rest = rest.1; is = refl },
+    )
 
 -- there is a list in which all have ended
 pub all-ended : (g : Geometry) → (own : Own) × (IsWork (made_ask g) g own (works.Ask true))

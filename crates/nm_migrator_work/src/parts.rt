@@ -46,11 +46,7 @@ impl<'a> CoolWork<'a> {
 
 impl<'a> BatchWork<'a> {
     /// The batch of these pieces, by an actor that has drawn so much. Condition: there is a piece.
-    pub(crate) fn new(
-        g: &'a Geometry,
-        pieces: PieceList<(u32, u32)>,
-        spent: Spent,
-    ) -> BatchWork<'a>
+    pub(crate) fn new(g: &'a Geometry, pieces: PieceList<(u32, u32)>, spent: Spent) -> BatchWork<'a>
         requires { pieces ≢ [] }
         ensures made { batch_work_made result ≡ record { 0 = record { 0 = g.now; 1 = record { pieces = pieces; spent = spent } }; 1 = spent } }
         ensures new { IsNewBatchWork result }

@@ -26,14 +26,26 @@ const FASTEST: u32 = 0;
 pub type AskPart = Composite<AskEnded, Act>;
 
 /// A piece of the migrator's work.
-pub type MigratorPiece<'a> =
-    MigratorWork<Act, LooksPart<'a>, CoolWork<'a>, BatchWork<'a>, MoveWork<'a>, AskPart>;
+pub type MigratorPiece<'a> = MigratorWork<
+    Act,
+    LooksPart<'a>,
+    CoolWork<'a>,
+    BatchWork<'a>,
+    MoveWork<'a>,
+    AskPart,
+>;
 
 /// How a piece of the migrator's work ends: with the reply to a Mark; with what Looks have seen; with how a candidate was
 /// cooled; with how each piece of a batch ended, in order; with how a locked move is over; or with whether all processors have
 /// ended.
-pub type MigratorEnd =
-    MigratorWork<Reply, Seen, Cooled, Drawn<PieceList<TxnEnd>>, Drawn<LockedOver>, bool>;
+pub type MigratorEnd = MigratorWork<
+    Reply,
+    Seen,
+    Cooled,
+    Drawn<PieceList<TxnEnd>>,
+    Drawn<LockedOver>,
+    bool,
+>;
 
 /// The Mark of a page. Where it begins the page is there, and the mark makes a step that needs no operation.
 pub fn mark_work<'a>(page: u32, from: u64, to: u64) -> MigratorPiece<'a>

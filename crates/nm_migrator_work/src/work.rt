@@ -25,8 +25,14 @@ pub enum MigratorWork<M, L, C, B, V, A> {
 }
 
 impl<M: Part, L: Part, C: Part, B: Part, V: Part, A: Part> Part for MigratorWork<M, L, C, B, V, A> {
-    type Outcome =
-        MigratorWork<M::Outcome, L::Outcome, C::Outcome, B::Outcome, V::Outcome, A::Outcome>;
+    type Outcome = MigratorWork<
+        M::Outcome,
+        L::Outcome,
+        C::Outcome,
+        B::Outcome,
+        V::Outcome,
+        A::Outcome,
+    >;
 
     type Made = MigratorWork<M::Made, L::Made, C::Made, B::Made, V::Made, A::Made>;
 
@@ -48,8 +54,9 @@ impl<M: Part, L: Part, C: Part, B: Part, V: Part, A: Part> Part for MigratorWork
 
     fn first(
         &mut self,
-    ) -> Step<MigratorWork<M::Outcome, L::Outcome, C::Outcome, B::Outcome, V::Outcome, A::Outcome>>
-    {
+    ) -> Step<
+        MigratorWork<M::Outcome, L::Outcome, C::Outcome, B::Outcome, V::Outcome, A::Outcome>,
+    > {
         match self {
             MigratorWork::Mark(part) => mark(part.first()),
             MigratorWork::Looks(part) => looks(part.first()),
@@ -63,8 +70,9 @@ impl<M: Part, L: Part, C: Part, B: Part, V: Part, A: Part> Part for MigratorWork
     fn after(
         &mut self,
         reply: Reply,
-    ) -> Step<MigratorWork<M::Outcome, L::Outcome, C::Outcome, B::Outcome, V::Outcome, A::Outcome>>
-    {
+    ) -> Step<
+        MigratorWork<M::Outcome, L::Outcome, C::Outcome, B::Outcome, V::Outcome, A::Outcome>,
+    > {
         match self {
             MigratorWork::Mark(part) => mark(part.after(reply)),
             MigratorWork::Looks(part) => looks(part.after(reply)),
@@ -77,8 +85,7 @@ impl<M: Part, L: Part, C: Part, B: Part, V: Part, A: Part> Part for MigratorWork
 }
 
 impl<M: Piece, L: Piece, C: Piece, B: Piece, V: Piece, A: Piece> Piece
-    for MigratorWork<M, L, C, B, V, A>
-{
+    for MigratorWork<M, L, C, B, V, A> {
     fn start(&mut self) -> Action {
         match self {
             MigratorWork::Mark(part) => part.start(),
