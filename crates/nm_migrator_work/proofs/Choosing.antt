@@ -1,5 +1,4 @@
 -- The steps of a work are those of the piece of its kind.
-use Rattle.std.proofs.Common.{◌++◌}
 use Rattle.nm_base.specs.Geometry.{Geometry}
 use Rattle.nm_action.specs.declared.action.Action.{Action}
 use Rattle.nm_action.specs.declared.turn.Step.{Step}

@@ -1,12 +1,12 @@
 -- Every work has a finished list.
-use Rattle.std.proofs.Common.{◌≡◌, ℕ, zero, suc, ◌+◌, [], ◌∷◌, ◌++◌, List, true, false, refl}
+use Rattle.std.proofs.Common.{ℕ, zero, suc, ◌+◌, [], ◌∷◌, ◌++◌, List, true, refl}
 use Rattle.nm_base.specs.Geometry.{Geometry}
 use Rattle.nm_action.specs.declared.action.Action.TheVariants.{Lock, SeeAck}
 use Rattle.nm_action.specs.declared.action.Reply.TheVariants as replies
 use Rattle.nm_action.specs.declared.spent.Spent.{Spent}
 use Rattle.nm_action.specs.Own.{Own}
 use Rattle.nm_view.specs.Views.{end_word}
-use Rattle.nm_part.specs.Patterns.{Ends, Follows, Either, CanEnd}
+use Rattle.nm_part.specs.Patterns.{CanEnd}
 use Rattle.nm_part.proofs.Patterns.{ends-now, can-follow, each-can, can-ends}
 use Rattle.nm_compose.specs.Acts.{IsAct}
 use Rattle.nm_compose.proofs.Acting.{some-act}
@@ -16,7 +16,6 @@ use Rattle.nm_prepare.specs.declared.prepare.PrepareMade.{PrepareMade}
 use Rattle.nm_prepare.specs.declared.prepare.Prepared.{Prepared}
 use Rattle.nm_prepare.specs.declared.prepare.Prepared.TheVariants as prepared
 use Rattle.nm_prepare.specs.Preparing.{IsPrepare}
-use Rattle.nm_txn.specs.declared.end.TxnEnd.{TxnEnd}
 use Rattle.nm_txn.specs.Batches.{BatchMade, IsBatch, PreparesNext, AfterPrepares, drawn_with, ready_of}
 use Rattle.nm_batch.proofs.Ending.{can-flush-first}
 use Rattle.nm_batch.specs.Places.{batch_made}
@@ -27,12 +26,12 @@ use Rattle.nm_locked.specs.declared.locked.LockedEnd.TheVariants as ends
 use Rattle.nm_locked.specs.declared.locked.LockedOver.{LockedOver}
 use Rattle.nm_locked.specs.Choosing.{IsChoosing}
 use Rattle.nm_locked.specs.Moves.{AfterChoosing, IsLockedInMove}
-use Rattle.nm_ended.specs.Asking.{AsksFrom, tells_end, IsAsking}
+use Rattle.nm_ended.specs.Asking.{AsksFrom}
 use Rattle.nm_ended.proofs.Asking.{some-asking}
 use Rattle.nm_drawing.specs.declared.drawing.Drawn.{Drawn}
 use Rattle.nm_drawing.specs.Draws.{IsDrawingList, drawn_over}
 use Rattle.nm_migrator_work.specs.declared.work.MigratorWork.TheVariants as works
-use Rattle.nm_migrator_work.specs.Works.{WorkMade, WorkEnd, IsWork, made_ask}
+use Rattle.nm_migrator_work.specs.Works.{WorkMade, IsWork, made_ask}
 
 -- A page whose lock is held.
 

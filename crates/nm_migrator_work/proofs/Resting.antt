@@ -1,8 +1,6 @@
 -- After each work the view is as empty as before, and what was drawn is known.
-use Rattle.std.proofs.Common.{◌≡◌, ℕ, ◌+◌, ◌*◌, List, [], ◌∷◌, length, None, Bool, refl, sym, ap, subst, ◌∙◌, arith}
+use Rattle.std.proofs.Common.{◌≡◌, ℕ, ◌+◌, List, [], ◌∷◌, length, refl, sym, subst}
 use Rattle.nm_base.specs.Geometry.{Geometry}
-use Rattle.nm_action.specs.declared.action.Action.TheVariants as action
-use Rattle.nm_action.specs.declared.action.Reply.{Reply}
 use Rattle.nm_action.specs.declared.spent.Spent.{Spent}
 use Rattle.nm_view.specs.declared.view.Owned.{Owned}
 use Rattle.nm_view.specs.declared.view.Scanned.{Scanned}
@@ -16,7 +14,7 @@ use Rattle.nm_cool.specs.declared.cool.Cooled.{Cooled}
 use Rattle.nm_cool.specs.declared.cool.Cooled.TheVariants as cooled
 use Rattle.nm_cool.specs.Cooling.{IsCooledLeft}
 use Rattle.nm_txn.specs.declared.end.TxnEnd.{TxnEnd}
-use Rattle.nm_batch.specs.Leaving.{spoiled_each, flush_bumps}
+use Rattle.nm_batch.specs.Leaving.{spoiled_each}
 use Rattle.nm_locked.specs.declared.choose.ChooseMade.{ChooseMade}
 use Rattle.nm_locked.specs.declared.locked.LockedEnd.{LockedEnd}
 use Rattle.nm_locked.specs.declared.locked.LockedEnd.TheVariants as ends

@@ -18,9 +18,8 @@ use Rattle.nm_looks.specs.Parts.{LooksPart}
 use Rattle.nm_txn.specs.Pieces.{TxnPiece, txn_parts, IsNewTxnPiece, MayTxnPiece, IsTxnPiece}
 use Rattle.nm_txn.specs.Tasks.{ActAwaits, VisitsAwaits, CopiesAwaits, PieceAwaits}
 use Rattle.nm_txn.specs.Batches.{IsBatch}
-use Rattle.nm_cool.specs.declared.cool.Cool.{Cool}
 use Rattle.nm_cool.specs.Cooling.{CoolData, IsCooling, MayCool}
-use Rattle.nm_cool.specs.Stages.{CoolPiece, cool_data, cool_piece_made, IsNewCoolPiece, MayCoolPiece, IsCoolPiece, cool_left, cool_stages}
+use Rattle.nm_cool.specs.Stages.{cool_data, cool_piece_made, IsNewCoolPiece, MayCoolPiece, IsCoolPiece, cool_left, cool_stages}
 use Rattle.nm_batch.specs.declared.batch.Batch.{Batch}
 use Rattle.nm_batch.specs.declared.batch.BatchAsked.{BatchAsked}
 use Rattle.nm_batch.specs.Leaving.{MayBatch}
