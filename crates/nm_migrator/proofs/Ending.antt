@@ -6,22 +6,21 @@ use Rattle.nm_action.specs.declared.action.Reply.{Reply}
 use Rattle.nm_action.specs.declared.action.Reply.TheVariants.{Done}
 use Rattle.nm_action.specs.declared.turn.Lane.{Lane}
 use Rattle.nm_action.specs.declared.turn.Lane.TheVariants.{Candidates, Pending}
-use Rattle.nm_txn.specs.declared.end.TxnEnd.{TxnEnd}
 use Rattle.nm_cool.specs.declared.cool.Cooled.{Cooled}
 use Rattle.nm_cool.specs.declared.cool.Cooled.TheVariants.{Busy, Cold}
-use Rattle.nm_part.specs.Patterns.{Ends, Follows, Either, Each, Sometimes, CanEnd}
+use Rattle.nm_part.specs.Patterns.{Ends, Follows, Either, CanEnd}
 use Rattle.nm_part.proofs.Patterns.{can-ends, can-follow, can-either, each-can, can-sometimes}
 use Rattle.nm_worker.specs.declared.routine.Ended.{Ended}
 use Rattle.nm_worker.specs.Notes.{Notes, worked, IsWorkDone, IsPut, IsTake}
 use Rattle.nm_migrator_work.specs.declared.work.MigratorWork.TheVariants as works
-use Rattle.nm_migrator_work.specs.Works.{WorkMade, WorkEnd, IsWork, made_mark, made_looks, made_cool, made_batch, made_move, made_ask}
+use Rattle.nm_migrator_work.specs.Works.{WorkEnd, IsWork, made_mark, made_looks, made_cool, made_batch, made_move, made_ask}
 use Rattle.nm_migrator_work.proofs.Listing.{all-ended}
 use Rattle.nm_migrator.specs.declared.migrating.Migrating.{Migrating}
 use Rattle.nm_migrator.specs.declared.migrating.MigratingStage.{MigratingStage}
 use Rattle.nm_migrator.specs.declared.migrating.MigratingStage.TheVariants.{New, TakingCandidate, Judging, Heating, PuttingHot, Cooling, PuttingBack, Spilling, TakingPending, PuttingTwice, Planning, Batching, PuttingAgain, Moving, PuttingMoved, Asking, TakingLast, Unmarking, Over}
 use Rattle.nm_migrator.specs.Ends.{reply_in, seen_in, cooled_in, batch_in, move_in, drawn_in, all_ended_in, work_in, full_in, page_in, work_counts}
-use Rattle.nm_migrator.specs.Planned.{Kept, nothing_kept, unaborted, is_mapped, is_among, most_taken, Plan, no_plan, planned, again_of, batched, is_busy_move, moved}
-use Rattle.nm_migrator.specs.Migrating.{Sequence, Does, Puts, Taken, TakesTry, Takes, Spills, AfterCool, Cools, AfterHeat, Heats, Judges, UnmarkNext, Unmarks, AfterLast, Asks, MoveNext, Moves, PutNext, AfterBatch, Batches, PlanNext, Plans, AfterTakes, PendingTaken, TakesPending, AfterCandidate, Round, Rounds, IsMigrating}
+use Rattle.nm_migrator.specs.Planned.{Kept, nothing_kept, unaborted, is_among, most_taken, Plan, no_plan, planned, again_of, batched, is_busy_move, moved}
+use Rattle.nm_migrator.specs.Migrating.{Sequence, Does, Puts, Taken, TakesTry, Takes, Spills, AfterCool, Cools, AfterHeat, Heats, Judges, UnmarkNext, Unmarks, AfterLast, Asks, MoveNext, Moves, PutNext, AfterBatch, Batches, PlanNext, Plans, AfterTakes, PendingTaken, TakesPending, AfterCandidate, Rounds, IsMigrating}
 use Rattle.nm_migrator.specs.Stages.{kept_of, plan_of, next_of, left_at, migrating_left, TakenLeft, MoreLeft}
 use Rattle.nm_migrator.proofs.Looping.{page-put, can-does, can-puts, can-put-left, can-takes, can-taken}
 
