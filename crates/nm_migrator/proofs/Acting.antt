@@ -12,7 +12,8 @@ use Rattle.nm_migrator.specs.Ends.{work_counts}
 use Rattle.nm_migrator.specs.Migrating.{IsMigrating}
 use Rattle.nm_migrator.specs.Stages.{migrating_left, IsMigratingAt}
 use Rattle.nm_migrator.specs.Parts.{MigratorWorker, IsMigratorPart, IsEmptyAtEnd, AgreesWorker, worker_counted, IsNewMigratorWorker, IsNewMigrator, AgreesMigrator}
-use Rattle.nm_migrator.proofs.Ending.{some-migrating}
+use Rattle.nm_worker.proofs.Starting.{acts-first}
+use Rattle.nm_migrator.proofs.Ending.{some-migrating, no-migrating}
 
 part-by : (w : MigratorWorker) (turns : Turns) (last : Option Turn) → AgreesWorker w turns last → IsMigratorPart w.routine.geometry.now w.routine.retry turns (is_end last) (worker_counted w)
 part-by w turns last h =
@@ -37,3 +38,10 @@ opens-by w new = record { notes = []; is = refl; next = refl; events = new.event
 -- it is new where its worker is
 pub new-by : (a : MigratorActor) → IsNewMigratorWorker a.worker → IsNewMigrator a
 new-by a new = record { worker = new; part = part-by a.worker [] None (opens-by a.worker new) }
+
+-- it gives a turn before it ends
+pub migrator-acts : (a : MigratorActor) → ¬ AgreesMigrator a [] (Some turn.End)
+migrator-acts a h =
+    let w = a.worker in
+    acts-first work_made IsNewWork MayWork IsWork AwaitsWork work_counts (IsMigratingAt w.routine) (migrating_left w.routine) (IsMigrating w.routine.geometry.now w.routine.retry) w.routine.geometry.now w.routine.geometry.now.cpus w.action w.task w.events w.ends w.spent
+    (no-migrating w.routine.geometry.now w.routine.retry) h.worker

@@ -1,5 +1,5 @@
 -- A list of the task of a stage, and of what is left after it, is a list of what comes with that stage.
-use Rattle.std.proofs.Common.{ℕ, ◌+◌, Bool, Option}
+use Rattle.std.proofs.Common.{ℕ, ◌+◌, Option}
 use Rattle.nm_base.specs.Geometry.{Geometry}
 use Rattle.nm_action.specs.declared.turn.Lane.{Lane}
 use Rattle.nm_action.specs.declared.turn.Lane.TheVariants.{Candidates, Pending}

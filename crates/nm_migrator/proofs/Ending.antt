@@ -1,27 +1,26 @@
 -- Each pattern of the migrator has a list.
-use Rattle.std.proofs.Common.{ℕ, zero, suc, ◌+◌, ◌-◌, Bool, true, false, List, [], ◌∷◌, ◌++◌, length, drop, Option, Some, None, refl}
+use Rattle.std.proofs.Common.{◌≡◌, ℕ, zero, suc, ◌+◌, ◌-◌, Bool, true, false, List, [], ◌∷◌, ◌++◌, length, drop, Option, Some, None, refl, subst}
 use Rattle.std.specs.List.{range_with_len}
 use Rattle.nm_base.specs.Geometry.{Geometry, page_count}
 use Rattle.nm_action.specs.declared.action.Reply.{Reply}
 use Rattle.nm_action.specs.declared.action.Reply.TheVariants.{Done}
 use Rattle.nm_action.specs.declared.turn.Lane.{Lane}
 use Rattle.nm_action.specs.declared.turn.Lane.TheVariants.{Candidates, Pending}
-use Rattle.nm_txn.specs.declared.end.TxnEnd.{TxnEnd}
 use Rattle.nm_cool.specs.declared.cool.Cooled.{Cooled}
 use Rattle.nm_cool.specs.declared.cool.Cooled.TheVariants.{Busy, Cold}
-use Rattle.nm_part.specs.Patterns.{Ends, Follows, Either, Each, Sometimes, CanEnd}
+use Rattle.nm_part.specs.Patterns.{Ends, Follows, Either, CanEnd}
 use Rattle.nm_part.proofs.Patterns.{can-ends, can-follow, can-either, each-can, can-sometimes}
 use Rattle.nm_worker.specs.declared.routine.Ended.{Ended}
-use Rattle.nm_worker.specs.Notes.{Notes, worked, IsWorkDone, IsPut}
+use Rattle.nm_worker.specs.Notes.{Notes, worked, IsWorkDone, IsPut, IsTake}
 use Rattle.nm_migrator_work.specs.declared.work.MigratorWork.TheVariants as works
-use Rattle.nm_migrator_work.specs.Works.{WorkMade, WorkEnd, IsWork, made_mark, made_looks, made_cool, made_batch, made_move, made_ask}
+use Rattle.nm_migrator_work.specs.Works.{WorkEnd, IsWork, made_mark, made_looks, made_cool, made_batch, made_move, made_ask}
 use Rattle.nm_migrator_work.proofs.Listing.{all-ended}
 use Rattle.nm_migrator.specs.declared.migrating.Migrating.{Migrating}
 use Rattle.nm_migrator.specs.declared.migrating.MigratingStage.{MigratingStage}
 use Rattle.nm_migrator.specs.declared.migrating.MigratingStage.TheVariants.{New, TakingCandidate, Judging, Heating, PuttingHot, Cooling, PuttingBack, Spilling, TakingPending, PuttingTwice, Planning, Batching, PuttingAgain, Moving, PuttingMoved, Asking, TakingLast, Unmarking, Over}
 use Rattle.nm_migrator.specs.Ends.{reply_in, seen_in, cooled_in, batch_in, move_in, drawn_in, all_ended_in, work_in, full_in, page_in, work_counts}
-use Rattle.nm_migrator.specs.Planned.{Kept, nothing_kept, unaborted, is_mapped, is_among, most_taken, Plan, no_plan, planned, again_of, batched, is_busy_move, moved}
-use Rattle.nm_migrator.specs.Migrating.{Sequence, Does, Puts, Taken, Takes, Spills, AfterCool, Cools, AfterHeat, Heats, Judges, UnmarkNext, Unmarks, AfterLast, Asks, MoveNext, Moves, PutNext, AfterBatch, Batches, PlanNext, Plans, AfterTakes, PendingTaken, TakesPending, AfterCandidate, Round, Rounds, IsMigrating}
+use Rattle.nm_migrator.specs.Planned.{Kept, nothing_kept, unaborted, is_among, most_taken, Plan, no_plan, planned, again_of, batched, is_busy_move, moved}
+use Rattle.nm_migrator.specs.Migrating.{Sequence, Does, Puts, Taken, TakesTry, Takes, Spills, AfterCool, Cools, AfterHeat, Heats, Judges, UnmarkNext, Unmarks, AfterLast, Asks, MoveNext, Moves, PutNext, AfterBatch, Batches, PlanNext, Plans, AfterTakes, PendingTaken, TakesPending, AfterCandidate, Rounds, IsMigrating}
 use Rattle.nm_migrator.specs.Stages.{kept_of, plan_of, next_of, left_at, migrating_left, TakenLeft, MoreLeft}
 use Rattle.nm_migrator.proofs.Looping.{page-put, can-does, can-puts, can-put-left, can-takes, can-taken}
 
@@ -108,7 +107,7 @@ can-pending-taken after more taken (Some page) a m = can-either (is_among page t
 ends-asking : (g : Geometry) (next : Lane → Kept → Sequence) (kept : Kept) → CanEnd (Asks g next kept)
 ends-asking g next kept =
     let all = all-ended g in
-    can-follow (IsWorkDone IsWork work_counts (made_ask g)  g) (λ end. Either (all_ended_in end) (Takes g Candidates (AfterLast g next kept)) (next Candidates kept))
+    can-follow (IsWorkDone IsWork work_counts (made_ask g) g) (λ end. Either (all_ended_in end) (Takes g Candidates (AfterLast g next kept)) (next Candidates kept))
     (record { rest = worked (work_counts (works.Ask true)) all.0; outcome = works.Ask true; shown = record { own = all.0; shown = all.1; is = refl } })
     (can-takes g Candidates (AfterLast g next kept) (can-unmarks g (range_with_len 0 (page_count g))))
 
@@ -176,3 +175,22 @@ can-at m Over end n ends has = absurd has
 -- what is left after the task of a stage can be finished
 pub can-left : (m : Migrating) (end : Ended WorkEnd) → HasTask m.stage → CanEnd (migrating_left m end)
 can-left m end has = can-sometimes (left_at m m.stage end) (suc (suc zero)) (can-at m m.stage end (suc (suc zero)) (ends-next m.geometry.now m.retry) has)
+
+-- No sequence is empty: the first turn is the take of a candidate.
+
+no-take : (lane : Lane) (after : Option ℕ → Sequence) (outcome : Unit {0}) → ¬ Follows (IsTake lane) after [] outcome
+no-take lane after outcome f =
+    let L : Notes → Type 0 = λ l. [] ≡ l ++ f.back in
+    let e = subst L f.shown.is f.is in
+    cc e
+
+no-try : (g : Geometry) (lane : Lane) (after : Option ℕ → Sequence) (n : ℕ) (outcome : Unit {0}) → ¬ TakesTry g lane after n [] outcome
+no-try g lane after zero outcome = λ h. h
+no-try g lane after (suc n) outcome = λ h. no-take lane (λ page. Taken g (TakesTry g lane after n) after page) outcome h
+
+no-round : (g : Geometry) (retry : Option ℕ) (n : ℕ) (outcome : Unit {0}) → ¬ Rounds g retry n Candidates (nothing_kept g) [] outcome
+no-round g retry zero outcome = λ h. h
+no-round g retry (suc n) outcome = λ h. no-try g Candidates (AfterCandidate g (Rounds g retry n) (nothing_kept g)) h.tries outcome h.is
+
+pub no-migrating : (g : Geometry) (retry : Option ℕ) → ¬ IsMigrating g retry [] tt
+no-migrating g retry = λ h. no-round g retry h.tries tt h.is

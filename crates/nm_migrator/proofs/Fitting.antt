@@ -1,23 +1,21 @@
 -- What comes with the stage that is come to is what was left.
-use Rattle.std.proofs.Common.{◌≡◌, ◌≢◌, ℕ, zero, suc, ◌+◌, ◌-◌, ◌<◌, ◌≤◌, Bool, true, false, List, [], ◌∷◌, ◌++◌, length, drop, slice_index, slice_set, Option, Some, None, refl, sym, ap, ◌∙◌, subst, arith}
+use Rattle.std.proofs.Common.{◌≡◌, ◌≢◌, ℕ, zero, suc, ◌+◌, ◌-◌, ◌<◌, ◌≤◌, Bool, true, false, List, [], ◌∷◌, ◌++◌, length, drop, slice_index, slice_set, Some, None, sym, ap, ◌∙◌, subst, arith}
 use Rattle.std.proofs.lemmas.List.{length_push}
 use Rattle.std.specs.List.{range_with_len}
-use Rattle.nm_base.specs.Geometry.{Geometry, page_count}
-use Rattle.nm_action.specs.declared.action.Reply.TheVariants as replies
-use Rattle.nm_action.specs.declared.turn.Lane.TheVariants.{Candidates, Pending}
-use Rattle.nm_part.specs.Patterns.{Ends, Follows, Either, Each, Sometimes}
+use Rattle.nm_base.specs.Geometry.{page_count}
+use Rattle.nm_part.specs.Patterns.{Sometimes}
 use Rattle.nm_part.proofs.Patterns.{ends-now, either-yes, either-other}
 use Rattle.nm_txn.specs.declared.end.TxnEnd.{TxnEnd}
 use Rattle.nm_vpages.specs.VPages.{vpages_of}
 use Rattle.nm_drawing.specs.declared.drawing.Drawn.{Drawn}
 use Rattle.nm_worker.specs.Notes.{Notes}
-use Rattle.nm_migrator_work.specs.Works.{made_mark, made_looks, made_batch, made_move}
+use Rattle.nm_migrator_work.specs.Works.{made_mark, made_batch}
 use Rattle.nm_migrator.specs.declared.migrating.Migrating.{Migrating}
-use Rattle.nm_migrator.specs.declared.migrating.MigratingStage.TheVariants.{TakingCandidate, Judging, Heating, PuttingHot, Cooling, PuttingBack, Spilling, TakingPending, PuttingTwice, Planning, Batching, PuttingAgain, Moving, PuttingMoved, Asking, TakingLast, Unmarking, Over}
-use Rattle.nm_migrator.specs.Ends.{reply_in, seen_in, batch_in, move_in, drawn_in}
-use Rattle.nm_migrator.specs.Planned.{Kept, Plan, no_plan, is_mapped, is_among, most_taken, is_moved_locked, first_or, planned_by, planned, aborts_with, again_of, batched, is_busy_move, moved}
-use Rattle.nm_migrator.specs.Migrating.{Sequence, Does, Puts, Takes, AfterHeat, Heats, Cools, UnmarkNext, Unmarks, AfterLast, Asks, MoveNext, Moves, PutNext, AfterBatch, Batches, PlanNext, Plans, AfterTakes, TakesPending, AfterCandidate}
-use Rattle.nm_migrator.specs.Stages.{kept_of, plan_of, next_of, comes_at, CandidateLeft, LastLeft, JudgedLeft, CandidatesLeft, PendingLeft, TakenLeft, TakesLeft, MoreLeft, PageLeft, PlansLeft, PlannedLeft, BatchesLeft, BatchedLeft, AgainLeft, MovesLeft, AskedLeft, UnmarksLeft}
+use Rattle.nm_migrator.specs.declared.migrating.MigratingStage.TheVariants.{TakingCandidate, Judging, TakingPending, PuttingTwice, Planning, Batching, PuttingAgain, Moving, Asking, TakingLast, Unmarking}
+use Rattle.nm_migrator.specs.Ends.{reply_in, batch_in}
+use Rattle.nm_migrator.specs.Planned.{Plan, no_plan, is_mapped, is_among, most_taken, is_moved_locked, first_or, planned_by, planned, aborts_with, again_of, batched}
+use Rattle.nm_migrator.specs.Migrating.{Sequence, Does, Puts, AfterHeat, Unmarks, AfterLast, Moves, AfterBatch, Batches, Plans, TakesPending, AfterCandidate}
+use Rattle.nm_migrator.specs.Stages.{kept_of, plan_of, next_of, comes_at, CandidateLeft, LastLeft, JudgedLeft, CandidatesLeft, PendingLeft, TakenLeft, TakesLeft, MoreLeft, PageLeft, PlansLeft, PlannedLeft, BatchesLeft, BatchedLeft, AgainLeft, MovesLeft, UnmarksLeft}
 
 -- every list of the one is a list of the other
 abbrev pub Fits : (ℕ → Sequence) → (ℕ → Sequence) → Type 0
@@ -109,7 +107,7 @@ module _ (m : Migrating) where
   page-taken page is among notes outcome s = more-fits page is notes outcome (record {
     tries = s.tries;
     is = either-other (is_among page m.taken) (Puts page (TakenLeft m m.taken s.tries)) (TakesPending m.geometry.now (λ taken. TakenLeft m taken s.tries) (most_taken - (length m.taken + 1)) (m.taken ++ page ∷ [])) notes outcome among
-      (subst (λ (k : ℕ). TakesPending m.geometry.now (λ taken. TakenLeft m taken s.tries) (most_taken - k) (m.taken ++ page ∷ []) notes outcome) (length_push m.taken page) s.is);
+        (subst (λ (k : ℕ). TakesPending m.geometry.now (λ taken. TakenLeft m taken s.tries) (most_taken - k) (m.taken ++ page ∷ []) notes outcome) (length_push m.taken page) s.is);
   })
 
   -- The plan.

@@ -1,22 +1,21 @@
 -- The task of a stage is given.
-use Rattle.std.proofs.Common.{◌≡◌, ◌≢◌, ℕ, ◌+◌, ◌≤◌, ◌⊎◌, inl, inr, List, [], ◌∷◌, length, All, refl, sym, ap, ◌∙◌, subst, arith}
+use Rattle.std.proofs.Common.{◌≡◌, ℕ, ◌+◌, ◌≤◌, inl, inr, [], length, refl, sym, ap, subst, arith}
 use Rattle.nm_base.specs.Geometry.{Geometry}
 use Rattle.nm_action.specs.declared.spent.Spent.{Spent}
 use Rattle.nm_view.specs.Views.{View}
-use Rattle.nm_part.specs.Patterns.{Follows, Sometimes, CanEnd}
+use Rattle.nm_part.specs.Patterns.{Sometimes}
 use Rattle.nm_worker.specs.declared.routine.Task.{Task}
 use Rattle.nm_worker.specs.declared.routine.Task.TheVariants.{Run, Put, Take, Stop}
-use Rattle.nm_worker.specs.declared.routine.Ended.{Ended}
 use Rattle.nm_worker.specs.Notes.{Notes, IsTask}
 use Rattle.nm_worker.specs.Routines.{task_data, IsTaskRun, IsNextTask}
-use Rattle.nm_migrator_work.specs.Works.{MigratorPiece, WorkMade, WorkEnd, work_made, IsWork, MayWork}
+use Rattle.nm_migrator_work.specs.Works.{MigratorPiece, WorkMade, work_made, IsWork, MayWork}
 use Rattle.nm_migrator_work.proofs.Beginning.{may-mark, may-looks, may-cool, may-batch, may-move, may-ask, mapped-is-page}
 use Rattle.nm_migrator.specs.declared.migrating.Migrating.{Migrating}
 use Rattle.nm_migrator.specs.declared.migrating.MigratingStage.{MigratingStage}
 use Rattle.nm_migrator.specs.declared.migrating.MigratingStage.TheVariants.{New, TakingCandidate, Judging, Heating, PuttingHot, Cooling, PuttingBack, Spilling, TakingPending, PuttingTwice, Planning, Batching, PuttingAgain, Moving, PuttingMoved, Asking, TakingLast, Unmarking, Over}
 use Rattle.nm_migrator.specs.Ends.{work_counts}
 use Rattle.nm_migrator.specs.Migrating.{Sequence}
-use Rattle.nm_migrator.specs.Stages.{stage_task, comes_at, migrating_left, IsMappedPage, IsPlanWith, KnownAt, IsResting, IsMigratingAt, IsNewTask, Gives}
+use Rattle.nm_migrator.specs.Stages.{stage_task, comes_at, migrating_left, KnownAt, IsResting, IsMigratingAt, IsNewTask, Gives}
 use Rattle.nm_migrator.proofs.Ending.{HasTask, can-left}
 use Rattle.nm_migrator.proofs.Coming.{comes}
 

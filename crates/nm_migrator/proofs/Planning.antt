@@ -1,16 +1,16 @@
 -- The pages that were taken, and the plan of how they are moved.
-use Rattle.std.proofs.Common.{◌≡◌, ◌≢◌, ℕ, suc, ◌+◌, ◌<◌, ◌≤◌, ◌==◌, ◌&&◌, ◌||◌, nat_le, Bool, true, false, List, [], ◌∷◌, ◌++◌, length, All, Option, Some, None, inl, inr, refl, sym, ap, ◌∙◌, subst, arith}
+use Rattle.std.proofs.Common.{◌≡◌, ◌≢◌, ℕ, ◌<◌, ◌≤◌, ◌==◌, ◌&&◌, ◌||◌, nat_le, Bool, true, false, List, [], ◌∷◌, ◌++◌, length, All, Option, None, refl, sym, arith}
 use Rattle.std.proofs.lemmas.List.{length_push}
 use Rattle.std.proofs.lemmas.List.Elements.{All-nil, All-cons, All-head, All-tail, All-push}
-use Rattle.std.proofs.lemmas.Bool.{leb-true, eqb-true, cases_eq}
+use Rattle.std.proofs.lemmas.Bool.{leb-true, eqb-true}
 use Rattle.nm_base.specs.Geometry.{Geometry}
 use Rattle.nm_base.specs.Ranges.{IsPage}
-use Rattle.nm_view.specs.Lists.{find, itself, first, Once}
+use Rattle.nm_view.specs.Lists.{find, itself, first}
 use Rattle.nm_view.proofs.Finds.{once_join, absent_join}
 use Rattle.nm_vpages.specs.VPages.{vpages_of}
 use Rattle.nm_batch.proofs.Lists.{absent-head, absent-tail}
 use Rattle.nm_migrator_work.proofs.Beginning.{mapped-is-page}
-use Rattle.nm_migrator.specs.Planned.{has_any, is_mapped, is_among, most_taken, Plan, no_plan, is_retried, is_moved_locked, first_or, planned_by}
+use Rattle.nm_migrator.specs.Planned.{has_any, is_mapped, is_among, most_taken, Plan, no_plan, is_retried, is_moved_locked}
 use Rattle.nm_migrator.specs.Stages.{IsMappedPage, AreTaken, IsMove, IsPlanWith}
 
 -- Pages.

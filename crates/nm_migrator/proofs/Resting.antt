@@ -1,5 +1,5 @@
 -- The view after a task.
-use Rattle.std.proofs.Common.{◌≡◌, ℕ, List, Option, sym, ap, ◌∙◌, subst}
+use Rattle.std.proofs.Common.{◌≡◌, ℕ, List, sym, ap, ◌∙◌, subst}
 use Rattle.nm_base.specs.Geometry.{Geometry}
 use Rattle.nm_action.specs.declared.spent.Spent.{Spent}
 use Rattle.nm_action.specs.declared.turn.Lane.{Lane}
@@ -12,7 +12,7 @@ use Rattle.nm_worker.specs.declared.routine.Task.{Task}
 use Rattle.nm_worker.specs.declared.routine.Task.TheVariants.{Run, Put, Take, Stop}
 use Rattle.nm_worker.specs.declared.routine.Ended.{Ended}
 use Rattle.nm_worker.specs.declared.routine.Ended.TheVariants as ended
-use Rattle.nm_worker.specs.Routines.{task_data, IsNextTask, IsTaskOver, IsLeftEmpty, IsDrawn}
+use Rattle.nm_worker.specs.Routines.{task_data, IsNextTask, IsTaskOver}
 use Rattle.nm_migrator_work.specs.declared.work.MigratorWork.TheVariants as works
 use Rattle.nm_migrator_work.specs.Works.{MigratorPiece, WorkMade, WorkEnd, work_made, IsWork, MayWork, WorkLeaves, made_mark, made_looks, made_cool, made_batch, made_move, made_ask}
 use Rattle.nm_migrator_work.proofs.Resting.{mark-rests, looks-rests, cool-rests, batch-rests, move-rests, ask-rests}
@@ -21,7 +21,6 @@ use Rattle.nm_migrator.specs.declared.migrating.MigratingStage.{MigratingStage}
 use Rattle.nm_migrator.specs.declared.migrating.MigratingStage.TheVariants.{New, TakingCandidate, Judging, Heating, PuttingHot, Cooling, PuttingBack, Spilling, TakingPending, PuttingTwice, Planning, Batching, PuttingAgain, Moving, PuttingMoved, Asking, TakingLast, Unmarking, Over}
 use Rattle.nm_migrator.specs.Ends.{batch_in, drawn_in, work_in, words_in, work_counts}
 use Rattle.nm_migrator.specs.Stages.{stage_task, left_at, migrating_left, KnownAt, IsResting, IsMigratingAt, Gives}
-use Rattle.nm_migrator.proofs.Ending.{HasTask}
 
 -- the view after a task, by how that ended
 abbrev pub IsAfter : Geometry → View → View → Task WorkMade → Ended WorkEnd → Type 0

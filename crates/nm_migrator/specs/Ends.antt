@@ -1,5 +1,5 @@
 -- How the tasks of the migrator ended: what is told by an end, and what it counts. Of an end of another kind nothing is claimed.
-use Rattle.std.specs.Prelude.{ℕ, Bool, true, false, List, [], ◌∷◌, Option, Some, None}
+use Rattle.std.specs.Prelude.{ℕ, Bool, false, List, [], ◌∷◌, Option, Some, None}
 use Rattle.nm_action.specs.declared.action.Reply.{Reply}
 use Rattle.nm_action.specs.declared.action.Reply.TheVariants as replies
 use Rattle.nm_action.specs.declared.spent.Spent.{Spent}
@@ -14,7 +14,6 @@ use Rattle.nm_txn.specs.declared.end.TxnEnd.{TxnEnd}
 use Rattle.nm_txn.specs.declared.end.TxnEnd.TheVariants as ends
 use Rattle.nm_locked.specs.declared.locked.LockedEnd.{LockedEnd}
 use Rattle.nm_locked.specs.declared.locked.LockedEnd.TheVariants as moves
-use Rattle.nm_locked.specs.declared.locked.LockedOver.{LockedOver}
 use Rattle.nm_drawing.specs.declared.drawing.Drawn.{Drawn}
 use Rattle.nm_worker.specs.declared.routine.Ended.{Ended}
 use Rattle.nm_worker.specs.declared.routine.Ended.TheVariants as ended

@@ -7,11 +7,9 @@ use Rattle.nm_action.specs.declared.action.Reply.{Reply}
 use Rattle.nm_action.specs.declared.action.Reply.TheVariants.{Done}
 use Rattle.nm_action.specs.declared.turn.Lane.{Lane}
 use Rattle.nm_action.specs.declared.turn.Lane.TheVariants.{Candidates, Pending}
-use Rattle.nm_txn.specs.declared.end.TxnEnd.{TxnEnd}
 use Rattle.nm_part.specs.Patterns.{Ends, Follows, Either, Each, Sometimes}
 use Rattle.nm_cool.specs.declared.cool.Cooled.{Cooled}
 use Rattle.nm_cool.specs.declared.cool.Cooled.TheVariants.{Busy, Cold}
-use Rattle.nm_drawing.specs.declared.drawing.Drawn.{Drawn}
 use Rattle.nm_worker.specs.Notes.{Notes, IsWorkDone, IsPut, IsTake}
 use Rattle.nm_migrator_work.specs.Works.{WorkMade, WorkEnd, IsWork, made_mark, made_looks, made_cool, made_batch, made_move, made_ask}
 use Rattle.nm_migrator.specs.Ends.{reply_in, seen_in, cooled_in, batch_in, move_in, drawn_in, all_ended_in, work_counts}

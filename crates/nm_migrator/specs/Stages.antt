@@ -1,5 +1,5 @@
 -- How far the migrator has come: the task of each stage, what is left after it, and what is known of it.
-use Rattle.std.specs.Prelude.{◌≡◌, ◌≢◌, ℕ, ◌+◌, ◌-◌, ◌<◌, ◌≤◌, Bool, List, [], ◌∷◌, length, drop, All, Option, Some, None}
+use Rattle.std.specs.Prelude.{◌≡◌, ◌≢◌, ℕ, ◌+◌, ◌-◌, ◌<◌, ◌≤◌, Bool, List, [], ◌∷◌, length, drop, All, Option, None}
 use Rattle.std.specs.List.{range_with_len}
 use Rattle.nm_base.specs.Geometry.{Geometry, IsGeometry, page_count}
 use Rattle.nm_base.specs.Ranges.{IsPage}
@@ -11,7 +11,6 @@ use Rattle.nm_view.specs.Lists.{find, itself, first, Once}
 use Rattle.nm_view.specs.Views.{View}
 use Rattle.nm_part.specs.Patterns.{Follows, Either, Sometimes}
 use Rattle.nm_vpages.specs.VPages.{vpages_of}
-use Rattle.nm_looks.specs.declared.seen.Seen.{Seen}
 use Rattle.nm_cool.specs.declared.cool.Cooled.{Cooled}
 use Rattle.nm_txn.specs.declared.end.TxnEnd.{TxnEnd}
 use Rattle.nm_transfer.specs.Stages.{HoldsWords}

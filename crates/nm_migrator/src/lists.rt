@@ -77,10 +77,7 @@ fn is_again(end: TxnEnd) -> bool
 }
 
 /// The pages of the pieces that are tried again, in order.
-pub(crate) fn again_of(
-    pieces: &PieceList<(u32, u32)>,
-    ends: &PieceList<TxnEnd>,
-) -> PieceList<u32>
+pub(crate) fn again_of(pieces: &PieceList<(u32, u32)>, ends: &PieceList<TxnEnd>) -> PieceList<u32>
     ensures pages { result ≡ again_of pieces.now ends.now }
     ensures few { length result ≤ 8 }
 {
@@ -117,7 +114,9 @@ pub(crate) fn count_aborts(
     ensures { aborts.new ≡ aborts_with pieces.now ends.now aborts.old }
 {
     for index in 0..pieces.len() {
-        let Some((page, _)) = pieces.get(index) else { return };
+        let Some((page, _)) = pieces.get(index) else {
+            return
+        };
         let Some(end) = ends.get(index) else { return };
         if let TxnEnd::Aborted(_) = end {
             count_abort(aborts, page);

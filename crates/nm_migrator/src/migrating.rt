@@ -165,12 +165,7 @@ impl<'a> Migrating<'a> {
     }
 
     /// Comes to the locked move of a page, which takes the room for the taken words.
-    pub(crate) fn go_move(
-        &mut self,
-        index: usize,
-        page: u32,
-        count: u32,
-    ) -> Task<MigratorPiece<'a>>
+    pub(crate) fn go_move(&mut self, index: usize, page: u32, count: u32) -> Task<MigratorPiece<'a>>
         requires { HoldsWords self.old.words }
         ensures stage { self.new ≡ record self.old { stage = MigratingStage.Moving index page count; words = None } }
         ensures made { task_data work_made result ≡ stage_task self.old (MigratingStage.Moving index page count) }

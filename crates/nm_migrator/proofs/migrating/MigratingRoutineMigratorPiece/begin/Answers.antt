@@ -1,12 +1,10 @@
-use Rattle.std.proofs.Common.{◌≡◌, suc, sym, ap, subst, refl}
-use Rattle.nm_base.specs.Geometry.{Geometry}
+use Rattle.std.proofs.Common.{ap, subst, refl}
 use Rattle.nm_part.specs.Patterns.{Sometimes}
 use Rattle.nm_action.specs.declared.turn.Lane.TheVariants.{Candidates}
 use Rattle.nm_migrator_work.specs.Works.{IsNewWork}
 use Rattle.nm_migrator.specs.declared.migrating.MigratingStage.TheVariants.{TakingCandidate}
 use Rattle.nm_migrator.specs.Planned.{Kept, nothing_kept}
 use Rattle.nm_migrator.specs.Migrating.{Rounds}
-use Rattle.nm_migrator.specs.Stages.{kept_of}
 use Rattle.nm_migrator.proofs.Giving.{gives-stage}
 use Rattle.nm_migrator.proofs.Fitting.{candidates-fit}
 use Rattle.nm_migrator.proofs.migrating.MigratingRoutineMigratorPiece.begin.Goals as goal

@@ -1,4 +1,4 @@
-use Rattle.std.proofs.Common.{◌≡◌, ◌<◌, ◌≤◌, ◌+◌, ℕ, Bool, List, Option, sym, ap, ◌∙◌, subst, arith}
+use Rattle.std.proofs.Common.{◌<◌, ◌≤◌, ◌+◌, ℕ, Bool, List, Option, sym, ap, ◌∙◌, subst, arith}
 use Rattle.nm_action.specs.declared.action.Reply.{Reply}
 use Rattle.nm_action.specs.declared.spent.Spent.{Spent}
 use Rattle.nm_base.specs.Geometry.{page_count}
@@ -8,11 +8,10 @@ use Rattle.nm_cool.specs.declared.cool.Cooled.{Cooled}
 use Rattle.nm_drawing.specs.declared.drawing.Drawn.{Drawn}
 use Rattle.nm_transfer.specs.Stages.{HoldsWords}
 use Rattle.nm_migrator_work.specs.Works.{WorkEnd, IsNewWork, WorkEnded}
-use Rattle.nm_migrator.specs.declared.migrating.Migrating.{Migrating}
 use Rattle.nm_migrator.specs.declared.migrating.MigratingStage.TheVariants.{New, TakingCandidate, Judging, Heating, PuttingHot, Cooling, PuttingBack, Spilling, TakingPending, PuttingTwice, Planning, Batching, PuttingAgain, Moving, PuttingMoved, Asking, TakingLast, Unmarking, Over}
-use Rattle.nm_migrator.specs.Ends.{reply_in, seen_in, cooled_in, batch_in, move_in, drawn_in, all_ended_in, words_in, work_in, full_in, page_in}
+use Rattle.nm_migrator.specs.Ends.{reply_in, seen_in, cooled_in, batch_in, move_in, drawn_in, all_ended_in, words_in, work_in}
 use Rattle.nm_migrator.specs.Planned.{is_busy_move}
-use Rattle.nm_migrator.specs.Stages.{kept_of, CandidateLeft, LastLeft, JudgedLeft, HeatedLeft, CooledLeft, BackLeft, PutLeft, CandidatesLeft, PendingLeft, TakenLeft, PageLeft, PlannedLeft, BatchedLeft, AgainLeft, MovesLeft, MovedLeft, AskedLeft, UnmarksLeft, Gives}
+use Rattle.nm_migrator.specs.Stages.{kept_of, CandidateLeft, LastLeft, JudgedLeft, HeatedLeft, CooledLeft, BackLeft, PutLeft, CandidatesLeft, TakenLeft, PageLeft, PlannedLeft, BatchedLeft, AgainLeft, MovesLeft, MovedLeft, AskedLeft, Gives}
 use Rattle.nm_migrator.proofs.Resting.{known-at, after-at, words-back, goes-on}
 use Rattle.nm_migrator.proofs.migrating.MigratingRoutineMigratorPiece.go_on.Goals as goal
 
