@@ -1,17 +1,16 @@
 -- The accesses of a processor: their actions are such as come before its end.
-use Rattle.std.proofs.Common.{◌≡◌, ℕ, zero, suc, ◌-◌, ◌==◌, ◌&&◌, not, Bool, true, false, is_some, length, Some, refl, inl, inr}
+use Rattle.std.proofs.Common.{ℕ, zero, suc, ◌-◌, ◌==◌, ◌&&◌, not, Bool, true, false, is_some, length, Some, refl, inl, inr}
 use Rattle.std.specs.List.{range_with_len}
 use Rattle.nm_base.specs.Geometry.{Geometry}
 use Rattle.nm_base.specs.PageWord.{has_hint, is_writable}
 use Rattle.nm_action.specs.declared.action.AckTo.TheVariants.{Seen}
-use Rattle.nm_action.specs.declared.action.Action.TheVariants.{Poll, Peek, Ack, Look, Walk, Soften, Mark, Load, Store, Add}
+use Rattle.nm_action.specs.declared.action.Action.TheVariants.{Poll, Peek, Ack, Look, Walk, Soften, Mark}
 use Rattle.nm_action.specs.declared.action.Bit.TheVariants.{Hint}
 use Rattle.nm_action.specs.declared.turn.Heard.{Heard}
 use Rattle.nm_action.specs.declared.turn.Heard.TheVariants.{Start, Answer, PutDone, PutFull, Took, TookNone}
 use Rattle.nm_action.specs.declared.turn.Lane.TheVariants.{Candidates}
 use Rattle.nm_action.specs.declared.turn.Turn.TheVariants.{Do, Put}
-use Rattle.nm_action.specs.Own.{Own}
-use Rattle.nm_part.specs.Patterns.{Ends, Follows, Either, Each}
+use Rattle.nm_part.specs.Patterns.{Ends, Follows, Either}
 use Rattle.nm_compose.specs.Acts.{IsAct}
 use Rattle.nm_actor.specs.Turns.{Turns}
 use Rattle.nm_desk.specs.Woven.{WeavesPart}
@@ -23,9 +22,9 @@ use Rattle.nm_access.specs.Turning.{Hears, Acts, heard_reply, word_heard, is_don
 use Rattle.nm_access.specs.Faults.{FaultKinds}
 use Rattle.nm_access.specs.Accesses.{Carried, Accessed, is_write, touch_action, serves, held_walked, held_faulted, held_caught, Touches, AfterPut, AfterMark, is_marked, MarksCandidate, AfterWalk, Tries, Faults, AfterLook, Translates, IsWholeAccess}
 use Rattle.nm_marks.specs.Contents.{ListsOnly}
-use Rattle.nm_marks.proofs.Patterns.{only-ends, only-follows, only-then, only-either, only-each}
+use Rattle.nm_marks.proofs.Patterns.{only-ends, only-then, only-either, only-each}
 use Rattle.nm_cpu_marks.specs.Processing.{IsProcessing}
-use Rattle.nm_cpu_marks.proofs.Turning.{TurnsOnly, turn-follows, turn-ends, turn-either, turn-sometimes, turn-acts, turn-does, turn-then, turn-puts, woven-only}
+use Rattle.nm_cpu_marks.proofs.Turning.{TurnsOnly, turn-follows, turn-ends, turn-either, turn-sometimes, turn-acts, turn-then, turn-puts, woven-only}
 
 -- the faults do only such actions
 abbrev pub FaultsOnly : {M X : Type 0} → FaultKinds M X → Type 0

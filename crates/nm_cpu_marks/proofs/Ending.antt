@@ -2,7 +2,7 @@
 use Rattle.std.proofs.Common.{◌≡◌, ℕ, zero, suc, ◌+◌, ◌==◌, Bool, true, false, List, [], ◌∷◌, ◌++◌, refl, sym, ap, subst, ◌∙◌, append_assoc}
 use Rattle.std.proofs.lemmas.List.{append-nil}
 use Rattle.nm_base.specs.Geometry.{Geometry}
-use Rattle.nm_action.specs.declared.action.AckTo.TheVariants.{Seen, Off, End}
+use Rattle.nm_action.specs.declared.action.AckTo.TheVariants.{End}
 use Rattle.nm_action.specs.declared.action.Action.{Action}
 use Rattle.nm_action.specs.declared.action.Action.TheVariants.{Ack, Mark}
 use Rattle.nm_action.specs.declared.action.Reply.{Reply}
@@ -22,7 +22,7 @@ use Rattle.nm_access.specs.declared.made.AccessMade.{AccessMade}
 use Rattle.nm_access.specs.declared.made.Touch.TheVariants as touches
 use Rattle.nm_access.specs.Turning.{Hears, Acts}
 use Rattle.nm_access.specs.Faults.{FaultKinds}
-use Rattle.nm_access.specs.Accesses.{Carried, Accessed, IsWholeAccess}
+use Rattle.nm_access.specs.Accesses.{Carried, IsWholeAccess}
 use Rattle.nm_shadow_fault.specs.declared.fault.FaultEnd.{FaultEnd}
 use Rattle.nm_cpu_fault.specs.ProcessorFaults.{processor_faults}
 use Rattle.nm_cpu.specs.Programs.{access_to, CpuEnd, AfterLine, Awaits, LineMade, LinesMade, fresh_kept, held_with, IsProgramMade}
@@ -32,7 +32,7 @@ use Rattle.nm_marks.proofs.Contents.{only-both, only-more}
 use Rattle.nm_part_marks.specs.Actions.{IsActionOf, IsNoAck}
 use Rattle.nm_part_marks.proofs.Faults.{fault-actions}
 use Rattle.nm_unmarked.specs.Unmarking.{EndsLast, IsProcessorUnmarking}
-use Rattle.nm_cpu_marks.specs.Processing.{IsEarlyAck, IsProcessing, EndsOnce}
+use Rattle.nm_cpu_marks.specs.Processing.{IsProcessing, EndsOnce}
 use Rattle.nm_cpu_marks.proofs.Turning.{TurnsOnly}
 use Rattle.nm_cpu_marks.proofs.Accessing.{FaultsOnly, catches-turns, whole-access}
 

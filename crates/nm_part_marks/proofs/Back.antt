@@ -1,15 +1,14 @@
 -- Transactions and locked moves that are over took their page from pending to none.
-use Rattle.std.proofs.Common.{◌≡◌, ℕ, ◌-◌, ◌==◌, List, [], ◌∷◌, ◌++◌, length, Some, None, refl, sym, subst}
+use Rattle.std.proofs.Common.{ℕ, ◌-◌, ◌==◌, List, ◌++◌, length, Some, None, refl, sym, subst}
 use Rattle.nm_base.specs.Geometry.{Geometry}
 use Rattle.nm_base.specs.PageWord.{is_dirty}
 use Rattle.nm_base.specs.ShadowWord.{shadow_frame}
-use Rattle.nm_action.specs.declared.action.Action.{Action}
 use Rattle.nm_action.specs.declared.action.Action.TheVariants.{Lock, Unlock, Mark, Read, SetShadow, SetHome, ClearDirty, Raise, Arm, Map}
 use Rattle.nm_action.specs.declared.action.Cell.TheVariants as cells
 use Rattle.nm_action.specs.declared.action.Reply.{Reply}
 use Rattle.nm_action.specs.declared.action.Reply.TheVariants.{Done, Word, Busy, Lost}
 use Rattle.nm_action.specs.Own.{Own}
-use Rattle.nm_part.specs.Patterns.{Ends, Follows, Either}
+use Rattle.nm_part.specs.Patterns.{Ends, Follows}
 use Rattle.nm_compose.specs.Acts.{IsAct}
 use Rattle.nm_shoot.specs.Shootdown.{IsShootdown}
 use Rattle.nm_pool.specs.Pool.{IsPool}
@@ -32,22 +31,20 @@ use Rattle.nm_commit.specs.declared.decide.Decided.TheVariants as decided
 use Rattle.nm_commit.specs.Unmapping.{UnmapsOne}
 use Rattle.nm_commit.specs.Deciding.{moved_word, UnlocksPage, Marks, Maps, Shades, ReadsShadowWord, Commits, GivesBack, UnlocksOld, Aborts, IsDeciding}
 use Rattle.nm_txn.specs.declared.end.TxnEnd.{TxnEnd}
-use Rattle.nm_txn.specs.declared.end.TxnEnd.TheVariants as txn
-use Rattle.nm_txn.specs.Transactions.{early_end, decided_end, Decides, FlushesAgain, Unmaps, Copies, FlushesFirst, AfterPrepare, IsTxn}
+use Rattle.nm_txn.specs.Transactions.{decided_end, Decides, FlushesAgain, Unmaps, Copies, FlushesFirst, AfterPrepare, IsTxn}
 use Rattle.nm_locked.specs.declared.choose.ChooseMade.{ChooseMade}
 use Rattle.nm_locked.specs.declared.choose.Early.{Early as MoveEarly}
 use Rattle.nm_locked.specs.declared.choose.Early.TheVariants as move_early
 use Rattle.nm_locked.specs.declared.choose.Chosen.{Chosen}
 use Rattle.nm_locked.specs.declared.choose.Chosen.TheVariants as chosen
 use Rattle.nm_locked.specs.declared.locked.LockedEnd.{LockedEnd}
-use Rattle.nm_locked.specs.declared.locked.LockedEnd.TheVariants as locked
 use Rattle.nm_locked.specs.Choosing.{UnlocksInMove, ClosesInMove, ArmsAll, PutsBackInMove, DiscardsInMove, ReadsShadowInMove, AfterTakeInMove, TakesInMove, AfterLooksInMove, LooksInMove, AfterHomeInMove, ReadsHomeInMove, AfterLockInMove, IsChoosing}
-use Rattle.nm_locked.specs.Moves.{UnlocksMoved, MarksInMove, locked_transfer, Moves, move_early_end, AfterChoosing, IsLockedInMove}
+use Rattle.nm_locked.specs.Moves.{UnlocksMoved, MarksInMove, locked_transfer, Moves, AfterChoosing, IsLockedInMove}
 use Rattle.nm_transfer.specs.Transferring.{IsTransfer}
 use Rattle.nm_marks.specs.Contents.{HasEvent, ListsHave}
 use Rattle.nm_marks.specs.Marks.{IsTakenBack}
 use Rattle.nm_marks.proofs.Contents.{has-left, has-right}
-use Rattle.nm_marks.proofs.Patterns.{has-after, has-first, has-now, has-none, has-either}
+use Rattle.nm_marks.proofs.Patterns.{has-after, has-now, has-none, has-either}
 use Rattle.nm_part_marks.specs.Ends.{IsClosed, IsCommitted, IsTxnOver, IsChoiceClosed, IsMoveOver}
 
 -- ---- the steps of a transaction up to its first flush

@@ -4,8 +4,6 @@ use Rattle.std.proofs.lemmas.List.{append-nil}
 use Rattle.nm_base.specs.Geometry.{Geometry}
 use Rattle.nm_action.specs.Own.{Own}
 use Rattle.nm_part.specs.Patterns.{Ends, Follows, Each}
-use Rattle.nm_shoot.specs.Shootdown.{IsShootdown}
-use Rattle.nm_copying.specs.Copying.{IsCopying}
 use Rattle.nm_prepare.specs.declared.prepare.Prepared.{Prepared}
 use Rattle.nm_prepare.specs.declared.prepare.Prepared.TheVariants as prepared
 use Rattle.nm_prepare.specs.Preparing.{IsPrepare}
@@ -15,11 +13,11 @@ use Rattle.nm_commit.specs.Unmapping.{UnmapsOne}
 use Rattle.nm_commit.specs.Deciding.{IsDeciding}
 use Rattle.nm_txn.specs.declared.batch.ReadyPiece.{ReadyPiece}
 use Rattle.nm_txn.specs.declared.end.TxnEnd.{TxnEnd}
-use Rattle.nm_txn.specs.Batches.{BatchMade, drawn_with, ready_of, taken_of, ends_of, CopiesNext, CopiesEach, UnmapsEach, FlushesAgain, DecidesEach, AfterPrepares, IsBatch}
+use Rattle.nm_txn.specs.Batches.{BatchMade, drawn_with, ready_of, taken_of, ends_of, CopiesNext, UnmapsEach, FlushesAgain, DecidesEach, AfterPrepares, IsBatch}
 use Rattle.nm_marks.specs.Contents.{HasEvent}
 use Rattle.nm_marks.specs.Marks.{IsTakenBack}
 use Rattle.nm_marks.proofs.Contents.{has-left, has-right}
-use Rattle.nm_part_marks.specs.Ends.{IsClosed, IsCommitted, IsTxnOver, ArePiecesBack}
+use Rattle.nm_part_marks.specs.Ends.{IsClosed, IsCommitted, ArePiecesBack}
 use Rattle.nm_part_marks.proofs.Back.{prepare-back, deciding-back, over-committed}
 
 -- ---- lists of which each item gives one outcome

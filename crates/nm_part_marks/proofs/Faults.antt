@@ -1,5 +1,5 @@
 -- Faults, which make no Mark.
-use Rattle.std.proofs.Common.{◌≡◌, ℕ, zero, suc, ◌-◌, ◌==◌, not, Bool, false, length, Option, Some, None}
+use Rattle.std.proofs.Common.{ℕ, zero, suc, ◌-◌, ◌==◌, not, Bool, false, length, Option, Some, None}
 use Rattle.std.specs.List.{range_with_len}
 use Rattle.nm_base.specs.Geometry.{Geometry}
 use Rattle.nm_base.specs.ShadowWord.{shadow_frame}
@@ -7,7 +7,7 @@ use Rattle.nm_action.specs.declared.action.AckTo.{AckTo}
 use Rattle.nm_action.specs.declared.action.Action.TheVariants.{Unlock, Look, Read, Map, Grant, SetHome, SetShadow}
 use Rattle.nm_action.specs.declared.action.Cell.TheVariants as cells
 use Rattle.nm_action.specs.Own.{Own}
-use Rattle.nm_part.specs.Patterns.{Ends, Follows, Either}
+use Rattle.nm_part.specs.Patterns.{Ends, Follows}
 use Rattle.nm_compose.specs.Acts.{IsAct}
 use Rattle.nm_compose.specs.declared.or.Or.TheVariants.{This, Other}
 use Rattle.nm_pool.specs.Pool.{IsPool}

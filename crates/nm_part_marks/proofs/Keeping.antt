@@ -1,5 +1,5 @@
 -- Parts of the reclaimer, which make no Mark.
-use Rattle.std.proofs.Common.{◌≡◌, ℕ, ◌+◌, ◌-◌, ◌==◌, nat_lt, List, [], ◌∷◌, None}
+use Rattle.std.proofs.Common.{ℕ, ◌+◌, ◌-◌, ◌==◌, nat_lt, List, [], ◌∷◌, None}
 use Rattle.nm_base.specs.Geometry.{Geometry}
 use Rattle.nm_base.specs.ShadowWord.{shadow_frame}
 use Rattle.nm_action.specs.declared.action.AckTo.{AckTo}
@@ -29,8 +29,7 @@ use Rattle.nm_reclaim.specs.Reclaims.{pages_visited, most_freed, word_in, is_sha
 use Rattle.nm_obtain.specs.declared.obtain.ObtainMade.{ObtainMade}
 use Rattle.nm_obtain.specs.declared.obtain.Obtained.{Obtained}
 use Rattle.nm_obtain.specs.declared.obtain.Obtained.TheVariants.{Got, AtFloor}
-use Rattle.nm_obtain.specs.Obtains.{AfterSecondTry, TriesAgain, reclaim_for, ReclaimsTier, AfterFirstTry, IsObtain}
-use Rattle.nm_transfer.specs.declared.transfer.Source.{Source}
+use Rattle.nm_obtain.specs.Obtains.{AfterSecondTry, TriesAgain, reclaim_for, AfterFirstTry, IsObtain}
 use Rattle.nm_transfer.specs.declared.transfer.Source.TheVariants as sources
 use Rattle.nm_transfer.specs.Transferring.{IsTransfer}
 use Rattle.nm_demote.specs.declared.select.DemoteMade.{DemoteMade}
@@ -39,8 +38,8 @@ use Rattle.nm_demote.specs.declared.select.Early.TheVariants as early
 use Rattle.nm_demote.specs.declared.select.Selected.{Selected}
 use Rattle.nm_demote.specs.declared.select.Selected.TheVariants as selected
 use Rattle.nm_demote.specs.declared.demote.DemoteEnd.TheVariants as demoted
-use Rattle.nm_demote.specs.Selecting.{UnlocksEarly, AfterObtain, obtain_for, SeeksFrame, SelectsHome, AfterLooksToDemote, LooksToDemote, ReadsShadowToDemote, has_slower, AfterHomeToDemote, ReadsHomeToDemote, AfterLockToDemote, IsSelecting}
-use Rattle.nm_demote.specs.Demotions.{demoted_end, GivesBackDemoted, UnlocksDemoted, demote_transfer, MovesDown, demote_early_end, AfterSelecting, IsDemotion}
+use Rattle.nm_demote.specs.Selecting.{UnlocksEarly, AfterObtain, obtain_for, SeeksFrame, AfterLooksToDemote, LooksToDemote, ReadsShadowToDemote, has_slower, AfterHomeToDemote, ReadsHomeToDemote, AfterLockToDemote, IsSelecting}
+use Rattle.nm_demote.specs.Demotions.{demoted_end, GivesBackDemoted, UnlocksDemoted, demote_transfer, demote_early_end, AfterSelecting, IsDemotion}
 use Rattle.nm_marks.specs.Contents.{ListsOnly}
 use Rattle.nm_marks.proofs.Patterns.{only-ends, only-follows, only-then, only-either, only-each}
 use Rattle.nm_part_marks.specs.Actions.{IsActionOf}

@@ -1,13 +1,12 @@
 -- Parts that make no Mark at all.
-use Rattle.std.proofs.Common.{◌≡◌, ℕ, ◌+◌, ◌-◌, List, [], ◌∷◌, ◌++◌, Some, None, sym, subst}
+use Rattle.std.proofs.Common.{ℕ, ◌+◌, ◌-◌, List, [], ◌∷◌, ◌++◌, Some, None, sym, subst}
 use Rattle.std.specs.List.{range_with_len}
 use Rattle.nm_base.specs.Geometry.{Geometry}
 use Rattle.nm_action.specs.declared.action.AckTo.{AckTo}
-use Rattle.nm_action.specs.declared.action.Action.{Action}
-use Rattle.nm_action.specs.declared.action.Action.TheVariants.{Bump, SeeAck, TakeTurn, Scan, GiveFrame, PutFrame, ReleaseTurn, CopyLoad, CopyStore, Unmap, Raise, Look, Soften, Map, SetHome, SetShadow, Lock}
+use Rattle.nm_action.specs.declared.action.Action.TheVariants.{TakeTurn, GiveFrame, ReleaseTurn, CopyLoad, CopyStore, Unmap, Raise, Map, SetHome, SetShadow, Lock}
 use Rattle.nm_action.specs.declared.action.Reply.TheVariants.{Done, Word}
 use Rattle.nm_action.specs.Own.{Own}
-use Rattle.nm_part.specs.Patterns.{Ends, Follows, Each}
+use Rattle.nm_part.specs.Patterns.{Ends, Follows}
 use Rattle.nm_compose.specs.Acts.{IsAct}
 use Rattle.nm_shoot.specs.Shootdown.{asked, asked_from, IsShootdown}
 use Rattle.nm_pool.specs.Pool.{tier_for, refused, scanned, IsWork, IsPool}
@@ -35,7 +34,7 @@ use Rattle.nm_transfer.specs.Words.{mapped_word}
 use Rattle.nm_transfer.specs.Transferring.{MapAt, MapsOf, HomesPage, FillsFrom, Fills, Flushes, Raises, UnmapAt, taken_after, IsTransfer}
 use Rattle.nm_marks.specs.Contents.{HasOnly, ListsOnly}
 use Rattle.nm_marks.proofs.Contents.{only-both}
-use Rattle.nm_marks.proofs.Patterns.{only-act, only-ends, only-follows, only-then, only-either, only-each}
+use Rattle.nm_marks.proofs.Patterns.{only-ends, only-follows, only-then, only-each}
 use Rattle.nm_part_marks.specs.Actions.{IsActionOf}
 
 -- ---- shootdowns

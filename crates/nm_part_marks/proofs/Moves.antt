@@ -1,5 +1,5 @@
 -- Parts of the migrator: their only Marks take a page from pending to none, or a candidate to none.
-use Rattle.std.proofs.Common.{◌≡◌, ℕ, ◌+◌, ◌-◌, ◌==◌, List, [], ◌∷◌, ◌++◌, length, Some, None}
+use Rattle.std.proofs.Common.{ℕ, ◌-◌, ◌==◌, List, [], ◌∷◌, ◌++◌, length, Some, None}
 use Rattle.nm_base.specs.Geometry.{Geometry}
 use Rattle.nm_base.specs.ShadowWord.{shadow_frame}
 use Rattle.nm_base.specs.PageWord.{is_dirty}
@@ -8,8 +8,7 @@ use Rattle.nm_action.specs.declared.action.Action.TheVariants.{Lock, Unlock, Mar
 use Rattle.nm_action.specs.declared.action.Cell.TheVariants as cells
 use Rattle.nm_action.specs.declared.action.Reply.{Reply}
 use Rattle.nm_action.specs.declared.action.Reply.TheVariants.{Done, Word, Busy, Lost}
-use Rattle.nm_action.specs.Own.{Own}
-use Rattle.nm_part.specs.Patterns.{Ends, Follows, Either}
+use Rattle.nm_part.specs.Patterns.{Ends, Follows}
 use Rattle.nm_compose.specs.Acts.{IsAct}
 use Rattle.nm_shoot.specs.Shootdown.{IsShootdown}
 use Rattle.nm_pool.specs.Pool.{IsPool}
@@ -43,10 +42,10 @@ use Rattle.nm_locked.specs.declared.choose.Chosen.{Chosen}
 use Rattle.nm_locked.specs.declared.choose.Chosen.TheVariants as chosen
 use Rattle.nm_locked.specs.declared.locked.LockedEnd.TheVariants as locked
 use Rattle.nm_locked.specs.Choosing.{UnlocksInMove, ClosesInMove, ArmsAll, PutsBackInMove, DiscardsInMove, ReadsShadowInMove, AfterTakeInMove, TakesInMove, AfterLooksInMove, LooksInMove, AfterHomeInMove, ReadsHomeInMove, AfterLockInMove, IsChoosing}
-use Rattle.nm_locked.specs.Moves.{GivesBackInMove, UnlocksMoved, MarksInMove, locked_transfer, Moves, move_early_end, AfterChoosing, IsLockedInMove}
+use Rattle.nm_locked.specs.Moves.{GivesBackInMove, UnlocksMoved, MarksInMove, locked_transfer, move_early_end, AfterChoosing, IsLockedInMove}
 use Rattle.nm_transfer.specs.Transferring.{IsTransfer}
 use Rattle.nm_cool.specs.declared.cool.Cooled.TheVariants as cooled
-use Rattle.nm_cool.specs.Cooling.{CoolData, UnlocksCold, MarksCold, ArmsCold, LooksCold, AfterColdLock, IsCooling}
+use Rattle.nm_cool.specs.Cooling.{CoolData, UnlocksCold, MarksCold, ArmsCold, AfterColdLock, IsCooling}
 use Rattle.nm_marks.specs.Contents.{ListsOnly}
 use Rattle.nm_marks.proofs.Patterns.{only-ends, only-follows, only-then, only-either, only-each}
 use Rattle.nm_part_marks.specs.Actions.{IsActionOf}

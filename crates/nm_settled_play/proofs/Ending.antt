@@ -1,5 +1,5 @@
 -- A run of a schedule ends where every actor has ended, and then it is settled, or where all turns were made.
-use Rattle.std.proofs.Common.{◌≡◌, ℕ, zero, suc, ◌+◌, ◌<◌, Bool, true, false, not, cond, List, [], ◌∷◌, length, get_or, map, Option, Some, refl, sym, ap, subst, inl, inr, ◌∙◌, arith}
+use Rattle.std.proofs.Common.{◌≡◌, ℕ, zero, suc, ◌+◌, ◌<◌, Bool, true, false, not, cond, List, [], ◌∷◌, length, get_or, Option, Some, refl, sym, ap, subst, inl, inr, ◌∙◌, arith}
 use Rattle.std.specs.List.{filter, range_with_len}
 use Rattle.std.proofs.lemmas.Bool.{true≢false}
 use Rattle.std.proofs.lemmas.List.{length-map}
@@ -18,9 +18,9 @@ use Rattle.nm_actor.specs.Turns.{Turns}
 use Rattle.nm_script.specs.declared.schedule.Schedule.{Schedule}
 use Rattle.nm_schedule.specs.declared.turn.Played.{Played}
 use Rattle.nm_schedule.specs.declared.turn.SimTurn.{SimTurn}
-use Rattle.nm_schedule.specs.Played.{turns_by, has_ended, active_actors, events_of, order_of, sim_turn}
+use Rattle.nm_schedule.specs.Played.{turns_by, has_ended, active_actors, events_of, sim_turn}
 use Rattle.nm_schedule.specs.Picks.{most_turns}
-use Rattle.nm_play.specs.Played.{is_end, HasGiven, HasPlayed, IsRunOf}
+use Rattle.nm_play.specs.Played.{is_end, HasPlayed, IsRunOf}
 use Rattle.nm_play.proofs.Own.{view-of-turns}
 use Rattle.nm_runs.proofs.EachRun.{lawful_run}
 use Rattle.nm_settled.specs.Ended.{IsEndedView, HaveEndedViews, HasNoMark}

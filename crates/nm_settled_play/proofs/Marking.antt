@@ -1,5 +1,5 @@
 -- That turns leave no mark, from what each actor's part of them shows.
-use Rattle.std.proofs.Common.{ℕ, ◌+◌, List, sym, subst}
+use Rattle.std.proofs.Common.{◌+◌, List, sym, subst}
 use Rattle.nm_base.specs.Geometry.{Geometry, IsGeometry}
 use Rattle.nm_action.specs.Own.{Own}
 use Rattle.nm_core.specs.Runs.{IsRun, state_after}

@@ -1,4 +1,4 @@
-use Rattle.std.proofs.Common.{refl, inl, inr}
+use Rattle.std.proofs.Common.{refl, inr}
 use Rattle.nm_marks.specs.Marks.{IsNoMark, IsPendingMark, IsCandidateMark}
 use Rattle.nm_part_marks.specs.Actions.{IsNoAck}
 use Rattle.nm_part_marks.proofs.Made.{marks-of}
