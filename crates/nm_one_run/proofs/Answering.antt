@@ -1,5 +1,5 @@
 -- A turn hears one answer.
-use Rattle.std.proofs.Common.{◌≡◌, ℕ, ◌<◌, ◌⊎◌, inl, inr, List, [], ◌∷◌, length, Option, Some, None, refl, sym, ap, subst, ◌∙◌, arith}
+use Rattle.std.proofs.Common.{◌≡◌, ℕ, ◌<◌, ◌⊎◌, inl, inr, List, [], ◌∷◌, length, refl, sym, ap, subst, ◌∙◌, arith}
 use Rattle.std.specs.List.{cons_option}
 use Rattle.nm_base.specs.Geometry.{Geometry}
 use Rattle.nm_action.specs.declared.action.Action.{Action}
@@ -14,7 +14,7 @@ use Rattle.nm_core.specs.State.{State, reply_to}
 use Rattle.nm_core.specs.Runs.{IsRunFrom}
 use Rattle.nm_schedule.specs.declared.turn.Played.{Played}
 use Rattle.nm_schedule.specs.Played.{event_by}
-use Rattle.nm_schedule.specs.Lanes.{IsFirst, IsLaneAnswer, lane_capacity, pages_in}
+use Rattle.nm_schedule.specs.Lanes.{IsLaneAnswer, lane_capacity, pages_in}
 
 -- an action heard the reply of the machine
 abbrev pub IsReplied : State → ℕ → Turn → Heard → Type 0

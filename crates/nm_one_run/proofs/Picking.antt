@@ -1,12 +1,12 @@
 -- A schedule picks one actor.
-use Rattle.std.proofs.Common.{◌≡◌, ℕ, ◌+◌, ◌<◌, ◌≤◌, ◌⊎◌, inl, inr, List, [], ◌∷◌, ◌++◌, length, take, refl, sym, ap, subst, ◌∙◌, arith}
+use Rattle.std.proofs.Common.{◌≡◌, ℕ, ◌+◌, ◌<◌, ◌≤◌, ◌⊎◌, inl, inr, List, [], ◌∷◌, ◌++◌, length, sym, ap, subst, ◌∙◌, arith}
 use Rattle.std.proofs.lemmas.Bool.{cases_order}
 use Rattle.std.proofs.lemmas.Bool.Decides.{eqb_tells}
 use Rattle.nm_script.specs.declared.schedule.PlanItem.{PlanItem}
 use Rattle.nm_script.specs.declared.schedule.Schedule.{Schedule}
 use Rattle.nm_script.specs.declared.schedule.Schedule.TheVariants.{Serial, Shuffle, Plan}
 use Rattle.nm_schedule.specs.declared.turn.Played.{Played}
-use Rattle.nm_schedule.specs.Picks.{EndsAfter, IsCooperative, IsItemOver, IsOpenBelow, IsPlanned, Picks}
+use Rattle.nm_schedule.specs.Picks.{EndsAfter, IsCooperative, IsOpenBelow, IsPlanned, Picks}
 use Rattle.nm_schedule.specs.Stalls.{Yields}
 use Rattle.nm_schedule.proofs.Snoc.{HasLast, last-or-none, length-snoc}
 

@@ -1,8 +1,7 @@
 //! One run of a schedule.
 
-ghost use Rattle.std.specs.Prelude.{◌≡◌, ℕ, ◌≤◌, Bool, List, length};
+ghost use Rattle.std.specs.Prelude.{◌≡◌, ℕ, List};
 ghost use Rattle.nm_base.specs.Geometry.{Geometry};
-ghost use Rattle.nm_actor.specs.Turns.{Turns};
 ghost use Rattle.nm_script.specs.declared.schedule.Schedule.{Schedule};
 ghost use Rattle.nm_schedule.specs.declared.turn.Played.{Played};
 ghost use Rattle.nm_schedule.specs.Picks.{Picks};
@@ -14,9 +13,18 @@ pub fn a_schedule_picks_one_actor()
         → a ≡ b }
 {}
 
+/// What is said of the actors of a machine.
+pub trait ActorParts {
+    ghost use Rattle.std.specs.Prelude.{ℕ, Bool};
+    ghost use Rattle.nm_actor.specs.Turns.{Turns};
+
+    // Of the actor of a number: its answered turns, and whether it has ended.
+    ghost part: { ℕ → Turns → Bool → Type 0 };
+}
+
 /// Two lists of turns of one schedule on one machine are the same list, where what is said of the actors leaves them no choice: their
 /// turns are in the same order, are the same turns, and heard the same.
-pub fn a_schedule_has_one_run()
-    ensures { (g : Geometry) (schedule : Schedule) (part : ℕ → Turns → Bool → Type 0) (p q : List Played) → LeaveNoChoice part
-        → IsRunBy g schedule part p → IsRunBy g schedule part q → p ≡ q }
+pub fn a_schedule_has_one_run<P: ActorParts>()
+    ensures { (g : Geometry) (schedule : Schedule) (p q : List Played) → LeaveNoChoice P.part
+        → IsRunBy g schedule P.part p → IsRunBy g schedule P.part q → p ≡ q }
 {}

@@ -3,4 +3,4 @@ use Rattle.nm_one_run.proofs.OneRun.{one_run}
 use Rattle.nm_one_run.proofs.single.a_schedule_has_one_run.Goals as goal
 
 pub returns : goal.returns
-returns c = one_run
+returns g c = λ k schedule p q. one_run k schedule g.P.ActorParts.part p q
