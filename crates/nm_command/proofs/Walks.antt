@@ -4,6 +4,7 @@ use Rattle.std.specs.List.{AllByRecursion}
 use Rattle.std.specs.Str.{bytes_eq}
 use Rattle.std.specs.Prelude.{All, String, string_bytes, option_map}
 use Rattle.std.specs.declared.alloc.Global.{Global}
+use Rattle.std.proofs.lemmas.Bool.Decides.{eqb_tells}
 use Rattle.std.proofs.lemmas.List.{append-nil}
 use Rattle.std.proofs.lemmas.List.Elements.{All-from_recursion, recursion_from_All}
 use Rattle.std.proofs.lemmas.Slice.Eq.{bytes_eq-Decides}
@@ -25,7 +26,7 @@ use Rattle.clap.specs.declared.builder.command.Command.{Command}
 use Rattle.clap.specs.declared.builder.command.Command.TheViews.{out-Command}
 use Rattle.clap.specs.declared.parser.matches.ArgMatches.{ArgMatches}
 use Rattle.nm_command.specs.declared.line.Fields.{Fields}
-use Rattle.nm_command.specs.declared.line.Fields.TheVariants.{Sim, Gen, Import}
+use Rattle.nm_command.specs.declared.line.Fields.TheVariants.{Sim, Gen, Drill, Import}
 use Rattle.nm_command.specs.Line.{Splits, SaysFields, HasValues, bare, is_refused, nomad}
 
 -- a word that is no option
@@ -115,23 +116,28 @@ sim_walk rest = stopped_walk line.top.rules names (walk_from nothing_held) (code
 -- the subcommands with two fields
 pub data Pair : Type 0 where
   OfGen : Pair
+  OfDrill : Pair
   OfImport : Pair
 
 abbrev pub name_of : Pair → Text
 name_of OfGen = codes "gen"
+name_of OfDrill = codes "drill"
 name_of OfImport = codes "import"
 
 abbrev pub first_id : Pair → Text
 first_id OfGen = codes "N"
+first_id OfDrill = codes "N"
 first_id OfImport = codes "F"
 
 abbrev pub second_id : Pair → Text
 second_id OfGen = codes "SIZE"
+second_id OfDrill = codes "SIZE"
 second_id OfImport = codes "S"
 
 abbrev shape_of : Pair → Shape
 shape_of OfGen = sub_at 1
-shape_of OfImport = sub_at 2
+shape_of OfDrill = sub_at 2
+shape_of OfImport = sub_at 3
 
 abbrev rules_of : Pair → List Rule
 rules_of p = (shape_of p).rules
@@ -139,6 +145,7 @@ rules_of p = (shape_of p).rules
 pair_walk : (p : Pair) (rest : List Text) → walk line.top.rules names nothing_held (name_of p ∷ rest) ≡ stopped (name_of p) rest
 unfolding clap_on_literals
 pair_walk OfGen rest = stopped_walk line.top.rules names (walk_from nothing_held) (codes "gen") [] rest
+pair_walk OfDrill rest = stopped_walk line.top.rules names (walk_from nothing_held) (codes "drill") [] rest
 pair_walk OfImport rest = stopped_walk line.top.rules names (walk_from nothing_held) (codes "import") [] rest
 
 sim_met : (rest : List Text) → walk_fault line.top names (walk_from nothing_held) (codes "sim" ∷ rest) ≡ []
@@ -148,6 +155,7 @@ sim_met rest = stopped_fault line.top names (walk_from nothing_held) (codes "sim
 pair_met : (p : Pair) (rest : List Text) → walk_fault line.top names (walk_from nothing_held) (name_of p ∷ rest) ≡ []
 unfolding clap_on_literals
 pair_met OfGen rest = stopped_fault line.top names (walk_from nothing_held) (codes "gen", []) rest
+pair_met OfDrill rest = stopped_fault line.top names (walk_from nothing_held) (codes "drill", []) rest
 pair_met OfImport rest = stopped_fault line.top names (walk_from nothing_held) (codes "import", []) rest
 
 sim_fault : (rest : List Text) → fault_of nomad (codes "sim" ∷ rest) ≡ or_else (level_fault (sub_at 0) [] nothing_held rest false []) []
@@ -157,11 +165,13 @@ sim_fault rest = fault_as (codes "sim" ∷ rest) [] (stopped (codes "sim") rest)
 pair_fault : (p : Pair) (rest : List Text) → fault_of nomad (name_of p ∷ rest) ≡ or_else (level_fault (shape_of p) [] nothing_held rest false []) []
 unfolding clap_on_literals
 pair_fault OfGen rest = fault_as (codes "gen" ∷ rest) [] (stopped (codes "gen") rest) (pair_met OfGen rest) (pair_walk OfGen rest)
+pair_fault OfDrill rest = fault_as (codes "drill" ∷ rest) [] (stopped (codes "drill") rest) (pair_met OfDrill rest) (pair_walk OfDrill rest)
 pair_fault OfImport rest = fault_as (codes "import" ∷ rest) [] (stopped (codes "import") rest) (pair_met OfImport rest) (pair_walk OfImport rest)
 
 -- a word that is none of them is refused
-none_met : (w : Text) → bytes_eq (codes "sim") w ≡ false → bytes_eq (codes "gen") w ≡ false → bytes_eq (codes "import") w ≡ false → subcommand_met names idle w ≡ None
-none_met w e f g = rw (e, f, g) refl
+none_met : (w : Text) → bytes_eq (codes "sim") w ≡ false → bytes_eq (codes "gen") w ≡ false → bytes_eq (codes "drill") w ≡ false → bytes_eq (codes "import") w ≡ false
+    → subcommand_met names idle w ≡ None
+none_met w e f g h = rw (e, f, g, h) refl
 
 stray_first : (w : Text) (rest : List Text) → IsField w → subcommand_met names idle w ≡ None → HasFault (fault_of nomad (w ∷ rest))
 stray_first w rest f none =
@@ -183,6 +193,7 @@ sim_stray e = cc e
 
 pair_stray : (p : Pair) (h : Held) → HasFault (step_fault (shape_of p) 3 h value)
 pair_stray OfGen h e = cc e
+pair_stray OfDrill h e = cc e
 pair_stray OfImport h e = cc e
 
 -- sim has no fields
@@ -201,35 +212,42 @@ held_two p a b = (to_positional (rules_of p) (arg_by_index (rules_of p) 2) b (be
 
 one_walk : (p : Pair) (a : Text) → IsField a → walk (rules_of p) [] nothing_held (a ∷ []) ≡ between (held_one p a) 2
 one_walk OfGen a f = value_walked (rules_of OfGen) [] nothing_held 1 a f refl
+one_walk OfDrill a f = value_walked (rules_of OfDrill) [] nothing_held 1 a f refl
 one_walk OfImport a f = value_walked (rules_of OfImport) [] nothing_held 1 a f refl
 
 two_walk : (p : Pair) (a b : Text) → IsField a → IsField b → walk (rules_of p) [] nothing_held (a ∷ b ∷ []) ≡ between (held_two p a b) 3
 two_walk OfGen a b f g = ap (λ v. walked (rules_of OfGen) [] v b) (one_walk OfGen a f) ∙ value_walked (rules_of OfGen) [] (held_one OfGen a) 2 b g refl
+two_walk OfDrill a b f g = ap (λ v. walked (rules_of OfDrill) [] v b) (one_walk OfDrill a f) ∙ value_walked (rules_of OfDrill) [] (held_one OfDrill a) 2 b g refl
 two_walk OfImport a b f g = ap (λ v. walked (rules_of OfImport) [] v b) (one_walk OfImport a f) ∙ value_walked (rules_of OfImport) [] (held_one OfImport a) 2 b g refl
 
 one_met : (p : Pair) (a : Text) (rest : List Text) → IsField a → walk_fault (shape_of p) [] (walk_from nothing_held) (a ∷ rest) ≡ walk_fault (shape_of p) [] (between (held_one p a) 2) rest
 one_met OfGen a rest f = field_fault (sub_at 1) nothing_held 1 a rest f
-one_met OfImport a rest f = field_fault (sub_at 2) nothing_held 1 a rest f
+one_met OfDrill a rest f = field_fault (sub_at 2) nothing_held 1 a rest f
+one_met OfImport a rest f = field_fault (sub_at 3) nothing_held 1 a rest f
 
 two_met : (p : Pair) (a b : Text) (rest : List Text) → IsField a → IsField b → walk_fault (shape_of p) [] (walk_from nothing_held) (a ∷ b ∷ rest) ≡ walk_fault (shape_of p) [] (between (held_two p a b) 3) rest
 unfolding clap_on_literals
 two_met OfGen a b rest f g = one_met OfGen a (b ∷ rest) f ∙ field_fault (sub_at 1) (held_one OfGen a) 2 b rest g
-two_met OfImport a b rest f g = one_met OfImport a (b ∷ rest) f ∙ field_fault (sub_at 2) (held_one OfImport a) 2 b rest g
+two_met OfDrill a b rest f g = one_met OfDrill a (b ∷ rest) f ∙ field_fault (sub_at 2) (held_one OfDrill a) 2 b rest g
+two_met OfImport a b rest f g = one_met OfImport a (b ∷ rest) f ∙ field_fault (sub_at 3) (held_one OfImport a) 2 b rest g
 
 no_field : (p : Pair) → HasFault (level_fault (shape_of p) [] nothing_held [] false [])
 unfolding clap_on_literals
 no_field OfGen e = cc e
+no_field OfDrill e = cc e
 no_field OfImport e = cc e
 
 one_field : (p : Pair) (a : Text) → IsField a → HasFault (level_fault (shape_of p) [] nothing_held (a ∷ []) false [])
 unfolding clap_on_literals
 one_field OfGen a f = subst HasFault (sym (leaf_as (sub_at 1) (a ∷ []) [] (between (held_one OfGen a) 2) (one_met OfGen a [] f) (one_walk OfGen a f))) (λ e. cc e)
-one_field OfImport a f = subst HasFault (sym (leaf_as (sub_at 2) (a ∷ []) [] (between (held_one OfImport a) 2) (one_met OfImport a [] f) (one_walk OfImport a f))) (λ e. cc e)
+one_field OfDrill a f = subst HasFault (sym (leaf_as (sub_at 2) (a ∷ []) [] (between (held_one OfDrill a) 2) (one_met OfDrill a [] f) (one_walk OfDrill a f))) (λ e. cc e)
+one_field OfImport a f = subst HasFault (sym (leaf_as (sub_at 3) (a ∷ []) [] (between (held_one OfImport a) 2) (one_met OfImport a [] f) (one_walk OfImport a f))) (λ e. cc e)
 
 two_fields : (p : Pair) (a b : Text) → IsField a → IsField b → level_fault (shape_of p) [] nothing_held (a ∷ b ∷ []) false [] ≡ []
 unfolding clap_on_literals
 two_fields OfGen a b f g = leaf_as (sub_at 1) (a ∷ b ∷ []) [] (between (held_two OfGen a b) 3) (two_met OfGen a b [] f g) (two_walk OfGen a b f g)
-two_fields OfImport a b f g = leaf_as (sub_at 2) (a ∷ b ∷ []) [] (between (held_two OfImport a b) 3) (two_met OfImport a b [] f g) (two_walk OfImport a b f g)
+two_fields OfDrill a b f g = leaf_as (sub_at 2) (a ∷ b ∷ []) [] (between (held_two OfDrill a b) 3) (two_met OfDrill a b [] f g) (two_walk OfDrill a b f g)
+two_fields OfImport a b f g = leaf_as (sub_at 3) (a ∷ b ∷ []) [] (between (held_two OfImport a b) 3) (two_met OfImport a b [] f g) (two_walk OfImport a b f g)
 
 more_fields : (p : Pair) (a b c : Text) (rest : List Text) → IsField a → IsField b → IsField c → HasFault (level_fault (shape_of p) [] nothing_held (a ∷ b ∷ c ∷ rest) false [])
 more_fields p a b c rest f g h =
@@ -250,16 +268,19 @@ sim_entered = refl
 pair_entered : (p : Pair) (rest : List Text) → subcommand_of nomad (name_of p ∷ rest) ≡ Some (name_of p, rows_after (rules_of p) [] rest)
 unfolding clap_on_literals
 pair_entered OfGen rest = ap (λ (w : Walk). entered line w.stopped) (pair_walk OfGen rest)
+pair_entered OfDrill rest = ap (λ (w : Walk). entered line w.stopped) (pair_walk OfDrill rest)
 pair_entered OfImport rest = ap (λ (w : Walk). entered line w.stopped) (pair_walk OfImport rest)
 
 first_row : (p : Pair) (a b : Text) → first_of (first_id p) (finished (rules_of p) (held_two p a b)) ≡ Some a
 unfolding clap_on_literals
 first_row OfGen a b = refl
+first_row OfDrill a b = refl
 first_row OfImport a b = refl
 
 second_row : (p : Pair) (a b : Text) → first_of (second_id p) (finished (rules_of p) (held_two p a b)) ≡ Some b
 unfolding clap_on_literals
 second_row OfGen a b = refl
+second_row OfDrill a b = refl
 second_row OfImport a b = refl
 
 -- ---- both ways
@@ -331,19 +352,20 @@ pair_named p w rest q h e =
     let is : name_of p ≡ w = (bytes_eq-Decides (name_of p) w).0 q in
     subst (λ (v : Text). IsTaken (v ∷ rest)) is (pair_only p rest h.1 (subst (λ (v : Text). fault_of nomad (v ∷ rest) ≡ []) (sym is) e))
 
-first_only : (w : Text) (rest : List Text) (s g i : Bool) → bytes_eq (codes "sim") w ≡ s → bytes_eq (codes "gen") w ≡ g → bytes_eq (codes "import") w ≡ i
-    → AreFields (w ∷ rest) → fault_of nomad (w ∷ rest) ≡ [] → IsTaken (w ∷ rest)
-first_only w rest true g i q r t h e =
+first_only : (w : Text) (rest : List Text) (s g d i : Bool) → bytes_eq (codes "sim") w ≡ s → bytes_eq (codes "gen") w ≡ g → bytes_eq (codes "drill") w ≡ d
+    → bytes_eq (codes "import") w ≡ i → AreFields (w ∷ rest) → fault_of nomad (w ∷ rest) ≡ [] → IsTaken (w ∷ rest)
+first_only w rest true g d i q r t u h e =
     let is : codes "sim" ≡ w = (bytes_eq-Decides (codes "sim") w).0 q in
     subst (λ (v : Text). IsTaken (v ∷ rest)) is (sim_only rest h.1 (subst (λ (v : Text). fault_of nomad (v ∷ rest) ≡ []) (sym is) e))
-first_only w rest false true i q r t h e = pair_named OfGen w rest r h e
-first_only w rest false false true q r t h e = pair_named OfImport w rest t h e
-first_only w rest false false false q r t h e = absurd (stray_first w rest (is_field w h.0) (none_met w q r t) e)
+first_only w rest false true d i q r t u h e = pair_named OfGen w rest r h e
+first_only w rest false false true i q r t u h e = pair_named OfDrill w rest t h e
+first_only w rest false false false true q r t u h e = pair_named OfImport w rest u h e
+first_only w rest false false false false q r t u h e = absurd (stray_first w rest (is_field w h.0) (none_met w q r t u) e)
 
 -- words that are taken are a command with its fields
 pub only_taken : (words : List Text) → (words ≡ [] → ⊥) → AreFields words → fault_of nomad words ≡ [] → IsTaken words
 only_taken [] some h e = absurd (some refl)
-only_taken (w ∷ rest) some h e = first_only w rest _ _ _ refl refl refl h e
+only_taken (w ∷ rest) some h e = first_only w rest _ _ _ _ refl refl refl refl h e
 
 -- ---- for the calls of clap
 
@@ -384,8 +406,13 @@ abbrev first_letter : Option (Text × List Row) → ℕ
 first_letter None = 0
 first_letter (Some p) = letter p.0
 
-same_letter : (met : Option (Text × List Row)) (a b : Text) (x y : List Row) → met ≡ Some (a, x) → met ≡ Some (b, y) → letter a ≡ letter b
-same_letter met a b x y e f = sym (ap first_letter e) ∙ ap first_letter f
+apart : (met : Option (Text × List Row)) (a b : Text) (x y : List Row) → met ≡ Some (a, x) → met ≡ Some (b, y) → (letter a == letter b) ≡ false → ⊥
+apart met a b x y e f other =
+    let same : letter a ≡ letter b = sym (ap first_letter e) ∙ ap first_letter f in
+    elim (eqb_tells (letter a) (letter b)) [ inl h ↦ none_true other h.0 | inr h ↦ h.1 same ]
+  where
+    none_true : {x : Bool} → x ≡ false → x ≡ true → ⊥
+    none_true n t = absurd (cc (n, t))
 
 abbrev rows_in : Option (Text × List Row) → List Row
 rows_in None = []
@@ -404,26 +431,31 @@ values_taken p words met g e rows a b entered read =
     let second : b ≡ g.second = ap text_in (sym read.1 ∙ ap (first_of (second_id p)) same ∙ g.values.1) in
     rw (first, second) g.are
 
+no_sim : (p : Pair) → (letter (codes "sim") == letter (name_of p)) ≡ false
+no_sim OfGen = refl
+no_sim OfDrill = refl
+no_sim OfImport = refl
+
 -- what was read of matches is what the words say
 pub splits_taken : (words : List Text) (met : Option (Text × List Row)) (r : Option Fields) → IsTaken words → met ≡ subcommand_of nomad words → SaysFields met r → Splits words r
 splits_taken words met (Some Sim) (inl s) e t = s.are
-splits_taken words met (Some Sim) (inr (OfGen, g)) e t =
-    let bad : 115 ≡ 103 = same_letter met (codes "sim") (codes "gen") t.0 g.rows t.1 (e ∙ g.entered) in absurd (omega (arith, bad))
-splits_taken words met (Some Sim) (inr (OfImport, g)) e t =
-    let bad : 115 ≡ 105 = same_letter met (codes "sim") (codes "import") t.0 g.rows t.1 (e ∙ g.entered) in absurd (omega (arith, bad))
-splits_taken words met (Some (Gen n z)) (inl s) e t =
-    let bad : 103 ≡ 115 = same_letter met (codes "gen") (codes "sim") t.0 [] t.1 (e ∙ s.entered) in absurd (omega (arith, bad))
+splits_taken words met (Some Sim) (inr (p, g)) e t = absurd (apart met (codes "sim") (name_of p) t.0 g.rows t.1 (e ∙ g.entered) (no_sim p))
+splits_taken words met (Some (Gen n z)) (inl s) e t = absurd (apart met (codes "gen") (codes "sim") t.0 [] t.1 (e ∙ s.entered) refl)
 splits_taken words met (Some (Gen n z)) (inr (OfGen, g)) e t = values_taken OfGen words met g e t.0 n.now z.now t.1 t.2
-splits_taken words met (Some (Gen n z)) (inr (OfImport, g)) e t =
-    let bad : 103 ≡ 105 = same_letter met (codes "gen") (codes "import") t.0 g.rows t.1 (e ∙ g.entered) in absurd (omega (arith, bad))
-splits_taken words met (Some (Import f z)) (inl s) e t =
-    let bad : 105 ≡ 115 = same_letter met (codes "import") (codes "sim") t.0 [] t.1 (e ∙ s.entered) in absurd (omega (arith, bad))
-splits_taken words met (Some (Import f z)) (inr (OfGen, g)) e t =
-    let bad : 105 ≡ 103 = same_letter met (codes "import") (codes "gen") t.0 g.rows t.1 (e ∙ g.entered) in absurd (omega (arith, bad))
+splits_taken words met (Some (Gen n z)) (inr (OfDrill, g)) e t = absurd (apart met (codes "gen") (codes "drill") t.0 g.rows t.1 (e ∙ g.entered) refl)
+splits_taken words met (Some (Gen n z)) (inr (OfImport, g)) e t = absurd (apart met (codes "gen") (codes "import") t.0 g.rows t.1 (e ∙ g.entered) refl)
+splits_taken words met (Some (Drill n z)) (inl s) e t = absurd (apart met (codes "drill") (codes "sim") t.0 [] t.1 (e ∙ s.entered) refl)
+splits_taken words met (Some (Drill n z)) (inr (OfGen, g)) e t = absurd (apart met (codes "drill") (codes "gen") t.0 g.rows t.1 (e ∙ g.entered) refl)
+splits_taken words met (Some (Drill n z)) (inr (OfDrill, g)) e t = values_taken OfDrill words met g e t.0 n.now z.now t.1 t.2
+splits_taken words met (Some (Drill n z)) (inr (OfImport, g)) e t = absurd (apart met (codes "drill") (codes "import") t.0 g.rows t.1 (e ∙ g.entered) refl)
+splits_taken words met (Some (Import f z)) (inl s) e t = absurd (apart met (codes "import") (codes "sim") t.0 [] t.1 (e ∙ s.entered) refl)
+splits_taken words met (Some (Import f z)) (inr (OfGen, g)) e t = absurd (apart met (codes "import") (codes "gen") t.0 g.rows t.1 (e ∙ g.entered) refl)
+splits_taken words met (Some (Import f z)) (inr (OfDrill, g)) e t = absurd (apart met (codes "import") (codes "drill") t.0 g.rows t.1 (e ∙ g.entered) refl)
 splits_taken words met (Some (Import f z)) (inr (OfImport, g)) e t = values_taken OfImport words met g e t.0 f.now z.now t.1 t.2
 splits_taken words met None (inl s) e t = absurd ((t []).0 (e ∙ s.entered))
 splits_taken words met None (inr (OfGen, g)) e t = absurd ((t g.rows).1 (e ∙ g.entered) g.first g.second g.values)
-splits_taken words met None (inr (OfImport, g)) e t = absurd ((t g.rows).2 (e ∙ g.entered) g.first g.second g.values)
+splits_taken words met None (inr (OfDrill, g)) e t = absurd ((t g.rows).2 (e ∙ g.entered) g.first g.second g.values)
+splits_taken words met None (inr (OfImport, g)) e t = absurd ((t g.rows).3 (e ∙ g.entered) g.first g.second g.values)
 
 pair_refused : (p : Pair) (words : List Text) (k : ErrorKind) → (k ≡ OutOfMemory → ⊥) → (k ≡ OutOfMemory) ⊎ IsAmong k (fault_of nomad words)
     → AreFields words → (a b : Text) → words ≡ name_of p ∷ a ∷ b ∷ [] → ⊥
@@ -435,11 +467,12 @@ pub splits_refused : (words : List Text) (k : ErrorKind) → (k ≡ OutOfMemory 
 splits_refused words k not fails = λ fields. (
   λ e. no_kind k not (subst (λ ws. (k ≡ OutOfMemory) ⊎ IsAmong k (fault_of nomad ws)) e fails) sim_taken,
   λ a b e. pair_refused OfGen words k not fails fields a b e,
+  λ a b e. pair_refused OfDrill words k not fails fields a b e,
   λ a b e. pair_refused OfImport words k not fails fields a b e,
 )
 
 pub splits_empty : (ws : List (String Global)) → length ws ≡ 0 → Splits (map string_bytes ws) None
-splits_empty [] e = λ fields. ((λ h. cc h), (λ a b h. cc h), (λ a b h. cc h))
+splits_empty [] e = λ fields. ((λ h. cc h), (λ a b h. cc h), (λ a b h. cc h), (λ a b h. cc h))
 splits_empty (w ∷ ws) e = absurd (omega (arith, e))
 
 -- the words are some

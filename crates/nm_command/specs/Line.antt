@@ -7,7 +7,7 @@ use Rattle.clap.specs.Simple.{new_shape}
 use Rattle.clap.specs.declared.builder.command.Command.{Command}
 use Rattle.clap.specs.declared.builder.command.Command.TheViews.{out-Command}
 use Rattle.nm_command.specs.declared.line.Fields.{Fields}
-use Rattle.nm_command.specs.declared.line.Fields.TheVariants.{Sim, Gen, Import}
+use Rattle.nm_command.specs.declared.line.Fields.TheVariants.{Sim, Gen, Drill, Import}
 
 -- a word that is an option, or help
 abbrev pub is_refused : Text → Bool
@@ -18,10 +18,12 @@ is_refused (x ∷ xs) = x == 45 || bytes_eq (x ∷ xs) (codes "help")
 abbrev pub Splits : List Text → Option Fields → Type 0
 Splits words (Some Sim) = words ≡ codes "sim" ∷ []
 Splits words (Some (Gen number size)) = words ≡ codes "gen" ∷ number.now ∷ size.now ∷ []
+Splits words (Some (Drill number size)) = words ≡ codes "drill" ∷ number.now ∷ size.now ∷ []
 Splits words (Some (Import fast slow)) = words ≡ codes "import" ∷ fast.now ∷ slow.now ∷ []
 Splits words None = AllByRecursion (λ w. is_refused w ≡ false) words
     → (words ≡ codes "sim" ∷ [] → ⊥)
     × ((a b : Text) → words ≡ codes "gen" ∷ a ∷ b ∷ [] → ⊥)
+    × ((a b : Text) → words ≡ codes "drill" ∷ a ∷ b ∷ [] → ⊥)
     × ((a b : Text) → words ≡ codes "import" ∷ a ∷ b ∷ [] → ⊥)
 
 -- ---- the command line, as clap's clauses see it
@@ -35,6 +37,9 @@ sim = new_app (codes "sim")
 abbrev pub generate : App
 generate = with_rule (with_rule (new_app (codes "gen")) (required_rule (codes "N"))) (required_rule (codes "SIZE"))
 
+abbrev pub drill : App
+drill = with_rule (with_rule (new_app (codes "drill")) (required_rule (codes "N"))) (required_rule (codes "SIZE"))
+
 abbrev pub importing : App
 importing = with_rule (with_rule (new_app (codes "import")) (required_rule (codes "F"))) (required_rule (codes "S"))
 
@@ -45,7 +50,7 @@ bare = record {
 }
 
 abbrev pub nomad : App
-nomad = with_subcommand (with_subcommand (with_subcommand bare sim.top) generate.top) importing.top
+nomad = with_subcommand (with_subcommand (with_subcommand (with_subcommand bare sim.top) generate.top) drill.top) importing.top
 
 -- the command with this name and two fields, and with no argument that a subcommand of it has too
 abbrev pub IsTwoFieldCommand : Text → Text → Text → Command → Type 0
@@ -64,8 +69,10 @@ LacksValues first second rows = (a b : Text) → HasValues first second rows a b
 abbrev pub SaysFields : Option (Text × List Row) → Option Fields → Type 0
 SaysFields entered (Some Sim) = (rows : List Row) × (entered ≡ Some (codes "sim", rows))
 SaysFields entered (Some (Gen number size)) = (rows : List Row) × (entered ≡ Some (codes "gen", rows)) × HasValues (codes "N") (codes "SIZE") rows number.now size.now
+SaysFields entered (Some (Drill number size)) = (rows : List Row) × (entered ≡ Some (codes "drill", rows)) × HasValues (codes "N") (codes "SIZE") rows number.now size.now
 SaysFields entered (Some (Import fast slow)) = (rows : List Row) × (entered ≡ Some (codes "import", rows)) × HasValues (codes "F") (codes "S") rows fast.now slow.now
 SaysFields entered None = (rows : List Row)
     → (entered ≡ Some (codes "sim", rows) → ⊥)
     × (entered ≡ Some (codes "gen", rows) → LacksValues (codes "N") (codes "SIZE") rows)
+    × (entered ≡ Some (codes "drill", rows) → LacksValues (codes "N") (codes "SIZE") rows)
     × (entered ≡ Some (codes "import", rows) → LacksValues (codes "F") (codes "S") rows)

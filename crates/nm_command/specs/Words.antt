@@ -21,6 +21,13 @@ pub record IsGen (words : List (String Global)) (n s : ℕ) : Type 0 where
   pub are : map string_bytes words ≡ codes "gen" ∷ number ∷ size ∷ []
   pub numbers : AreNumbers number size n s
 
+-- the words `drill N SIZE`
+pub record IsDrill (words : List (String Global)) (n s : ℕ) : Type 0 where
+  pub number : List ℕ
+  pub size : List ℕ
+  pub are : map string_bytes words ≡ codes "drill" ∷ number ∷ size ∷ []
+  pub numbers : AreNumbers number size n s
+
 -- the frames of a fast and a slow tier: each 1 or more, and at most 4,096 together, so that each is at most 4,095
 pub record AreTierSizes (first second : List ℕ) (fast slow : ℕ) : Type 0 where
   pub is_fast : IsNumber first fast
@@ -38,4 +45,4 @@ pub record IsImportWords (words : List (String Global)) (fast slow : ℕ) : Type
 
 -- one of the forms
 abbrev pub IsForm : List (String Global) → Type 0
-IsForm words = IsSim words ⊎ ((n : ℕ) × (s : ℕ) × IsGen words n s) ⊎ ((fast : ℕ) × (slow : ℕ) × IsImportWords words fast slow)
+IsForm words = IsSim words ⊎ ((n : ℕ) × (s : ℕ) × IsGen words n s) ⊎ ((n : ℕ) × (s : ℕ) × IsDrill words n s) ⊎ ((fast : ℕ) × (slow : ℕ) × IsImportWords words fast slow)

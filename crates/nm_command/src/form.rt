@@ -1,7 +1,7 @@
 //! What the words ask for.
 
 ghost use Rattle.std.specs.Prelude.{◌≡◌, ◌≢◌, ◌↔◌, ◌+◌, ◌≤◌, ℕ, Some, IfOk, IsTrue};
-ghost use Rattle.nm_command.specs.Words.{IsSim, IsGen, IsImportWords, AreNumbers, AreTierSizes};
+ghost use Rattle.nm_command.specs.Words.{IsSim, IsGen, IsDrill, IsImportWords, AreNumbers, AreTierSizes};
 
 use crate::line::{Fields, fields_of};
 use nm_text::read_number;
@@ -24,6 +24,13 @@ pub enum Form {
         /// The lines of programs, 1 to 100,000.
         size: u32,
     },
+    /// `drill N SIZE`
+    Drill {
+        /// The number.
+        number: u64,
+        /// The lines of programs, 1 to 100,000.
+        size: u32,
+    },
     /// `import F S`
     Import {
         /// The frames of the fast tier, 1 to 4,095. With those of the slow one at most 4,096.
@@ -37,12 +44,14 @@ pub enum Form {
 pub fn form_of(alloc: Global, words: &[String]) -> Result<Option<Form>, AllocError>
     ensures sim { IfOk result (λ o. (o ≡ Some Form.Sim) ↔ IsSim words.now) }
     ensures generated { IfOk result (λ o. (n size : ℕ) → (o ≡ Some (Form.Gen n size)) ↔ IsGen words.now n size) }
+    ensures drilled { IfOk result (λ o. (n size : ℕ) → (o ≡ Some (Form.Drill n size)) ↔ IsDrill words.now n size) }
     ensures imported { IfOk result (λ o. (f s : ℕ) → (o ≡ Some (Form.Import f s)) ↔ IsImportWords words.now f s) }
 {
     match fields_of(alloc, words)? {
         None => Ok(None),
         Some(Fields::Sim) => Ok(Some(Form::Sim)),
         Some(Fields::Gen { number, size }) => Ok(gen_form(number, size)),
+        Some(Fields::Drill { number, size }) => Ok(drill_form(number, size)),
         Some(Fields::Import { fast, slow }) => Ok(import_form(fast, slow)),
     }
 }
@@ -51,7 +60,27 @@ pub fn form_of(alloc: Global, words: &[String]) -> Result<Option<Form>, AllocErr
 fn gen_form(number: &str, size: &str) -> Option<Form>
     ensures sim { result ≢ Some Form.Sim }
     ensures generated { (n s : ℕ) → (result ≡ Some (Form.Gen n s)) ↔ AreNumbers number.now size.now n s }
+    ensures drilled { (n s : ℕ) → result ≢ Some (Form.Drill n s) }
     ensures imported { (f s : ℕ) → result ≢ Some (Form.Import f s) }
+{
+    let (number, size) = numbers_of(number, size)?;
+    Some(Form::Gen { number, size })
+}
+
+/// The form of the fields of `drill`.
+fn drill_form(number: &str, size: &str) -> Option<Form>
+    ensures sim { result ≢ Some Form.Sim }
+    ensures generated { (n s : ℕ) → result ≢ Some (Form.Gen n s) }
+    ensures drilled { (n s : ℕ) → (result ≡ Some (Form.Drill n s)) ↔ AreNumbers number.now size.now n s }
+    ensures imported { (f s : ℕ) → result ≢ Some (Form.Import f s) }
+{
+    let (number, size) = numbers_of(number, size)?;
+    Some(Form::Drill { number, size })
+}
+
+/// The number and the size that two fields say.
+fn numbers_of(number: &str, size: &str) -> Option<(u64, u32)>
+    ensures { (n s : ℕ) → (result ≡ Some (n, s)) ↔ AreNumbers number.now size.now n s }
 {
     let number = read_number(number.as_bytes())?;
     let size = read_number(size.as_bytes())?;
@@ -61,16 +90,14 @@ fn gen_form(number: &str, size: &str) -> Option<Form>
     if size > MOST_LINES {
         return None;
     }
-    Some(Form::Gen {
-        number,
-        size: size as u32,
-    })
+    Some((number, size as u32))
 }
 
 /// The form of the fields of `import`.
 fn import_form(fast: &str, slow: &str) -> Option<Form>
     ensures sim { result ≢ Some Form.Sim }
     ensures generated { (n s : ℕ) → result ≢ Some (Form.Gen n s) }
+    ensures drilled { (n s : ℕ) → result ≢ Some (Form.Drill n s) }
     ensures imported { (f s : ℕ) → (result ≡ Some (Form.Import f s)) ↔ AreTierSizes fast.now slow.now f s }
 {
     let fast = read_number(fast.as_bytes())?;

@@ -20,6 +20,13 @@ pub enum Fields<'a> {
         /// The field SIZE.
         size: &'a str,
     },
+    /// `drill N SIZE`
+    Drill {
+        /// The field N.
+        number: &'a str,
+        /// The field SIZE.
+        size: &'a str,
+    },
     /// `import F S`
     Import {
         /// The field F.
@@ -57,6 +64,10 @@ fn fields_in<'a>(matches: &ArgMatches<'a>) -> Option<Fields<'a>>
         ("gen", inner) => {
             let (number, size) = two_values(inner, "N", "SIZE")?;
             Some(Fields::Gen { number, size })
+        }
+        ("drill", inner) => {
+            let (number, size) = two_values(inner, "N", "SIZE")?;
+            Some(Fields::Drill { number, size })
         }
         ("import", inner) => {
             let (fast, slow) = two_values(inner, "F", "S")?;
@@ -100,6 +111,7 @@ fn make_command<'a>(alloc: Global) -> Result<Command<'a>, AllocError>
 {
     let sim = Command::new(alloc, "sim");
     let generate = two_field_command(alloc, "gen", "N", "SIZE")?;
+    let drill = two_field_command(alloc, "drill", "N", "SIZE")?;
     let importing = two_field_command(alloc, "import", "F", "S")?;
     Command::new(alloc, "nomad")
         .no_binary_name(true)
@@ -107,6 +119,7 @@ fn make_command<'a>(alloc: Global) -> Result<Command<'a>, AllocError>
         .disable_help_subcommand(true)
         .subcommand(sim)?
         .subcommand(generate)?
+        .subcommand(drill)?
         .subcommand(importing)
 }
 

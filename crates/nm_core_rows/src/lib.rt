@@ -5,5 +5,3 @@
 mod driver;
 #[cfg(test)]
 mod rows;
-#[cfg(test)]
-mod still;

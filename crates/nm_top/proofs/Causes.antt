@@ -15,11 +15,11 @@ use Rattle.nm_script.specs.Grammar.{IsScriptText}
 use Rattle.nm_script.specs.Faults as script_faults
 use Rattle.nm_script.specs.Faults.{IsFirstFault}
 use Rattle.nm_gen.specs.Generated.{generated}
-use Rattle.nm_top.specs.Answer.{IsAccepted, IsGenCall, IsOrMemory, IsReading, IsScriptCall, IsSimCall, IsWritten, ReadAnswers, ReadCause, SimAnswers, SimCause, TextCause}
-use Rattle.nm_top.specs.Output.{IsOutputOf, IsServed}
+use Rattle.nm_top.specs.Answer.{IsAccepted, IsDrillCall, IsGenCall, IsOrMemory, IsReading, IsScriptCall, IsSimCall, IsWritten, ReadAnswers, ReadCause, SimAnswers, SimCause, SomeTextCause, TextCause}
+use Rattle.nm_top.specs.Output.{IsReport, IsReportOf, IsSummary}
 use Rattle.nm_top.specs.Status.{status_of_text}
 use Rattle.nm_top.specs.declared.status.Status.{Status}
-use Rattle.nm_top.specs.declared.status.Status.TheVariants.{Done, Usage, Script, NotBuilt, ReadFault, WriteFault, Memory, Trace}
+use Rattle.nm_top.specs.declared.status.Status.TheVariants.{Done, Usage, Script, ReadFault, WriteFault, Memory, Trace}
 
 -- ---- what parsing says
 
@@ -114,7 +114,6 @@ pub TextCause-written : {K : Type 0} (k : SinkTells K) (sink sink' : K) (text : 
 TextCause-written k sink sink' text Done h = h
 TextCause-written k sink sink' text Usage h = h
 TextCause-written k sink sink' text (Script f l) h = h
-TextCause-written k sink sink' text NotBuilt h = h
 TextCause-written k sink sink' text ReadFault h = h
 TextCause-written k sink sink' text WriteFault h = h
 TextCause-written k sink sink' text Memory h = absurd h
@@ -126,7 +125,6 @@ pub text_complete : {K : Type 0} (k : SinkTells K) (sink sink' : K) (text : List
 text_complete k sink sink' text Done h none = inl refl
 text_complete k sink sink' text Usage h none = absurd h
 text_complete k sink sink' text (Script f n) h none = absurd h
-text_complete k sink sink' text NotBuilt h none = absurd h
 text_complete k sink sink' text ReadFault h none = absurd h
 text_complete k sink sink' text WriteFault h none = absurd (none h.rose)
 text_complete k sink sink' text Memory h none = inr refl
@@ -145,72 +143,86 @@ pub IsGenCall-same : {K : Type 0} (k : SinkTells K) (number n size s : ℕ) (sin
 IsGenCall-same k number n size s sink sink' status e f h =
     subst (λ l. IsGenCall k n l sink sink' status) f (subst (λ m. IsGenCall k m size sink sink' status) e h)
 
--- the output of a script was written, or a write failed
-pub IsScriptCall-written : {K : Type 0} (k : SinkTells K) (s : plain.Script) (sink sink' : K) (text : List ℕ) (status : Status) → IsServed s → IsOutputOf s text
-    → IsWritten k sink sink' text status → IsScriptCall k s sink sink' status
-IsScriptCall-written k s sink sink' text Done served output h = (served, (text, output, h))
-IsScriptCall-written k s sink sink' text Usage served output h = absurd h
-IsScriptCall-written k s sink sink' text (Script f n) served output h = absurd h
-IsScriptCall-written k s sink sink' text NotBuilt served output h = absurd h
-IsScriptCall-written k s sink sink' text ReadFault served output h = absurd h
-IsScriptCall-written k s sink sink' text WriteFault served output h = (served, (text, output, h))
-IsScriptCall-written k s sink sink' text Memory served output h = absurd h
-IsScriptCall-written k s sink sink' text (Trace f n) served output h = absurd h
+-- a text of a kind was written, or a write failed
+pub SomeTextCause-written : {K : Type 0} (k : SinkTells K) (sink sink' : K) (Is : List ℕ → Type 0) (text : List ℕ) (status : Status) → Is text
+    → IsWritten k sink sink' text status → SomeTextCause k sink sink' Is status
+SomeTextCause-written k sink sink' Is text Done is h = (text, is, h)
+SomeTextCause-written k sink sink' Is text Usage is h = absurd h
+SomeTextCause-written k sink sink' Is text (Script f n) is h = absurd h
+SomeTextCause-written k sink sink' Is text ReadFault is h = absurd h
+SomeTextCause-written k sink sink' Is text WriteFault is h = (text, is, h)
+SomeTextCause-written k sink sink' Is text Memory is h = absurd h
+SomeTextCause-written k sink sink' Is text (Trace f n) is h = absurd h
+
+some_text_answer : {K : Type 0} (k : SinkTells K) (sink sink' : K) (Is : List ℕ → Type 0) (status : Status) → SomeTextCause k sink sink' Is status
+    → (status ≡ Done) ⊎ (status ≡ WriteFault) ⊎ (status ≡ Memory)
+some_text_answer k sink sink' Is Done h = inl refl
+some_text_answer k sink sink' Is Usage h = absurd h.2
+some_text_answer k sink sink' Is (Script f n) h = absurd h.2
+some_text_answer k sink sink' Is ReadFault h = absurd h.2
+some_text_answer k sink sink' Is WriteFault h = inr (inl refl)
+some_text_answer k sink sink' Is Memory h = inr (inr refl)
+some_text_answer k sink sink' Is (Trace f n) h = absurd h.2
+
+-- ---- drill
+
+some_text_fault : {K : Type 0} (k : SinkTells K) (sink sink' : K) (Is : List ℕ → Type 0) → SomeTextCause k sink sink' Is WriteFault → Rose (k.faults sink) (k.faults sink')
+some_text_fault k sink sink' Is h = h.2.rose
+
+done_from : (status : Status) (Write : Type 0) → (status ≡ WriteFault → Write) → (Write → ⊥) → (status ≡ Done) ⊎ (status ≡ WriteFault) ⊎ (status ≡ Memory)
+    → IsOrMemory status Done
+done_from status Write fault write (inl h) = inl h
+done_from status Write fault write (inr (inl h)) = absurd (write (fault h))
+done_from status Write fault write (inr (inr h)) = inr h
+
+-- the summary of a run was written, or a write failed, or memory is wanting
+pub IsDrillCall-text : {K : Type 0} (k : SinkTells K) (n size : ℕ) (sink sink' : K) (status : Status) → SomeTextCause k sink sink' (IsSummary n size) status
+    → IsDrillCall k n size sink sink' status
+IsDrillCall-text k n size sink sink' status cause = record {
+  cause = cause;
+  complete = λ none. done_from status (Rose (k.faults sink) (k.faults sink'))
+      (λ is. some_text_fault k sink sink' (IsSummary n size) (subst (SomeTextCause k sink sink' (IsSummary n size)) is cause)) none
+      (some_text_answer k sink sink' (IsSummary n size) status cause);
+}
+
+-- the same for the number and the size that the words say
+pub IsDrillCall-same : {K : Type 0} (k : SinkTells K) (number n size s : ℕ) (sink sink' : K) (status : Status) → number ≡ n → size ≡ s
+    → IsDrillCall k number size sink sink' status → IsDrillCall k n s sink sink' status
+IsDrillCall-same k number n size s sink sink' status e f h =
+    subst (λ l. IsDrillCall k n l sink sink' status) f (subst (λ m. IsDrillCall k m size sink sink' status) e h)
 
 -- ---- sim
 
 pub along : {S : Type 0} (m : SourceTells S) (old new : S) (P Q : List ℕ → Type 0) → ((bytes : List ℕ) → P bytes → Q bytes) → ReadsWhole m old new P → ReadsWhole m old new Q
 along m old new P Q step h = record { bytes = h.bytes; few = h.few; reads = h.reads; all = h.all; kept = h.kept; holds = step h.bytes h.holds }
 
+-- the report of a script that was read
+reported : (bytes : List ℕ) (s : plain.Script) (text : List ℕ) → IsScriptText bytes s → IsReportOf s text → IsReport bytes text
+reported bytes s text says report = record { script = s; says = says; report = report }
+
 -- the script that was read decides the cause
 script_cause : {S K : Type 0} (m : SourceTells S) (k : SinkTells K) (old new : S) (sink sink' : K) (s : plain.Script) (status : Status)
     → ReadsWhole m old new (λ bytes. IsScriptText bytes s) → IsScriptCall k s sink sink' status → SimCause m k old new sink sink' status
-script_cause m k old new sink sink' s Done h call =
-    along m old new _ _ (λ bytes says. (call.1.0, record { script = s; says = says; served = call.0; output = call.1.1 }, call.1.2)) h
-script_cause m k old new sink sink' s Usage h call = call.1.2
-script_cause m k old new sink sink' s (Script f n) h call = absurd call.1.2
-script_cause m k old new sink sink' s NotBuilt h call = (along m old new _ _ (λ bytes says. (s, says, call.0)) h, call.1)
-script_cause m k old new sink sink' s ReadFault h call = absurd call.1.2
-script_cause m k old new sink sink' s WriteFault h call =
-    along m old new _ _ (λ bytes says. (call.1.0, record { script = s; says = says; served = call.0; output = call.1.1 }, call.1.2)) h
-script_cause m k old new sink sink' s (Trace f n) h call = call.1.2
-script_cause m k old new sink sink' s Memory h call = record { unwritten = call.1; read = record { lost = lost_all _ _ h.bytes h.few h.all; kept = h.kept } }
-
-unserved_answer : {K : Type 0} (k : SinkTells K) (s : plain.Script) (sink sink' : K) (status : Status) → IsScriptCall k s sink sink' status → (IsServed s → ⊥) → status ≡ NotBuilt
-unserved_answer k s sink sink' Done h none = absurd (none h.0)
-unserved_answer k s sink sink' Usage h none = absurd (none h.0)
-unserved_answer k s sink sink' (Script f n) h none = absurd (none h.0)
-unserved_answer k s sink sink' NotBuilt h none = refl
-unserved_answer k s sink sink' ReadFault h none = absurd (none h.0)
-unserved_answer k s sink sink' WriteFault h none = absurd (none h.0)
-unserved_answer k s sink sink' Memory h none = absurd (none h.0)
-unserved_answer k s sink sink' (Trace f n) h none = absurd (none h.0)
-
-served_answer : {K : Type 0} (k : SinkTells K) (s : plain.Script) (sink sink' : K) (status : Status) → IsScriptCall k s sink sink' status → IsServed s
-    → (status ≡ Done) ⊎ (status ≡ WriteFault) ⊎ (status ≡ Memory)
-served_answer k s sink sink' Done h served = inl refl
-served_answer k s sink sink' Usage h served = absurd h.1.2
-served_answer k s sink sink' (Script f n) h served = absurd h.1.2
-served_answer k s sink sink' NotBuilt h served = absurd (h.0 served)
-served_answer k s sink sink' ReadFault h served = absurd h.1.2
-served_answer k s sink sink' WriteFault h served = inr (inl refl)
-served_answer k s sink sink' Memory h served = inr (inr refl)
-served_answer k s sink sink' (Trace f n) h served = absurd h.1.2
+script_cause m k old new sink sink' s Done h call = along m old new _ _ (λ bytes says. (call.0, reported bytes s call.0 says call.1, call.2)) h
+script_cause m k old new sink sink' s Usage h call = call.2
+script_cause m k old new sink sink' s (Script f n) h call = absurd call.2
+script_cause m k old new sink sink' s ReadFault h call = absurd call.2
+script_cause m k old new sink sink' s WriteFault h call = along m old new _ _ (λ bytes says. (call.0, reported bytes s call.0 says call.1, call.2)) h
+script_cause m k old new sink sink' s (Trace f n) h call = call.2
+script_cause m k old new sink sink' s Memory h call = record { unwritten = call; read = record { lost = lost_all _ _ h.bytes h.few h.all; kept = h.kept } }
 
 script_answers : {K : Type 0} (k : SinkTells K) (s : plain.Script) (sink sink' : K) (status : Status) → IsScriptCall k s sink sink' status
     → (bytes : List ℕ) → ReadAnswers bytes (Ok s) → SimAnswers bytes status
 script_answers k s sink sink' status call bytes h = record {
   long = λ many. absurd (h.long many);
   first = λ few f n fault. absurd (h.first few f n fault);
-  unserved = λ few u. inl (unserved_answer k s sink sink' status call (λ served. u.2 (subst IsServed (h.only few u.0 u.1) served)));
-  accepted = λ few u. served_answer k s sink sink' status call (subst IsServed (sym (h.only few u.0 u.1)) u.2);
+  accepted = λ few u. some_text_answer k sink sink' (IsReportOf s) status call;
 }
 
 refused_answers : (status : Status) (bytes : List ℕ) → ReadAnswers bytes (Err status) → SimAnswers bytes status
 refused_answers status bytes h = record {
   long = h.long;
   first = h.first;
-  unserved = λ few u. inr (h.only few u.0 u.1);
   accepted = λ few u. inr (inr (h.only few u.0 u.1));
 }
 
@@ -222,17 +234,12 @@ sim_fault : {S K : Type 0} (m : SourceTells S) (k : SinkTells K) (old new : S) (
     → Rose (k.faults sink) (k.faults sink')
 sim_fault m k old new sink sink' h = h.holds.2.rose
 
--- a script that is served, without faults, is done
+-- a script, without faults, is done
 complete_from : (left : Option (List ℕ)) (status : Status) (Read Write : Type 0) → ((Read → ⊥) → IfSome left (λ bytes. SimAnswers bytes status))
     → (status ≡ WriteFault → Write)
     → IfSome left (λ bytes. IsAccepted bytes → length bytes ≤ MOST_BYTES → (Read → ⊥) → (Write → ⊥) → IsOrMemory status Done)
 complete_from None status Read Write answers fault = tt
-complete_from (Some bytes) status Read Write answers fault = λ accepted few read write. go write ((answers read).accepted few accepted)
-  where
-    go : (Write → ⊥) → (status ≡ Done) ⊎ (status ≡ WriteFault) ⊎ (status ≡ Memory) → IsOrMemory status Done
-    go write (inl h) = inl h
-    go write (inr (inl h)) = absurd (write (fault h))
-    go write (inr (inr h)) = inr h
+complete_from (Some bytes) status Read Write answers fault = λ accepted few read write. done_from status Write fault write ((answers read).accepted few accepted)
 
 -- the cause and the answers of `sim` say when it is done
 IsSimCall-from : {S K : Type 0} (m : SourceTells S) (k : SinkTells K) (old new : S) (sink sink' : K) (status : Status) → SimCause m k old new sink sink' status
@@ -255,7 +262,6 @@ unread_sim : {S K : Type 0} (m : SourceTells S) (k : SinkTells K) (old new : S) 
 unread_sim m k old new sink Done h = absurd h
 unread_sim m k old new sink Usage h = h
 unread_sim m k old new sink (Script f n) h = (h, refl)
-unread_sim m k old new sink NotBuilt h = absurd h
 unread_sim m k old new sink ReadFault h = (h, refl)
 unread_sim m k old new sink WriteFault h = absurd h
 unread_sim m k old new sink Memory h = record { unwritten = refl; read = h }

@@ -1,5 +1,5 @@
 -- Why `import` answers what it answers.
-use Rattle.std.proofs.Common.{◌≡◌, ℕ, ◌≤◌, ◌⊎◌, inl, inr, List, length, Option, Some, None, IfSome, Result, Ok, Err, refl, sym, ap, subst, ◌∙◌, arith}
+use Rattle.std.proofs.Common.{◌≡◌, ℕ, ◌≤◌, ◌⊎◌, inl, inr, List, length, Option, Some, None, IfSome, Result, Ok, Err, refl, sym, ap, subst, arith}
 use Rattle.nm_io.specs.Count.{Rose}
 use Rattle.nm_io.specs.Whole.{SourceTells, SinkTells, ReadsWhole}
 use Rattle.nm_io.specs.declared.sources.TheConstants.{MOST_BYTES}
@@ -14,11 +14,11 @@ use Rattle.nm_trace.specs.Traces.{HasTrace, trace_text}
 use Rattle.nm_trace.specs.Imports.{IsImport, IsFirstTraceFault, IsTraceRefusal}
 use Rattle.nm_trace.specs.Laws.{HasOwnNumbers, IsReadAgain}
 use Rattle.nm_trace.specs.Replies.{GivesImport}
-use Rattle.nm_top.specs.Answer.{ImportAnswers, ImportCause, IsFaultOfWritten, IsImportCall, IsImported, IsOrMemory, IsStatusOfWritten, IsTraceReading, TextCause, TraceAnswers, TraceCause}
+use Rattle.nm_top.specs.Answer.{ImportAnswers, ImportCause, IsImportCall, IsImported, IsOrMemory, IsStatusOfWritten, IsTraceReading, TextCause, TraceAnswers, TraceCause}
 use Rattle.nm_top.specs.Status.{status_of_trace}
 use Rattle.nm_top.specs.declared.status.Status.{Status}
-use Rattle.nm_top.specs.declared.status.Status.TheVariants.{Done, Usage, Script, NotBuilt, ReadFault, WriteFault, Memory, Trace}
-use Rattle.nm_top.proofs.Causes.{HasRead, along, answers_along, left_all, lost_all, text_complete, whole}
+use Rattle.nm_top.specs.declared.status.Status.TheVariants.{Done, Usage, Script, ReadFault, WriteFault, Memory, Trace}
+use Rattle.nm_top.proofs.Causes.{HasRead, along, answers_along, left_all, lost_all, whole}
 
 -- ---- what importing says
 
@@ -105,7 +105,6 @@ trace_cause m k fast slow old new sink sink' s Done numbers one h call =
     along m old new _ _ (λ bytes says. (script_text s, imported bytes fast slow s numbers one says, call)) h
 trace_cause m k fast slow old new sink sink' s Usage numbers one h call = call
 trace_cause m k fast slow old new sink sink' s (Script f n) numbers one h call = absurd call
-trace_cause m k fast slow old new sink sink' s NotBuilt numbers one h call = call
 trace_cause m k fast slow old new sink sink' s ReadFault numbers one h call = absurd call
 trace_cause m k fast slow old new sink sink' s WriteFault numbers one h call =
     along m old new _ _ (λ bytes says. (script_text s, imported bytes fast slow s numbers one says, call)) h
@@ -118,7 +117,6 @@ text_answer : {K : Type 0} (k : SinkTells K) (sink sink' : K) (text : List ℕ) 
 text_answer k sink sink' text Done h = inl refl
 text_answer k sink sink' text Usage h = absurd h
 text_answer k sink sink' text (Script f n) h = absurd h
-text_answer k sink sink' text NotBuilt h = absurd h
 text_answer k sink sink' text ReadFault h = absurd h
 text_answer k sink sink' text WriteFault h = inr (inl refl)
 text_answer k sink sink' text Memory h = inr (inr refl)
@@ -128,7 +126,6 @@ text_written : {K : Type 0} (k : SinkTells K) (sink sink' : K) (text : List ℕ)
 text_written k sink sink' text Done h = inl refl
 text_written k sink sink' text Usage h = absurd h
 text_written k sink sink' text (Script f n) h = absurd h
-text_written k sink sink' text NotBuilt h = absurd h
 text_written k sink sink' text ReadFault h = absurd h
 text_written k sink sink' text WriteFault h = inr (inl refl)
 text_written k sink sink' text Memory h = inr (inr refl)
@@ -192,7 +189,6 @@ unread_import : {S K : Type 0} (m : SourceTells S) (k : SinkTells K) (fast slow 
 unread_import m k fast slow old new sink Done h = absurd h
 unread_import m k fast slow old new sink Usage h = h
 unread_import m k fast slow old new sink (Script f n) h = (h, refl)
-unread_import m k fast slow old new sink NotBuilt h = h
 unread_import m k fast slow old new sink ReadFault h = (h, refl)
 unread_import m k fast slow old new sink WriteFault h = absurd h
 unread_import m k fast slow old new sink Memory h = record { unwritten = refl; read = h }

@@ -15,17 +15,13 @@ use Rattle.nm_trace.specs.declared.fault.TraceFault.TheVariants.{TooManyPages, E
 use Rattle.nm_trace.specs.Traces.{HasTrace, trace_text}
 use Rattle.nm_trace.specs.Imports.{IsImport, IsFirstTraceFault}
 use Rattle.nm_trace.specs.Laws.{HasOwnNumbers}
-use Rattle.nm_top.specs.Output.{IsOutput, IsOutputOf, IsServed}
+use Rattle.nm_top.specs.Output.{IsReport, IsReportOf, IsSummary}
 use Rattle.nm_top.specs.declared.status.Status.{Status}
-use Rattle.nm_top.specs.declared.status.Status.TheVariants.{Done, Usage, Script, NotBuilt, ReadFault, WriteFault, Memory, Trace}
+use Rattle.nm_top.specs.declared.status.Status.TheVariants.{Done, Usage, Script, ReadFault, WriteFault, Memory, Trace}
 
--- the bytes are a script that is served
+-- the bytes are a script
 abbrev pub IsAccepted : List ℕ → Type 0
-IsAccepted bytes = (s : plain.Script) × IsScriptText bytes s × IsServed s
-
--- the bytes are a script that is not served
-abbrev pub IsUnserved : List ℕ → Type 0
-IsUnserved bytes = (s : plain.Script) × IsScriptText bytes s × (IsServed s → ⊥)
+IsAccepted bytes = (s : plain.Script) × IsScriptText bytes s
 
 -- the status is this one, or memory is wanting
 abbrev pub IsOrMemory : Status → Status → Type 0
@@ -56,11 +52,24 @@ abbrev pub TextCause : {K : Type 0} → SinkTells K → K → K → List ℕ →
 TextCause k sink sink' text Memory = sink' ≡ sink
 TextCause k sink sink' text status = IsWritten k sink sink' text status
 
+-- a text of this kind was written, a write failed, or memory is wanting
+abbrev pub SomeTextCause : {K : Type 0} → SinkTells K → K → K → (List ℕ → Type 0) → Status → Type 0
+SomeTextCause k sink sink' Is Memory = sink' ≡ sink
+SomeTextCause k sink sink' Is status = (text : List ℕ) × Is text × IsWritten k sink sink' text status
+
 -- ---- gen N SIZE
 
 -- the text of the script of N with SIZE lines was written
 pub record IsGenCall {K : Type 0} (k : SinkTells K) (n size : ℕ) (sink sink' : K) (status : Status) : Type 0 where
   pub cause : TextCause k sink sink' (script_text (generated n size)) status
+  -- where no write fails it is done, unless memory is wanting
+  pub complete : (Rose (k.faults sink) (k.faults sink') → ⊥) → IsOrMemory status Done
+
+-- ---- drill N SIZE
+
+-- the summary of a run of the script of N with SIZE lines was written
+pub record IsDrillCall {K : Type 0} (k : SinkTells K) (n size : ℕ) (sink sink' : K) (status : Status) : Type 0 where
+  pub cause : SomeTextCause k sink sink' (IsSummary n size) status
   -- where no write fails it is done, unless memory is wanting
   pub complete : (Rose (k.faults sink) (k.faults sink') → ⊥) → IsOrMemory status Done
 
@@ -97,21 +106,17 @@ pub record IsReading {S : Type 0} (m : SourceTells S) (old new : S) (result : Re
   pub cause : ReadCause m old new result
   pub answers : (Rose (m.faults old) (m.faults new) → ⊥) → IfSome (m.left old) (λ bytes. ReadAnswers bytes result)
 
--- What is answered to a script that was read. NotBuilt comes exactly where it is not served: want of memory is no excuse
--- there, since nothing was asked for yet.
+-- what is answered to a script that was read: the report of a run of it was written, a write failed, or memory is wanting
 abbrev pub IsScriptCall : {K : Type 0} → SinkTells K → plain.Script → K → K → Status → Type 0
-IsScriptCall k s sink sink' NotBuilt = (IsServed s → ⊥) × (sink' ≡ sink)
-IsScriptCall k s sink sink' Memory = IsServed s × (sink' ≡ sink)
-IsScriptCall k s sink sink' status = IsServed s × ((text : List ℕ) × IsOutputOf s text × IsWritten k sink sink' text status)
+IsScriptCall k s sink sink' status = SomeTextCause k sink sink' (IsReportOf s) status
 
 -- why `sim` answers this, what it read and what it wrote
 abbrev pub SimCause : {S K : Type 0} → SourceTells S → SinkTells K → S → S → K → K → Status → Type 0
-SimCause m k old new sink sink' Done = ReadsWhole m old new (λ bytes. (text : List ℕ) × IsOutput bytes text × WritesWhole k sink sink' text)
+SimCause m k old new sink sink' Done = ReadsWhole m old new (λ bytes. (text : List ℕ) × IsReport bytes text × WritesWhole k sink sink' text)
 SimCause m k old new sink sink' Usage = ⊥
 SimCause m k old new sink sink' (Script fault line) = IsRefused m old new fault line × (sink' ≡ sink)
-SimCause m k old new sink sink' NotBuilt = ReadsWhole m old new IsUnserved × (sink' ≡ sink)
 SimCause m k old new sink sink' ReadFault = ReadsUpToFault m old new × (sink' ≡ sink)
-SimCause m k old new sink sink' WriteFault = ReadsWhole m old new (λ bytes. (text : List ℕ) × IsOutput bytes text × WritesPart k sink sink' text)
+SimCause m k old new sink sink' WriteFault = ReadsWhole m old new (λ bytes. (text : List ℕ) × IsReport bytes text × WritesPart k sink sink' text)
 SimCause m k old new sink sink' Memory = IsWanting m old new sink sink'
 SimCause m k old new sink sink' (Trace fault row) = ⊥
 
@@ -119,14 +124,13 @@ SimCause m k old new sink sink' (Trace fault row) = ⊥
 pub record SimAnswers (bytes : List ℕ) (status : Status) : Type 0 where
   pub long : MOST_BYTES < length bytes → IsOrMemory status (Script TooLong 0)
   pub first : length bytes ≤ MOST_BYTES → (fault : ScriptFault) (line : ℕ) → IsFirstFault bytes fault line → IsOrMemory status (Script fault line)
-  pub unserved : length bytes ≤ MOST_BYTES → IsUnserved bytes → IsOrMemory status NotBuilt
   pub accepted : length bytes ≤ MOST_BYTES → IsAccepted bytes → (status ≡ Done) ⊎ (status ≡ WriteFault) ⊎ (status ≡ Memory)
 
 pub record IsSimCall {S K : Type 0} (m : SourceTells S) (k : SinkTells K) (old new : S) (sink sink' : K) (status : Status) : Type 0 where
   pub cause : SimCause m k old new sink sink' status
   -- where no read fails, the bytes decide the answer
   pub answers : (Rose (m.faults old) (m.faults new) → ⊥) → IfSome (m.left old) (λ bytes. SimAnswers bytes status)
-  -- where no call fails, a script that is served is done, unless memory is wanting
+  -- where no call fails, a script is done, unless memory is wanting
   pub complete : IfSome (m.left old) (λ bytes. IsAccepted bytes → length bytes ≤ MOST_BYTES → (Rose (m.faults old) (m.faults new) → ⊥)
       → (Rose (k.faults sink) (k.faults sink') → ⊥) → IsOrMemory status Done)
 
@@ -178,7 +182,6 @@ ImportCause m k fast slow old new sink sink' Done =
     ReadsWhole m old new (λ bytes. (text : List ℕ) × IsImported bytes fast slow text × WritesWhole k sink sink' text)
 ImportCause m k fast slow old new sink sink' Usage = ⊥
 ImportCause m k fast slow old new sink sink' (Script fault line) = IsTooMany m old new fault line × (sink' ≡ sink)
-ImportCause m k fast slow old new sink sink' NotBuilt = ⊥
 ImportCause m k fast slow old new sink sink' ReadFault = ReadsUpToFault m old new × (sink' ≡ sink)
 ImportCause m k fast slow old new sink sink' WriteFault =
     ReadsWhole m old new (λ bytes. (text : List ℕ) × IsImported bytes fast slow text × WritesPart k sink sink' text)

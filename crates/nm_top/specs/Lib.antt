@@ -1,4 +1,3 @@
 pub mod Answer
 pub mod Output
-pub mod Running
 pub mod Status

@@ -12,14 +12,13 @@ use Rattle.nm_trace.specs.declared.fault.TraceFault.TheVariants as traces
 use Rattle.nm_trace.specs.declared.fault.TraceRefusal.{TraceRefusal}
 use Rattle.nm_trace.specs.declared.fault.TraceRefusal.TheVariants as trace_refusals
 use Rattle.nm_top.specs.declared.status.Status.{Status}
-use Rattle.nm_top.specs.declared.status.Status.TheVariants.{Done, Usage, Script, NotBuilt, ReadFault, WriteFault, Memory, Trace}
+use Rattle.nm_top.specs.declared.status.Status.TheVariants.{Done, Usage, Script, ReadFault, WriteFault, Memory, Trace}
 
 -- the number with which the program ends
 abbrev pub exit_number : Status → ℕ
 exit_number Done = 0
 exit_number Usage = 2
 exit_number (Script fault line) = 3
-exit_number NotBuilt = 3
 exit_number ReadFault = 4
 exit_number WriteFault = 5
 exit_number Memory = 6
@@ -56,7 +55,6 @@ abbrev pub status_line : Status → List ℕ
 status_line Done = []
 status_line Usage = codes "nomad: usage"
 status_line (Script fault line) = codes "nomad: line " ++ decimal line ++ codes ": " ++ fault_name fault
-status_line NotBuilt = codes "nomad: not built"
 status_line ReadFault = codes "nomad: read fault"
 status_line WriteFault = codes "nomad: write fault"
 status_line Memory = codes "nomad: memory"

@@ -26,7 +26,7 @@ pub fn gen_call<K: Sink>(alloc: Global, number: u64, size: u32, sink: &mut K) ->
 }
 
 /// The script of a number.
-fn generated_script(alloc: Global, number: u64, size: u32) -> Result<Script, AllocError>
+pub(crate) fn generated_script(alloc: Global, number: u64, size: u32) -> Result<Script, AllocError>
     requires low { 1 ≤ size }
     requires high { size ≤ 100000 }
     ensures script { IfOk result IsScript }

@@ -2,13 +2,15 @@
 #![tactic(auto)]
 
 mod call;
+mod drill;
+mod facts;
 mod generated;
 mod importing;
-mod run;
 mod sim;
 pub mod status;
 mod writing;
 
-pub use call::{nomad_main, one_output, plain_call};
+pub use call::{nomad_main, plain_call};
+pub use facts::the_facts_hold_of_each_simulation;
 pub use sim::script_call;
 pub use status::Status;

@@ -3,17 +3,18 @@
 ghost use Rattle.std.specs.Prelude.{IfOk};
 ghost use Rattle.nm_script.specs.Script.{IsScript};
 ghost use Rattle.nm_top.specs.Answer.{IsSimCall, IsReading, IsScriptCall};
-ghost use Rattle.nm_top.specs.Output.{IsOutputOf, IsServed};
+ghost use Rattle.nm_top.specs.Output.{IsReportOf};
 
-use crate::run::{is_served, run};
+use crate::facts::the_facts_hold_of_each_simulation;
 use crate::status::{Status, status_of_read, status_of_text};
 use crate::writing::write_text;
 use nm_io::{Sink, Source, read_all};
-use nm_report::print_cpu;
+use nm_report::{Report, print};
+use nm_sched::simulate;
 use nm_script::{Script, parse};
 use std::alloc::{AllocError, Global};
 
-/// The command `sim`: it reads a script, runs it and writes its output.
+/// The command `sim`: it reads a script, runs it and writes the report of the run.
 pub fn sim_call<S: Source, K: Sink>(alloc: Global, source: &mut S, sink: &mut K) -> Status
     ensures { IsSimCall (record { left = S.left; faults = S.faults; gives = S.read_gives })
         (record { held = K.held; faults = K.faults; takes = K.write_takes })
@@ -41,28 +42,30 @@ fn read_script<S: Source>(alloc: Global, source: &mut S) -> Result<Script, Statu
     }
 }
 
-/// What `sim` answers to a script that it has read. `NotBuilt` comes exactly where the script is not served, which is
-/// decided without memory.
+/// What `sim` answers to a script that it has read: the report of its run is written once the whole text stands.
 pub fn script_call<K: Sink>(alloc: Global, script: &Script, sink: &mut K) -> Status
     requires { IsScript script.now }
     ensures { IsScriptCall (record { held = K.held; faults = K.faults; takes = K.write_takes })
         script.now sink.old sink.new result }
 {
-    if !is_served(script) {
-        return Status::NotBuilt;
-    }
-    match script_output(alloc, script) {
+    match report_text(alloc, script) {
         Ok(text) => write_text(sink, &text),
         Err(AllocError) => Status::Memory,
     }
 }
 
-/// The output of a script that is served.
-fn script_output(alloc: Global, script: &Script) -> Result<Vec<u8>, AllocError>
-    requires script { IsScript script.now }
-    requires served { IsServed script.now }
-    ensures { IfOk result (λ text. IsOutputOf script.now text.items) }
+/// The report of the run of a script. The lists of the run are given back.
+fn report_text(alloc: Global, script: &Script) -> Result<Vec<u8>, AllocError>
+    requires { IsScript script.now }
+    ensures { IfOk result (λ text. IsReportOf script.now text.items) }
 {
-    let results = run(alloc, script)?;
-    print_cpu(alloc, 0, &script.programs[0], &results)
+    the_facts_hold_of_each_simulation();
+    let run = simulate(alloc, script)?;
+    let report = Report {
+        script,
+        results: &run.results,
+        end: &run.end,
+        tally: run.tally,
+    };
+    print(alloc, &report)
 }

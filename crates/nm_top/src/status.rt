@@ -22,8 +22,6 @@ pub enum Status {
         /// The line where it is, from 1, or 0 where it is `TooLong`.
         line: u32,
     },
-    /// The bytes that were read are a script that `sim` can't run yet. Nothing was written.
-    NotBuilt,
     /// A read failed. Nothing was written.
     ReadFault,
     /// A write failed. The sink holds a part of the output, not all of it, behind what it held.
@@ -47,7 +45,7 @@ impl Status {
         match self {
             Status::Done => 0,
             Status::Usage => 2,
-            Status::Script { .. } | Status::NotBuilt => 3,
+            Status::Script { .. } => 3,
             Status::ReadFault => 4,
             Status::WriteFault => 5,
             Status::Memory => 6,
@@ -68,7 +66,6 @@ impl fmt::Display for Status {
                 let name = name_of(*fault);
                 write!(f, "nomad: line {line}: {name}")
             }
-            Status::NotBuilt => write!(f, "nomad: not built"),
             Status::ReadFault => write!(f, "nomad: read fault"),
             Status::WriteFault => write!(f, "nomad: write fault"),
             Status::Memory => write!(f, "nomad: memory"),

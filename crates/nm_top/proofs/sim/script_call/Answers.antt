@@ -1,0 +1,9 @@
+-- The report was written, or a write failed.
+use Rattle.std.proofs.Common.{subst, sym}
+use Rattle.nm_top.specs.Output.{IsReportOf}
+use Rattle.nm_top.proofs.Causes.{SomeTextCause-written}
+use Rattle.nm_top.proofs.sim.script_call.Goals as goal
+
+pub returns-in-Ok : goal.returns-in-Ok
+returns-in-Ok g c =
+    SomeTextCause-written _ _ _ (IsReportOf c.args.script.now) c.deref.result.now c.write_text.result (subst (IsReportOf c.args.script.now) (sym c.deref.ensures.value) c.in-Ok.ensures) c.write_text.ensures
