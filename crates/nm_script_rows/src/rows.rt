@@ -1,4 +1,0 @@
-//! The rows, by crate.
-
-mod reports;
-mod texts;
