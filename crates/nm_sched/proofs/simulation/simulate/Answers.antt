@@ -37,4 +37,4 @@ returns c =
     let pair : Script → Geometry × Option ℕ = λ s. (s.geometry, s.retry) in
     let made = c.in_ok-migrator.ensures.made ∙ ap pair c.script.view_is in
     let machine = c.in_ok-reclaimer.ensures.geometry ∙ ap (λ s. s.geometry) c.script.view_is in
-    run-with _ _ _ _ script _ (λ turns ended counts h. migrator-part _ _ script _ turns ended counts made h) (λ turns ended counts h. reclaimer-part _ _ script _ turns ended counts machine h) c.in_ok-run.ensures
+    run-with _ _ _ _ script _ (λ turns ended counts h. migrator-part script _ turns ended counts made h) (λ turns ended counts h. reclaimer-part _ _ script _ turns ended counts machine h) c.in_ok-run.ensures
