@@ -1,7 +1,8 @@
 -- The migrator of a script.
-use Rattle.std.proofs.Common.{◌≡◌, ◌∷◌, ℕ, zero, suc, Bool, [], Option, sym, subst, ◌∙◌}
+use Rattle.std.proofs.Common.{◌≡◌, ◌∷◌, ℕ, zero, suc, Bool, [], Option, Some, sym, subst, ◌∙◌}
 use Rattle.nm_base.specs.Geometry.{Geometry}
 use Rattle.nm_action.specs.declared.tally.Tally.{Tally}
+use Rattle.nm_action.specs.declared.turn.Turn.TheVariants.{End}
 use Rattle.nm_action.specs.declared.turn.Lane.{Lane}
 use Rattle.nm_action.specs.declared.turn.Lane.TheVariants.{Candidates}
 use Rattle.nm_actor.specs.Turns.{Turns}
@@ -9,9 +10,10 @@ use Rattle.nm_script.specs.Plain.{Script}
 use Rattle.nm_migrator.specs.Planned.{Kept, nothing_kept}
 use Rattle.nm_migrator.specs.Migrating as migrating
 use Rattle.nm_migrator.specs.Migrating.{Sequence, TakesTry, IsMigrating}
+use Rattle.nm_migrator.specs.declared.actor.MigratorActor.{MigratorActor}
 use Rattle.nm_migrator.specs.Parts.{migrator_made, worker_counted, AgreesMigrator, IsMigratorPart}
 use Rattle.nm_programs.specs.Runs.{HasPart}
-use Rattle.nm_sched.proofs.Acting.{front-none}
+use Rattle.nm_sched.proofs.Acting.{front-none, routine-acts}
 use Rattle.nm_sched.proofs.Ending.{routine-agreed}
 
 -- ---- the migrator takes a candidate first
@@ -29,6 +31,12 @@ turns-act g retry (suc rounds) kept h = takes-act g Candidates (migrating.AfterC
 
 pub migrating-acts : (g : Geometry) (retry : Option ℕ) → ¬ IsMigrating g retry [] tt
 migrating-acts g retry h = turns-act g retry h.tries (nothing_kept g) h.is
+
+-- so no migrator ends at once
+pub migrator-acts : (a : MigratorActor) → ¬ AgreesMigrator a [] (Some End)
+migrator-acts a h =
+    let made = migrator_made a in
+    routine-acts (IsMigrating made.0 made.1) (worker_counted a.worker) (migrating-acts made.0 made.1) h.part
 
 -- ---- its part
 
