@@ -1,15 +1,16 @@
 -- What the worker of the reclaimer agrees with is a reclaimer's part.
-use Rattle.std.proofs.Common.{◌≡◌, ℕ, [], Option, Some, None, sym, subst}
-use Rattle.nm_base.specs.Geometry.{Geometry, IsGeometry}
+use Rattle.std.proofs.Common.{[], Option, Some, None, refl}
+use Rattle.nm_base.specs.Geometry.{Geometry}
 use Rattle.nm_action.specs.declared.action.Action.{Action}
-use Rattle.nm_action.specs.declared.tally.Tally.{Tally}
 use Rattle.nm_action.specs.declared.turn.Turn.{Turn}
 use Rattle.nm_action.specs.declared.turn.Turn.TheVariants as turn
 use Rattle.nm_action.specs.Own.{Own}
 use Rattle.nm_action.specs.Tally.{sum_of}
+use Rattle.nm_view.specs.Opening.{opening}
 use Rattle.nm_view.specs.Views.{View}
 use Rattle.nm_actor.specs.Turns.{Turns, turns_view}
-use Rattle.nm_worker.specs.Workers.{FollowsRoutine}
+use Rattle.nm_worker.specs.Routines.{IsNextTask}
+use Rattle.nm_worker.specs.Workers.{FollowsRoutine, IsNewWorker}
 use Rattle.nm_worker.proofs.Ending.{known-at-end}
 use Rattle.nm_routine_part.specs.Parts.{is_end}
 use Rattle.nm_routine_part.proofs.Parts.{part-of-routine}
@@ -37,3 +38,9 @@ worker-empty is_new awaits w turns (Some turn.End) h =
 worker-empty is_new awaits w turns (Some (turn.Do action)) h = tt
 worker-empty is_new awaits w turns (Some (turn.Put lane page)) h = tt
 worker-empty is_new awaits w turns (Some (turn.Take lane)) h = tt
+
+-- a new worker agrees with no turns
+pub new-follows : (is_new : ReclaimerPiece → Type 0) (awaits : ReclaimerPiece → Geometry → View → Own → Action → Type 0) (w : ReclaimerWorker)
+    → IsNewWorker (IsNextTask work_made is_new MayWork IsWork work_counts (KnowsReclaiming w.routine) (ReclaimingLeft w.routine) (IsReclaiming w.routine.geometry.now) w.routine.geometry.now (opening w.routine.geometry.now (reclaimer_number w.routine.geometry.now)) w.task) w.routine.geometry.now (reclaimer_number w.routine.geometry.now) w.events w.ends w.spent
+    → FollowsReclaiming is_new awaits w [] None
+new-follows is_new awaits w new = record { notes = []; is = refl; next = refl; events = new.events; ends = new.ends; pages = new.pages; drawn = new.drawn; few = new.few; at = new.next }

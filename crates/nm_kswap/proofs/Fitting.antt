@@ -1,7 +1,7 @@
 -- What is left after the piece of a stage is what the stage at which the reclaimer goes on begins.
-use Rattle.std.proofs.Common.{◌≡◌, ℕ, zero, suc, ◌+◌, ◌-◌, nat_lt, nat_le, if◌then◌else◌, Bool, true, false, length, refl, sym, ap, subst, ◌∙◌, arith}
+use Rattle.std.proofs.Common.{◌≡◌, ℕ, zero, suc, ◌+◌, ◌-◌, nat_lt, nat_le, if◌then◌else◌, Bool, true, false, length, refl, sym, subst, arith}
 use Rattle.nm_base.specs.Geometry.{Geometry, page_count}
-use Rattle.nm_part.specs.Patterns.{Ends, Either, Follows, Sometimes}
+use Rattle.nm_part.specs.Patterns.{Either}
 use Rattle.nm_inspect.specs.declared.inspect.Inspected.{Inspected}
 use Rattle.nm_inspect.specs.declared.inspect.Inspected.TheVariants.{Elsewhere, InUse, Idle}
 use Rattle.nm_worker.specs.Notes.{Notes}
@@ -11,7 +11,7 @@ use Rattle.nm_kswap.specs.declared.stage.Stage.{Stage}
 use Rattle.nm_kswap.specs.declared.stage.Stage.TheVariants.{New, Asking, Counting, Inspecting, Demoting, Over}
 use Rattle.nm_kswap.specs.Works.{WorkEnd}
 use Rattle.nm_kswap.specs.Ends.{all_ended_in, level_in, inspected_in, demoted_in, drawn_in, freed_by}
-use Rattle.nm_kswap.specs.Reclaiming.{Sequence, hand_of, moved, with_drawn, marks_of, last_tier, has_vpage, AfterInspect, Inspects, Visit as Visited, Visits, Relieves, Tiers, Rounds}
+use Rattle.nm_kswap.specs.Reclaiming.{Sequence, hand_of, moved, with_drawn, marks_of, last_tier, has_vpage, AfterInspect, Inspects, Visits, Tiers}
 use Rattle.nm_kswap.specs.Knowing.{IsRunning}
 use Rattle.nm_kswap.specs.Stages.{Going, to_stage, tier_stage, to_visit, to_demote, going_on, AfterRound, AfterTier, AfterVisit, StageOn, StageLeft}
 

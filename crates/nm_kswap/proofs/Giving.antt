@@ -1,5 +1,5 @@
 -- The task of a stage is a next task, and which stage may come next.
-use Rattle.std.proofs.Common.{◌≡◌, ◌≢◌, ℕ, zero, suc, ◌+◌, ◌<◌, ◌≤◌, ◌%◌, nat_lt, nat_le, if◌then◌else◌, Bool, true, false, List, [], ◌∷◌, length, All, Option, Some, None, refl, sym, ap, subst, ◌∙◌, arith}
+use Rattle.std.proofs.Common.{◌≡◌, ◌≢◌, ℕ, zero, suc, ◌+◌, ◌<◌, ◌≤◌, nat_lt, nat_le, if◌then◌else◌, Bool, true, false, List, [], ◌∷◌, length, Option, refl, sym, subst, ◌∙◌, arith}
 use Rattle.std.proofs.lemmas.List.{length-set}
 use Rattle.std.proofs.lemmas.Nat.{mod_below}
 use Rattle.std.proofs.lemmas.List.Elements.{All-nil, All-cons, All-get_or, All-set}
@@ -9,17 +9,16 @@ use Rattle.nm_action.specs.Own.{Own}
 use Rattle.nm_view.specs.Opening.{opening}
 use Rattle.nm_view.specs.Views.{View}
 use Rattle.nm_compose.specs.declared.or.Or.TheVariants.{This, Other}
-use Rattle.nm_pool.specs.declared.job.PoolEnd.TheVariants as pools
 use Rattle.nm_inspect.specs.declared.inspect.Inspected.{Inspected}
 use Rattle.nm_inspect.specs.declared.inspect.Inspected.TheVariants as inspected
-use Rattle.nm_part.specs.Patterns.{Follows, Sometimes, CanEnd}
+use Rattle.nm_part.specs.Patterns.{Sometimes, CanEnd}
 use Rattle.nm_transfer.specs.Stages.{HoldsWords}
 use Rattle.nm_vpages.specs.VPages.{vpages_of}
 use Rattle.nm_worker.specs.declared.routine.Task.{Task}
 use Rattle.nm_worker.specs.declared.routine.Task.TheVariants.{Run, Put, Take, Stop}
 use Rattle.nm_worker.specs.declared.routine.Ended.{Ended}
 use Rattle.nm_worker.specs.declared.routine.Ended.TheVariants as ended
-use Rattle.nm_worker.specs.Notes.{Notes, IsWorkDone, IsTask}
+use Rattle.nm_worker.specs.Notes.{Notes, IsTask}
 use Rattle.nm_worker.specs.Routines.{task_data, IsTaskRun, IsStop, IsNextTask, IsTaskOver}
 use Rattle.nm_worker.proofs.Routing.{run-follows}
 use Rattle.nm_kswap.specs.declared.stage.Kept.{Kept}
@@ -33,8 +32,8 @@ use Rattle.nm_kswap.specs.Reclaiming.{Sequence, fresh_kept, IsReclaiming, hand_o
 use Rattle.nm_kswap.specs.Stages.{task_at, Going, to_stage, tier_stage, to_visit, to_demote, going_on, words_after, StageOn, StageLeft, TaskLeft}
 use Rattle.nm_kswap.specs.Knowing.{IsResting, AreHands, IsVisit, IsStageOf, IsRunning, HasWords, IsEndAt, IsAble, IsNewReclaiming, KnowsReclaiming, ReclaimingLeft, IsNewTask, GivesTask}
 use Rattle.nm_kswap.proofs.Lists.{left-can}
-use Rattle.nm_kswap.proofs.Fitting.{GoingOn, going-fits}
-use Rattle.nm_kswap.proofs.Resting.{IsPieceOver, IsOverIn, may-ask, may-level, may-inspect, may-demote, over-kind, over-runs, going-rests}
+use Rattle.nm_kswap.proofs.Fitting.{going-fits}
+use Rattle.nm_kswap.proofs.Resting.{IsOverIn, may-ask, may-level, may-inspect, may-demote, over-kind, over-runs, going-rests}
 
 -- The task of a stage.
 
@@ -66,11 +65,14 @@ runs-piece : (g : Geometry) (kept : Kept) (stage : Stage) (work : WorkMade) (now
     → knows now (Run work) → IsStageOf g stage → IsRunning stage → MayWork work g now
     → ((notes : Notes) (outcome : Unit {0}) → Sometimes (λ rounds. Does g work (λ end. StageLeft g kept stage end rounds)) notes outcome → was notes outcome)
     → NextIn knows (TaskLeft g kept stage) was g now (Run work)
-runs-piece g kept stage work now knows was known there runs may fits = (may, record {
-  known = known;
-  can = λ notes end done. task-can g kept stage work notes end there runs done;
-  fits = λ notes outcome f. fits notes outcome (does-some g work (StageLeft g kept stage) notes outcome (run-follows IsWork work_counts g work (TaskLeft g kept stage) notes outcome f));
-})
+runs-piece g kept stage work now knows was known there runs may fits = (
+  may,
+  record {
+    known = known;
+    can = λ notes end done. task-can g kept stage work notes end there runs done;
+    fits = λ notes outcome f. fits notes outcome (does-some g work (StageLeft g kept stage) notes outcome (run-follows IsWork work_counts g work (TaskLeft g kept stage) notes outcome f));
+  },
+)
 
 next-at : (g : Geometry) (kept : Kept) (stage : Stage) (now : View) (knows : View → Task WorkMade → Type 0) (was : Sequence)
     → knows now (task_at g kept stage) → IsStageOf g stage → IsResting g kept.spent now

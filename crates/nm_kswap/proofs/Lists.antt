@@ -1,17 +1,15 @@
 -- The pattern has a list from each stage on.
-use Rattle.std.proofs.Common.{◌≡◌, ◌≢◌, ℕ, zero, suc, ◌+◌, ◌-◌, ◌<◌, ◌≤◌, ◌==◌, nat_lt, nat_le, Bool, true, false, List, [], ◌∷◌, ◌++◌, length, refl, sym, ap, subst, ◌∙◌, arith}
-use Rattle.nm_base.specs.Geometry.{Geometry, IsGeometry, page_count}
+use Rattle.std.proofs.Common.{ℕ, zero, suc, ◌+◌, ◌-◌, ◌<◌, ◌≤◌, nat_lt, nat_le, Bool, true, [], ◌∷◌, ◌++◌, length, refl, arith}
+use Rattle.nm_base.specs.Geometry.{Geometry, page_count}
 use Rattle.nm_action.specs.declared.action.Action.TheVariants.{SeeAck}
 use Rattle.nm_action.specs.declared.action.Reply.TheVariants.{Word}
 use Rattle.nm_action.specs.declared.spent.Spent.{Spent}
 use Rattle.nm_action.specs.Own.{Own}
 use Rattle.nm_view.specs.Views.{end_word}
-use Rattle.nm_part.specs.Patterns.{Ends, Follows, Either, Sometimes, CanEnd}
-use Rattle.nm_part.proofs.Patterns.{can-ends, can-follow, can-either, can-sometimes}
-use Rattle.nm_compose.specs.Acts.{IsAct}
+use Rattle.nm_part.specs.Patterns.{Ends, Either, Sometimes, CanEnd}
+use Rattle.nm_part.proofs.Patterns.{can-ends, can-either, can-sometimes}
 use Rattle.nm_compose.specs.declared.or.Or.TheVariants.{This, Other}
-use Rattle.nm_ended.specs.Asking.{tells_end, AsksFrom, IsAsking}
-use Rattle.nm_pool.specs.Pool.{IsPool}
+use Rattle.nm_ended.specs.Asking.{AsksFrom}
 use Rattle.nm_pool.specs.declared.job.PoolJob.TheVariants.{Level}
 use Rattle.nm_pool.proofs.Begun.{some-pool}
 use Rattle.nm_inspect.specs.Inspecting.{InspectData}
@@ -20,15 +18,14 @@ use Rattle.nm_inspect.specs.declared.inspect.Inspected.TheVariants.{Elsewhere, I
 use Rattle.nm_inspect.proofs.Steps.{some-inspection}
 use Rattle.nm_demote.proofs.DemoteSteps.{some-demotion}
 use Rattle.nm_drawing.specs.Draws.{drawn_over}
-use Rattle.nm_worker.specs.Notes.{Notes, worked}
+use Rattle.nm_worker.specs.Notes.{worked}
 use Rattle.nm_kswap.specs.declared.stage.Kept.{Kept}
-use Rattle.nm_kswap.specs.declared.stage.Visit.{Visit}
 use Rattle.nm_kswap.specs.declared.stage.Stage.{Stage}
 use Rattle.nm_kswap.specs.declared.stage.Stage.TheVariants.{New, Asking, Counting, Inspecting, Demoting, Over}
 use Rattle.nm_kswap.specs.Works.{WorkMade, WorkEnd, IsWork, made_ask, made_level, made_inspect, made_demote}
 use Rattle.nm_kswap.specs.Ends.{all_ended_in, level_in, inspected_in, demoted_in, drawn_in, freed_by, work_counts}
-use Rattle.nm_kswap.specs.Reclaiming.{Sequence, hand_of, moved, with_drawn, marks_of, last_tier, has_vpage, fresh_kept, Does, Demotes, AfterInspect, Inspects, Visit as Visited, Visits, Relieves, Tiers, Round, Rounds, IsReclaiming}
-use Rattle.nm_kswap.specs.Stages.{AfterRound, AfterTier, AfterVisit, StageLeft, TaskLeft}
+use Rattle.nm_kswap.specs.Reclaiming.{Sequence, hand_of, moved, with_drawn, marks_of, last_tier, has_vpage, fresh_kept, Does, Demotes, AfterInspect, Inspects, Visit as Visited, Visits, Relieves, Tiers, Rounds, IsReclaiming}
+use Rattle.nm_kswap.specs.Stages.{AfterRound, AfterTier, AfterVisit, StageLeft}
 use Rattle.nm_kswap.specs.Knowing.{IsStageOf, IsRunning}
 
 -- The pieces.

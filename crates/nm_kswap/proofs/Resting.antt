@@ -1,12 +1,12 @@
 -- The pieces of the reclaimer's work begin in a view with nothing open, and leave such a one.
-use Rattle.std.proofs.Common.{◌≡◌, ◌≢◌, ℕ, zero, suc, ◌+◌, ◌<◌, ◌≤◌, ◌%◌, nat_lt, nat_le, if◌then◌else◌, Bool, true, false, List, [], ◌∷◌, length, map, All, Option, None, refl, sym, ap, subst, ◌∙◌, arith}
-use Rattle.nm_base.specs.Geometry.{Geometry, IsGeometry, page_count}
+use Rattle.std.proofs.Common.{◌≡◌, ℕ, zero, suc, ◌+◌, ◌<◌, nat_lt, nat_le, if◌then◌else◌, Bool, true, false, List, [], length, map, Option, refl, sym, ap, subst, ◌∙◌, arith}
+use Rattle.nm_base.specs.Geometry.{Geometry, page_count}
 use Rattle.nm_base.specs.Ranges.{IsPage}
 use Rattle.nm_action.specs.declared.spent.Spent.{Spent}
 use Rattle.nm_action.specs.Own.{Own}
 use Rattle.nm_view.specs.declared.view.Owned.{Owned}
 use Rattle.nm_view.specs.Lists.{find}
-use Rattle.nm_view.specs.Operations.{page_of, op_on}
+use Rattle.nm_view.specs.Operations.{page_of}
 use Rattle.nm_view.specs.Views.{Op, View}
 use Rattle.nm_event.specs.After.{spoiled, spoiled_frame, filled}
 use Rattle.nm_compose.specs.declared.or.Or.TheVariants.{This, Other}
@@ -19,9 +19,9 @@ use Rattle.nm_demote.specs.declared.select.DemoteMade.{DemoteMade}
 use Rattle.nm_demote.specs.declared.demote.DemoteEnd.{DemoteEnd}
 use Rattle.nm_demote.specs.declared.demote.DemoteEnd.TheVariants.{Remapped, Copied, NoFrame, Gone, Worn, Busy}
 use Rattle.nm_demote.specs.Leaving.{IsDemoteLeft}
-use Rattle.nm_worker.specs.Routines.{IsDrawn, IsLeftEmpty}
+use Rattle.nm_worker.specs.Routines.{IsLeftEmpty}
 use Rattle.nm_worker.specs.declared.routine.Task.{Task}
-use Rattle.nm_worker.specs.declared.routine.Task.TheVariants.{Run, Put, Take, Stop}
+use Rattle.nm_worker.specs.declared.routine.Task.TheVariants.{Run}
 use Rattle.nm_kswap.specs.declared.stage.Kept.{Kept}
 use Rattle.nm_kswap.specs.declared.stage.Visit.{Visit}
 use Rattle.nm_kswap.specs.declared.stage.Stage.{Stage}
@@ -29,7 +29,7 @@ use Rattle.nm_kswap.specs.declared.stage.Stage.TheVariants.{New, Asking, Countin
 use Rattle.nm_kswap.specs.Works.{WorkMade, WorkEnd, MayWork, IsWork, WorkLeaves, made_ask, made_level, made_inspect, made_demote}
 use Rattle.nm_kswap.specs.Ends.{drawn_in, demoted_in, level_in, inspected_in, freed_by}
 use Rattle.nm_kswap.specs.Reclaiming.{hand_of, moved, with_drawn, marks_of, has_vpage}
-use Rattle.nm_kswap.specs.Stages.{task_at, Going, to_stage, tier_stage, to_visit, to_demote, going_on}
+use Rattle.nm_kswap.specs.Stages.{task_at, to_stage, tier_stage, to_visit, to_demote, going_on}
 use Rattle.nm_kswap.specs.Knowing.{IsResting, IsRunning, IsEndAt}
 
 -- They may begin.

@@ -1,13 +1,12 @@
 -- The visits of a tier, one by one.
-use Rattle.std.proofs.Common.{◌≡◌, ℕ, zero, suc, ◌+◌, ◌-◌, ◌<◌, ◌≤◌, ◌↔◌, ◌%◌, ◌^◌, IsTrue, nat_lt, nat_le, if◌then◌else◌, Bool, true, false, slice_set, length, refl, sym, ap, subst, ◌∙◌, arith}
+use Rattle.std.proofs.Common.{◌≡◌, ℕ, zero, suc, ◌+◌, ◌-◌, ◌<◌, ◌≤◌, ◌↔◌, ◌%◌, ◌^◌, IsTrue, nat_lt, nat_le, if◌then◌else◌, Bool, true, false, slice_set, length, refl, sym, subst, arith}
 use Rattle.std.proofs.lemmas.List.Elements.{All-get_or}
 use Rattle.nm_base.specs.Geometry.{Geometry, IsGeometry, page_count}
 use Rattle.nm_base.specs.Ranges.{IsPage}
 use Rattle.nm_kswap.specs.declared.stage.Kept.{Kept}
-use Rattle.nm_kswap.specs.declared.stage.Stage.{Stage}
 use Rattle.nm_kswap.specs.declared.stage.Stage.TheVariants.{Inspecting}
 use Rattle.nm_kswap.specs.Reclaiming.{hand_of, moved, marks_of, has_vpage}
-use Rattle.nm_kswap.specs.Stages.{Going, to_stage, tier_stage, to_visit}
+use Rattle.nm_kswap.specs.Stages.{to_stage, tier_stage, to_visit}
 use Rattle.nm_kswap.specs.Knowing.{AreHands}
 use Rattle.nm_kswap.proofs.Giving.{moved-hands}
 

@@ -1,5 +1,5 @@
 -- The reclaimer's part of a run, and what the actor says of itself.
-use Rattle.std.specs.Prelude.{ℕ, ◌+◌, Bool, true, false, [], Option}
+use Rattle.std.specs.Prelude.{ℕ, ◌+◌, Bool, true, false, Option}
 use Rattle.nm_base.specs.Geometry.{Geometry, IsGeometry}
 use Rattle.nm_action.specs.declared.tally.Tally.{Tally}
 use Rattle.nm_action.specs.declared.turn.Turn.{Turn}
@@ -34,16 +34,10 @@ ReclaimerWorker = Worker Reclaiming ReclaimerPiece
 abbrev pub reclaimer_geometry : ReclaimerActor → Geometry
 reclaimer_geometry a = a.worker.routine.geometry.now
 
--- the actor agrees with these turns, the last of which awaits its answer: they are a reclaimer's part, and the tally is what it
--- has counted
+-- the actor agrees with these answered turns, and awaits the answer to the one given last: they are a reclaimer's part, and the
+-- tally is what it has counted
 pub record AgreesReclaimer (agrees : ReclaimerWorker → Turns → Option Turn → Type 0) (counted : ReclaimerWorker → Tally) (a : ReclaimerActor) (turns : Turns) (last : Option Turn) : Type 0 where
   pub geometry : IsGeometry (reclaimer_geometry a)
   pub worker : agrees a.worker turns last
   pub part : IsReclaimerPart (reclaimer_geometry a) turns (is_end last) (counted a.worker)
   pub empty : IsEmptyAtEnd (is_end last) (turns_view (reclaimer_geometry a) (reclaimer_number (reclaimer_geometry a)) turns)
-
--- the actor has given no turn
-pub record IsNewReclaimer (is_new : ReclaimerWorker → Type 0) (counted : ReclaimerWorker → Tally) (a : ReclaimerActor) : Type 0 where
-  pub geometry : IsGeometry (reclaimer_geometry a)
-  pub worker : is_new a.worker
-  pub part : IsReclaimerPart (reclaimer_geometry a) [] false (counted a.worker)

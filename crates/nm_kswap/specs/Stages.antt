@@ -8,7 +8,6 @@ use Rattle.nm_worker.specs.declared.routine.Task.{Task}
 use Rattle.nm_worker.specs.declared.routine.Task.TheVariants.{Run, Stop}
 use Rattle.nm_worker.specs.declared.routine.Ended.{Ended}
 use Rattle.nm_worker.specs.declared.routine.Ended.TheVariants as ended
-use Rattle.nm_worker.specs.Notes.{Notes}
 use Rattle.nm_kswap.specs.declared.stage.Kept.{Kept}
 use Rattle.nm_kswap.specs.declared.stage.Visit.{Visit}
 use Rattle.nm_kswap.specs.declared.stage.Stage.{Stage}

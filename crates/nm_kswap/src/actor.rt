@@ -1,7 +1,7 @@
 //! The reclaimer.
 
-ghost use Rattle.std.specs.Prelude.{◌≡◌, IfOk};
-ghost use Rattle.nm_kswap.specs.Parts.{reclaimer_geometry, IsNewReclaimer};
+ghost use Rattle.std.specs.Prelude.{◌≡◌, [], IfOk, None};
+ghost use Rattle.nm_kswap.specs.Parts.{reclaimer_geometry, AgreesReclaimer};
 
 use crate::reclaiming::Reclaiming;
 use crate::work::ReclaimerPiece;
@@ -24,7 +24,7 @@ impl<'a> ReclaimerActor<'a> {
     /// The reclaimer of a geometry. The only error is want of memory; no other call takes memory.
     pub fn new(alloc: Global, g: &'a Geometry) -> Result<ReclaimerActor<'a>, AllocError>
         ensures geometry { IfOk result (λ a. reclaimer_geometry a ≡ g.now) }
-        ensures new { IfOk result (IsNewReclaimer ⟦<ReclaimerWorker<'a> as Actor>⟧.is_new ⟦<ReclaimerWorker<'a> as Actor>⟧.counted) }
+        ensures new { IfOk result (λ a. AgreesReclaimer ⟦<ReclaimerWorker<'a> as Actor>⟧.agrees ⟦<ReclaimerWorker<'a> as Actor>⟧.counted a [] None) }
     {
         let routine = Reclaiming::new(alloc, g)?;
         Ok(ReclaimerActor {
@@ -36,7 +36,8 @@ impl<'a> ReclaimerActor<'a> {
 impl<'a> Actor for ReclaimerActor<'a> {
     type Made = Geometry;
 
-    ghost use Rattle.nm_kswap.specs.Parts.{reclaimer_geometry, reclaimer_number, IsNewReclaimer, AgreesReclaimer};
+    ghost use Rattle.std.specs.Prelude.{[], None};
+    ghost use Rattle.nm_kswap.specs.Parts.{reclaimer_geometry, reclaimer_number, AgreesReclaimer};
 
     ghost made = { reclaimer_geometry };
 
@@ -44,7 +45,8 @@ impl<'a> Actor for ReclaimerActor<'a> {
 
     ghost number = { reclaimer_number };
 
-    ghost is_new = { IsNewReclaimer ⟦<ReclaimerWorker<'a> as Actor>⟧.is_new ⟦<ReclaimerWorker<'a> as Actor>⟧.counted };
+    // it agrees with no turns
+    ghost is_new = { λ a. AgreesReclaimer ⟦<ReclaimerWorker<'a> as Actor>⟧.agrees ⟦<ReclaimerWorker<'a> as Actor>⟧.counted a [] None };
 
     ghost agrees = { AgreesReclaimer ⟦<ReclaimerWorker<'a> as Actor>⟧.agrees ⟦<ReclaimerWorker<'a> as Actor>⟧.counted };
 
@@ -58,5 +60,5 @@ impl<'a> Actor for ReclaimerActor<'a> {
         self.worker.tally()
     }
 
-    ghost opens = { λ a new. record { geometry = new.geometry; worker = ⟦<ReclaimerWorker<'a> as Actor>⟧.opens a.worker new.worker; part = new.part; empty = tt } };
+    ghost opens = { λ a new. new };
 }

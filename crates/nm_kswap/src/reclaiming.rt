@@ -97,14 +97,7 @@ fn tier_stage(g: &Geometry, last: bool, tier: u32) -> Stage
 }
 
 /// Where it goes on with so many visits at most by a tier of this counted level. The hand of the tier goes on.
-fn to_visit(
-    g: &Geometry,
-    kept: &mut Kept,
-    last: bool,
-    tier: u32,
-    level: u32,
-    left: u32,
-) -> Stage
+fn to_visit(g: &Geometry, kept: &mut Kept, last: bool, tier: u32, level: u32, left: u32) -> Stage
     requires geometry { IsGeometry g.now }
     requires tier { tier + 1 < length g.now.tiers }
     requires hands { AreHands g.now kept.old.hands }
@@ -186,8 +179,14 @@ impl<'a> Reclaiming<'a> {
                 let Or::Other(end) = end else { unreachable!() };
                 let Or::This(found) = end else { unreachable!() };
                 match found {
-                    Inspected::Elsewhere | Inspected::InUse =>
-                        to_visit(g, &mut self.kept, visit.last, visit.tier, visit.level, visit.left),
+                    Inspected::Elsewhere | Inspected::InUse => to_visit(
+                        g,
+                        &mut self.kept,
+                        visit.last,
+                        visit.tier,
+                        visit.level,
+                        visit.left,
+                    ),
                     Inspected::Idle => Stage::Demoting(visit),
                 }
             }

@@ -1,8 +1,8 @@
 //! An inspection and a demotion, as parts with names of their own.
 
+use nm_base::Geometry;
 use nm_compose::Composite;
 use nm_demote::{Demote, DemoteMade, DemoteOver, DemotePiece};
-use nm_base::Geometry;
 use nm_event::{Action, Reply, Step};
 use nm_inspect::{Inspect, InspectMade, InspectPiece, Inspected};
 use nm_part::{Part, Piece};
