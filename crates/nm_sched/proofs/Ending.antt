@@ -1,5 +1,5 @@
 -- What the reclaimer agrees with at the end is its part of the turns.
-use Rattle.std.proofs.Common.{◌≡◌, ℕ, Bool, Option, Some, refl, sym, subst, ◌∙◌}
+use Rattle.std.proofs.Common.{◌≡◌, ◌<◌, ℕ, [], Bool, Option, Some, arith, refl, sym, subst, ◌∙◌}
 use Rattle.nm_base.specs.Geometry.{Geometry}
 use Rattle.nm_action.specs.declared.tally.Tally.{Tally}
 use Rattle.nm_action.specs.declared.turn.Turn.{Turn}
@@ -9,9 +9,11 @@ use Rattle.nm_play.specs.Played as play
 use Rattle.nm_script.specs.Plain.{Script}
 use Rattle.nm_routine_part.specs.Parts as routine
 use Rattle.nm_kswap.specs.declared.actor.ReclaimerActor.{ReclaimerActor}
+use Rattle.nm_kswap.specs.Reclaiming.{IsReclaiming}
 use Rattle.nm_kswap.specs.Parts.{ReclaimerWorker, reclaimer_geometry, AgreesReclaimer, IsReclaimerPart}
 use Rattle.nm_crew.specs.Crewed.{IsAgreed}
 use Rattle.nm_programs.specs.Runs.{HasPart}
+use Rattle.nm_sched.proofs.Acting.{reclaiming-acts, routine-acts}
 
 -- ---- End
 
@@ -28,6 +30,13 @@ routine-agreed agrees part turns ended tells h =
     subst P (routine-end h.last ∙ sym h.given) (tells turns (Some h.last) h.agreed)
 
 -- ---- the reclaimer
+
+-- it does not end at once
+pub reclaimer-acts : (agrees : ReclaimerWorker → Turns → Option Turn → Type 0) (counted : ReclaimerWorker → Tally) (a : ReclaimerActor) → ¬ AgreesReclaimer agrees counted a [] (Some End)
+reclaimer-acts agrees counted a h =
+    let g = reclaimer_geometry a in
+    let some : 0 < g.cpus = omega (arith, h.geometry.ranges.2.0) in
+    routine-acts (IsReclaiming g) (counted a.worker) (reclaiming-acts g some) h.part
 
 pub reclaimer-part : (agrees : ReclaimerWorker → Turns → Option Turn → Type 0) (counted : ReclaimerWorker → Tally) (script : Script) (made_with : Geometry) (turns : Turns) (ended : Bool) (counts : Tally)
     → made_with ≡ script.geometry → HasPart reclaimer_geometry (AgreesReclaimer agrees counted) (λ a. counted a.worker) made_with turns ended counts

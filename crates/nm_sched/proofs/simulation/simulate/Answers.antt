@@ -1,10 +1,9 @@
-use Rattle.std.proofs.Common.{◌<◌, ◌+◌, ℕ, Option, ap, ◌∙◌, arith}
+use Rattle.std.proofs.Common.{◌+◌, ℕ, Option, ap, ◌∙◌}
 use Rattle.nm_base.specs.Geometry.{Geometry}
 use Rattle.nm_script.specs.Plain.{Script}
 use Rattle.nm_programs.proofs.Running.{run-with}
-use Rattle.nm_sched.proofs.Acting.{reclaiming-acts, routine-acts}
-use Rattle.nm_sched.proofs.Migrators.{migrating-acts, migrator-part}
-use Rattle.nm_sched.proofs.Ending.{reclaimer-part}
+use Rattle.nm_sched.proofs.Migrators.{migrator-acts, migrator-part}
+use Rattle.nm_sched.proofs.Ending.{reclaimer-acts, reclaimer-part}
 use Rattle.nm_sched.proofs.simulation.simulate.Goals as goal
 
 pub run_programs-requires-clause-migrator : goal.run_programs-requires-clause-migrator
@@ -26,10 +25,10 @@ run_programs-requires-clause-reclaimer c =
     }
 
 pub run_programs-requires-clause-migrator_acts : goal.run_programs-requires-clause-migrator_acts
-run_programs-requires-clause-migrator_acts c = λ x h. routine-acts _ _ (migrating-acts _ _) h.part
+run_programs-requires-clause-migrator_acts c = λ x h. migrator-acts x h
 
 pub run_programs-requires-clause-reclaimer_acts : goal.run_programs-requires-clause-reclaimer_acts
-run_programs-requires-clause-reclaimer_acts c = λ x h. routine-acts _ _ (reclaiming-acts _ (omega (arith, h.geometry.ranges.2.0))) h.part
+run_programs-requires-clause-reclaimer_acts c = λ x h. reclaimer-acts _ _ x h
 
 pub returns : goal.returns
 returns c =
@@ -37,4 +36,4 @@ returns c =
     let pair : Script → Geometry × Option ℕ = λ s. (s.geometry, s.retry) in
     let made = c.in_ok-migrator.ensures.made ∙ ap pair c.script.view_is in
     let machine = c.in_ok-reclaimer.ensures.geometry ∙ ap (λ s. s.geometry) c.script.view_is in
-    run-with _ _ _ _ script _ (λ turns ended counts h. migrator-part _ _ script _ turns ended counts made h) (λ turns ended counts h. reclaimer-part _ _ script _ turns ended counts machine h) c.in_ok-run.ensures
+    run-with _ _ _ _ script _ (λ turns ended counts h. migrator-part script _ turns ended counts made h) (λ turns ended counts h. reclaimer-part _ _ script _ turns ended counts machine h) c.in_ok-run.ensures
