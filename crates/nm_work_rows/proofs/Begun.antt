@@ -1,5 +1,5 @@
 -- Faults and batches that may begin.
-use Rattle.std.proofs.Common.{◌≡◌, ◌<◌, ◌≤◌, ℕ, List, [], length, Some, refl, sym, ap, subst, ◌∙◌}
+use Rattle.std.proofs.Common.{◌≡◌, ◌≤◌, ℕ, List, length, Some, refl, sym, ap, subst, ◌∙◌, arith}
 use Rattle.nm_base.specs.Geometry.{Geometry, IsGeometry, backing_page}
 use Rattle.nm_base.specs.Ranges.{IsPage, IsVPage}
 use Rattle.nm_action.specs.declared.spent.Spent.{Spent}
@@ -11,7 +11,7 @@ use Rattle.nm_fault.specs.Tasks.{FaultBegun, fault_in, fault_at, page_or}
 use Rattle.nm_batch.specs.declared.batch.BatchAsked.{BatchAsked}
 use Rattle.nm_batch.specs.Leaving.{most_pieces, MayBatch}
 use Rattle.nm_batch.specs.Places.{batch_made}
-use Rattle.nm_work_rows.specs.Reached.{IsReached, IsFree, IsFaulting, ArePieces}
+use Rattle.nm_work_rows.specs.Reached.{IsFree, IsFaulting, pieces_of, ArePieces}
 
 -- a fault on a mapped virtual page may begin
 pub may-begin-fault : (g : Geometry) (actor vpage page : ℕ) (view : View) → IsGeometry g → backing_page g vpage ≡ Some page → IsVPage g vpage → IsPage g page → IsFree g actor view → IsFaulting g actor vpage view
@@ -43,3 +43,10 @@ pub begun-batch : (x : Geometry × BatchAsked) (k g : Geometry) (actor : ℕ) (p
 begun-batch x k g actor pieces spent view is same limits few drawn h =
     let M : Geometry × BatchAsked → Type 0 = λ y. MayBatch y.0 (batch_made y.1) g view in
     subst M (sym is) (record { same = same; geometry = limits; few = few; pages = h.pages; once = h.once; alone = h.free.none; turn = h.free.turn; spent = drawn })
+
+-- three of them are few
+pub begun-three : (x : Geometry × BatchAsked) (k g : Geometry) (actor a b d : ℕ) (spent : Spent) (view : View)
+    → x ≡ record { 0 = k; 1 = record { pieces = pieces_of a b d; spent = spent } } → k ≡ g → IsGeometry g → spent ≡ spent_by view → ArePieces g actor (pieces_of a b d) view
+    → MayBatch x.0 (batch_made x.1) g view
+begun-three x k g actor a b d spent view is same limits drawn h =
+    begun-batch x k g actor (pieces_of a b d) spent view is same limits (omega arith) drawn h

@@ -1,5 +1,5 @@
 -- States that runs reach, and what an actor does there.
-use Rattle.std.specs.Prelude.{◌≡◌, ◌≢◌, ℕ, List, [], All, None}
+use Rattle.std.specs.Prelude.{◌≡◌, ◌≢◌, ℕ, List, [], ◌∷◌, All, None}
 use Rattle.nm_base.specs.Geometry.{Geometry, IsGeometry}
 use Rattle.nm_base.specs.Ranges.{IsPage}
 use Rattle.nm_action.specs.declared.action.Action.{Action}
@@ -40,6 +40,10 @@ pub record IsFree (g : Geometry) (actor : ℕ) (view : View) : Type 0 where
 pub record IsFaulting (g : Geometry) (actor vpage : ℕ) (view : View) : Type 0 where
   pub free : IsFree g actor view
   pub may : MayFault (record { 0 = g; 1 = fault_at g vpage }) g view
+
+-- three pages, each with the virtual page of its number
+abbrev pub pieces_of : ℕ → ℕ → ℕ → List (ℕ × ℕ)
+pieces_of a b c = (a, a) ∷ (b, b) ∷ (c, c) ∷ []
 
 -- a batch of these pieces may begin: their pages are there, and none stands twice
 pub record ArePieces (g : Geometry) (actor : ℕ) (pieces : List (ℕ × ℕ)) (view : View) : Type 0 where

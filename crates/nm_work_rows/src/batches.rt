@@ -205,7 +205,7 @@ const THREE_ENDS: &[Deed] = &[
     CALMED,
     Deed::Works(
         1,
-        Work::Batch([(0, 0), (1, 1), (2, 2)]),
+        Work::Batch(0, 1, 2),
         &[
             begun!(0, 4, 0x3007, 7),
             ready!(0, 0, 0x3007, 7),
@@ -228,11 +228,11 @@ const THREE_ENDS: &[Deed] = &[
             ABORTED,
         ],
         0,
-        End::Batch([
+        End::Batch(
             TxnEnd::Committed,
             TxnEnd::Aborted(0x401d),
             TxnEnd::NoFrame(1),
-        ]),
+        ),
     ),
 ];
 

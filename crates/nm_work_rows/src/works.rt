@@ -4,7 +4,7 @@ ghost use Rattle.std.specs.Prelude.{◌≡◌, [], ◌∷◌, length, IsTrue, If
 ghost use Rattle.nm_prepare.specs.Ready.{spent_by};
 ghost use Rattle.nm_locked_task.specs.Tasks.{locked_task_made, IsIdle};
 ghost use Rattle.nm_core.specs.State.{view_of};
-ghost use Rattle.nm_work_rows.specs.Reached.{IsReached, IsFaulting, ArePieces};
+ghost use Rattle.nm_work_rows.specs.Reached.{IsReached, IsFaulting, pieces_of, ArePieces};
 
 use crate::driver::{Line, is_free, play};
 use nm_action::Spent;
@@ -36,8 +36,8 @@ pub enum Work {
     LockedMove(u32, u32),
     /// The demotion of a page.
     Demotion(u32),
-    /// The batch of three pages, each with a virtual page.
-    Batch([(u32, u32); 3]),
+    /// The batch of three pages, each with the virtual page of its number.
+    Batch(u32, u32, u32),
 }
 
 /// How it ends.
@@ -48,7 +48,7 @@ pub enum End {
     Transaction(TxnEnd),
     LockedMove(LockedEnd),
     Demotion(DemoteEnd),
-    Batch([TxnEnd; 3]),
+    Batch(TxnEnd, TxnEnd, TxnEnd),
 }
 
 /// What a view has drawn.
@@ -200,12 +200,11 @@ fn demotion(
     Ok(Some(play(rt, g, state, actor, &mut part, lines)))
 }
 
-/// Whether an actor may begin a batch of these pieces: their pages are there and differ, and the actor may begin work.
-fn are_pieces(g: &Geometry, state: &State, actor: u32, pieces: [(u32, u32); 3]) -> bool
+/// Whether an actor may begin a batch of three pages: they are there and differ, and the actor may begin work.
+fn are_pieces(g: &Geometry, state: &State, actor: u32, a: u32, b: u32, c: u32) -> bool
     requires { IsReached g.now state.now }
-    ensures { IsTrue result → ArePieces g.now actor pieces (view_of state.now actor) }
+    ensures { IsTrue result → ArePieces g.now actor (pieces_of a b c) (view_of state.now actor) }
 {
-    let [(a, _), (b, _), (c, _)] = pieces;
     let there = a < g.pages() && b < g.pages() && c < g.pages();
     there && a != b && a != c && b != c && is_free(g, state, actor)
 }
@@ -218,31 +217,31 @@ fn end_at(rt: &impl Abort, part: &BatchTask<'_>, count: u32, i: u32) -> TxnEnd
     part.end_of(i)
 }
 
-/// The batch of three pieces. None where it may not begin. The only error is want of memory.
+/// The batch of three pages, each with the virtual page of its number. None where it may not begin. The only error is want of
+/// memory.
 fn batch(
     rt: &impl Abort,
     alloc: Global,
     g: &Geometry,
     state: &mut State,
     actor: u32,
-    pieces: [(u32, u32); 3],
+    pages: (u32, u32, u32),
     lines: &[Line],
-) -> Result<Option<([TxnEnd; 3], u32)>, AllocError>
+) -> Result<Option<(End, u32)>, AllocError>
     requires { IsReached g.now state.old }
     ensures { IsReached g.now state.new }
 {
-    if !are_pieces(g, state, actor, pieces) {
+    let (a, b, c) = pages;
+    if !are_pieces(g, state, actor, a, b, c) {
         return Ok(None);
     }
     let mut part = BatchTask::new(alloc, g)?;
-    part.begin(spent_by(state.view(actor)), &pieces);
+    part.begin(spent_by(state.view(actor)), &[(a, a), (b, b), (c, c)]);
     let (count, more) = play(rt, g, state, actor, &mut part, lines);
-    let ends = [
-        end_at(rt, &part, count, 0),
-        end_at(rt, &part, count, 1),
-        end_at(rt, &part, count, 2),
-    ];
-    Ok(Some((ends, more)))
+    let first = end_at(rt, &part, count, 0);
+    let second = end_at(rt, &part, count, 1);
+    let third = end_at(rt, &part, count, 2);
+    Ok(Some((End::Batch(first, second, third), more)))
 }
 
 /// Runs a piece of work as the lines say, and then to its end: how it ends, and how many actions it made after the last line.
@@ -290,10 +289,7 @@ pub fn run(
             end,
             more,
         )| (End::Demotion(end), more)),
-        Work::Batch(pieces) => batch(rt, alloc, g, state, actor, pieces, lines)?.map(|(
-            ends,
-            more,
-        )| (End::Batch(ends), more)),
+        Work::Batch(a, b, c) => batch(rt, alloc, g, state, actor, (a, b, c), lines)?,
     };
     Ok(ended)
 }
