@@ -64,7 +64,9 @@ settled yes
 /// Runs a script with this program, and compares the report.
 fn reports(rt: &impl Abort, alloc: Global, program: &[u8], made: &[u8]) -> Result<(), Fail> {
     let mut text = Vec::new(alloc);
-    text.extend_from_slice(b"nomad 1\npage 4\ntiers 4 8\ncpus 1\nserial turns 1000\nmap 0 0 rw\ncpu 0\n")?;
+    text.extend_from_slice(
+        b"nomad 1\npage 4\ntiers 4 8\ncpus 1\nserial turns 1000\nmap 0 0 rw\ncpu 0\n",
+    )?;
     text.extend_from_slice(program)?;
     let mut report = Vec::new(alloc);
     report.extend_from_slice(b"cpu 0\n")?;

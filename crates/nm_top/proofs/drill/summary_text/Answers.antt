@@ -16,7 +16,7 @@ pub returns : goal.returns
 returns c =
     let report : Report = record { script = c.args.script.now; results = map (λ v. v.items) c.deref.result.now; end = c.run.inside.end; tally = c.run.inside.tally } in
     let listed : report ≡ record { script = c.args.script.now; results = map (λ v. v.items) c.run.inside.results.items; end = c.run.inside.end; tally = c.run.inside.tally } =
-        ap (λ l. record { script = c.args.script.now; results = map (λ v. v.items) l; end = c.run.inside.end; tally = c.run.inside.tally }) c.deref.ensures.value in
+    ap (λ l. record { script = c.args.script.now; results = map (λ v. v.items) l; end = c.run.inside.end; tally = c.run.inside.tally }) c.deref.ensures.value in
     let same : report ≡ report_of c.args.script.now c.in_ok-run.run' = listed ∙ ap (report_of c.args.script.now) c.run.view_is in
     let holds = c.the_facts_hold_of_each_simulation.ensures c.args.script.now c.in_ok-run.run' c.requires.script c.in_ok-run.ensures in
     IfOk-weaker c.summary.result _ _
