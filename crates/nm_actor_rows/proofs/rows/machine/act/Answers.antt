@@ -4,7 +4,7 @@ use Rattle.nm_permit.specs.Permitted.{Allowed}
 use Rattle.nm_core.specs.State.{view_of}
 use Rattle.nm_actor_rows.specs.Following.{IsMade}
 use Rattle.nm_actor_rows.proofs.Acting.{start-heard, acting-first, acting-allowed, acting-heard, acting-more, acting-still}
-use Rattle.nm_actor_rows.proofs.rows.machine.act.Goals.{in-Other+else-assert, in-Gives+in-Do+else-assert+else-not-made}
+use Rattle.nm_actor_rows.proofs.rows.machine.act.Goals.{in-Other+else-assert, in-Gives+in-Do+else-assert-2+else-not-made}
 use Rattle.nm_actor_rows.proofs.rows.machine.act.Goals as goal
 
 pub next-turn-requires : goal.next-turn-requires
@@ -36,7 +36,7 @@ loop-line-preserved g c = elim c.match-line.branch [
         c.loop-line.invariant.1,
         acting-still _ _ _ _ _ _ w.intrude-made.ensures.view c.loop-line.invariant.2,
       )
-  | in-Gives+in-Do+else-assert+else-not-made w ↦
+  | in-Gives+in-Do+else-assert-2+else-not-made w ↦
       let M : Geometry → Type 0 = λ geometry. IsMade geometry (view_of c.loop-line.state c.args.number) (view_of w.make-made.new.state c.args.number) w.in-Do.given w.in-Gives.reply in
       let made = subst M (c.loop-line.invariant.0 ∙ sym c.requires.geometry) (w.make-made.ensures.made (search rules)) in
       rw (w.state-is, w.actor-is, w.turn-is) (
