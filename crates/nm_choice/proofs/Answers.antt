@@ -1,5 +1,5 @@
 -- Replies are the same or not.
-use Rattle.std.proofs.Common.{◌≡◌, ◌≢◌, ◌⊎◌, inl, inr, ℕ, zero, suc, refl, sym, ap, ap₂, ◌∙◌}
+use Rattle.std.proofs.Common.{◌≡◌, ◌≢◌, ◌⊎◌, inl, inr, ℕ, zero, suc, refl, sym, ap, ap₂, ◌∙◌, arith}
 use Rattle.std.proofs.lemmas.Bool.{cases_eq}
 use Rattle.nm_action.specs.declared.action.Reply.{Reply}
 use Rattle.nm_action.specs.declared.action.Reply.TheVariants.{Done, Word, Busy, Lost}
@@ -35,3 +35,15 @@ by_parts one two (inr other) number = inr (λ same. other (ap reply_kind same))
 
 pub same-reply : (one two : Reply) → (one ≡ two) ⊎ (one ≢ two)
 same-reply one two = by_parts one two (cases_eq (reply_kind one) (reply_kind two)) (cases_eq (reply_number one) (reply_number two))
+
+pub words-apart : (n m : ℕ) → n ≢ m → Word n ≢ Word m
+words-apart n m other same = other (ap reply_number same)
+
+pub busies-apart : (n m : ℕ) → n ≢ m → Busy n ≢ Busy m
+busies-apart n m other same = other (ap reply_number same)
+
+pub done-not-busy : (n : ℕ) → Done ≢ Busy n
+done-not-busy n same = let bad : 0 ≡ 2 = ap reply_kind same in absurd (omega (arith, bad))
+
+pub busy-not-done : (n : ℕ) → Busy n ≢ Done
+busy-not-done n same = done-not-busy n (sym same)

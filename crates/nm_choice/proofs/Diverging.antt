@@ -45,3 +45,7 @@ part-as apart own other now then is other_is d = record {
 
 pub both-same : {E O : Type 0} (own other : List E) (outcome end : O) → own ≡ other → outcome ≡ end → Coincide own outcome other end
 both-same own other outcome end list ends = record { list = list; ends = ends }
+
+pub part-next : {E : Type 0} (apart : E → E → Type 0) (one two : E) (own other : List E) → one ≡ two → Diverge apart own other → Diverge apart (one ∷ own) (two ∷ other)
+part-next {E} apart one two own other same d =
+    part-as apart (one ∷ own) (two ∷ other) (one ∷ own) (one ∷ other) refl (ap (λ (e : E). e ∷ other) (sym same)) (part-behind apart (one ∷ []) own other d)
