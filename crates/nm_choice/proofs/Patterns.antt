@@ -1,8 +1,8 @@
 -- Patterns leave no choice where those that they are joined of leave none. Each lemma is stated of two patterns first, since
 -- "again and again" may be made a different number of times.
-use Rattle.std.proofs.Common.{◌≡◌, ◌⊎◌, inl, inr, ℕ, Bool, true, false, List, [], ◌∷◌, ◌++◌, refl, sym, ap, ap₂, subst, ◌∙◌}
+use Rattle.std.proofs.Common.{◌≡◌, ◌⊎◌, inl, inr, ⊎_elim, ℕ, Bool, true, false, List, [], ◌∷◌, ◌++◌, refl, sym, ap, ap₂, subst, ◌∙◌}
 use Rattle.nm_part.specs.Patterns.{Ends, Follows, Either, Each, Sometimes}
-use Rattle.nm_choice.specs.Deterministic.{Diverge, Coincide, AgreeUpToAnswers, IsDeterministic}
+use Rattle.nm_choice.specs.Deterministic.{Diverge, Coincide, AgreeUpToAnswers, AgreeOnTold, IsDeterministic}
 use Rattle.nm_choice.proofs.Diverging.{part-behind, part-more, part-as, both-same}
 
 -- ---- nothing more
@@ -43,6 +43,30 @@ pub one-follows : {E X O : Type 0} (apart : E → E → Type 0) (first : List E 
     → IsDeterministic apart first → ((x : X) → IsDeterministic apart (after x)) → IsDeterministic apart (Follows first after)
 one-follows apart first after = agree-follows apart first first after after
 
+-- where the lists behind always diverge, the whole ones do
+abbrev pub AlwaysDiverge : {E O : Type 0} → (E → E → Type 0) → (List E → O → Type 0) → (List E → O → Type 0) → Type 0
+AlwaysDiverge {E} {O} apart first second = (own other : List E) (outcome end : O) → first own outcome → second other end → Diverge apart own other
+
+pub apart-follows : {E X O : Type 0} (apart : E → E → Type 0) (first second : List E → X → Type 0) (after then : X → List E → O → Type 0)
+    → AgreeUpToAnswers apart first second → ((x : X) → AlwaysDiverge apart (after x) (then x)) → AlwaysDiverge apart (Follows first after) (Follows second then)
+apart-follows {E} {X} {O} apart first second after then now rest own other outcome end h k =
+    let P : X → Type 0 = λ x. then x k.back end in
+    let as_two : Diverge apart (h.front ++ h.back) (k.front ++ k.back) → Diverge apart own other = part-as apart own other (h.front ++ h.back) (k.front ++ k.back) h.is k.is in
+    ⊎_elim
+    (λ d. as_two (part-more apart h.front k.front h.back k.back d))
+    (λ s. as_two (part-as apart (h.front ++ h.back) (k.front ++ k.back) (h.front ++ h.back) (h.front ++ k.back) refl (ap (λ (l : List E). l ++ k.back) (sym s.list))
+    (part-behind apart h.front h.back k.back (rest h.end h.back k.back outcome end h.rest (subst P (sym s.ends) k.rest)))))
+    (now h.front k.front h.end k.end h.shown k.shown)
+
+-- what comes after goes by what is told of an end
+pub told-follows : {E X Y O : Type 0} (apart : E → E → Type 0) (tell : X → Y) (first second : List E → X → Type 0) (after then : X → List E → O → Type 0)
+    → AgreeOnTold apart tell first second → ((x y : X) → tell x ≡ tell y → AgreeUpToAnswers apart (after x) (then y)) → AgreeUpToAnswers apart (Follows first after) (Follows second then)
+told-follows apart tell first second after then now rest own other outcome end h k =
+    ⊎_elim
+    (λ d. inl (part-as apart own other (h.front ++ h.back) (k.front ++ k.back) h.is k.is (part-more apart h.front k.front h.back k.back d)))
+    (λ s. behind_same apart h.front k.front h.back k.back own other outcome end h.is k.is s.list (rest h.end k.end s.ends h.back k.back outcome end h.rest k.rest))
+    (now h.front k.front h.end k.end h.shown k.shown)
+
 -- ---- a choice by a test
 
 pub agree-either : {E O : Type 0} (apart : E → E → Type 0) (b : Bool) (held holds other others : List E → O → Type 0)
@@ -70,6 +94,10 @@ one-each apart body [] after step over kept = over kept
 one-each apart body (item ∷ items) after step over kept = step item kept (λ next. Each body items next after) (one-each apart body items after step over)
 
 -- ---- again and again
+
+pub agree-sometimes : {E O : Type 0} (apart : E → E → Type 0) (pattern others : ℕ → List E → O → Type 0)
+    → ((n m : ℕ) → AgreeUpToAnswers apart (pattern n) (others m)) → AgreeUpToAnswers apart (Sometimes pattern) (Sometimes others)
+agree-sometimes apart pattern others agree own other outcome end h k = agree h.tries k.tries own other outcome end h.is k.is
 
 pub one-sometimes : {E O : Type 0} (apart : E → E → Type 0) (pattern : ℕ → List E → O → Type 0)
     → ((n m : ℕ) → AgreeUpToAnswers apart (pattern n) (pattern m)) → IsDeterministic apart (Sometimes pattern)
