@@ -10,5 +10,5 @@ ghost use Rattle.nm_choice.specs.Deterministic.{IsDeterministicActor};
 /// Of any two whole sequences of a processor, either they are the same and show the same results and ends of faults, or they are the same
 /// up to a turn that heard two things.
 pub fn processors_leave_no_choice()
-    ensures program { (g : Geometry) (program : List Line) → IsDeterministicActor (IsProgramMade processor_faults g program) }
+    ensures { (g : Geometry) (program : List Line) → IsDeterministicActor (IsProgramMade processor_faults g program) }
 {}
