@@ -1,0 +1,4 @@
+//! The reclaimer leaves no choice.
+#![tactic(auto)]
+
+pub mod sequence;
