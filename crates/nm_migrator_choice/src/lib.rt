@@ -1,0 +1,4 @@
+//! The migrator leaves no choice.
+#![tactic(auto)]
+
+pub mod sequence;
