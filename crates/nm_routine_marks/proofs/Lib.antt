@@ -1,0 +1,9 @@
+pub mod Asking
+pub mod Reclaiming
+pub mod Among
+pub mod Clearing
+pub mod Lanes
+pub mod Heating
+pub mod Moving
+pub mod Taking
+pub mod Unmarking
