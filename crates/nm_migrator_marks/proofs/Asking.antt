@@ -1,27 +1,17 @@
--- The processors are asked whether they have ended: no Mark is made, and where all have, each was seen at its end.
+-- Where all processors were asked and have ended, each was seen at its end.
 use Rattle.std.proofs.Common.{◌≡◌, ℕ, zero, suc, ◌+◌, ◌<◌, ◌==◌, Bool, true, false, [], ◌++◌, sym, ap, subst, ◌∙◌, inl, arith}
 use Rattle.std.proofs.lemmas.Bool.{eqb-true}
 use Rattle.nm_base.specs.Geometry.{Geometry}
-use Rattle.nm_action.specs.declared.action.AckTo.{AckTo}
 use Rattle.nm_action.specs.declared.action.Action.TheVariants.{SeeAck}
 use Rattle.nm_action.specs.declared.action.Reply.{Reply}
 use Rattle.nm_action.specs.declared.action.Reply.TheVariants.{Done, Word, Busy, Lost}
 use Rattle.nm_action.specs.Own.{Own}
 use Rattle.nm_view.specs.Views.{end_word}
-use Rattle.nm_part.specs.Patterns.{Ends, Follows, Either}
-use Rattle.nm_compose.specs.Acts.{IsAct}
+use Rattle.nm_part.specs.Patterns.{Ends, Either}
 use Rattle.nm_ended.specs.Asking.{tells_end, AsksFrom}
-use Rattle.nm_marks.specs.Contents.{HasEvent, ListsOnly}
-use Rattle.nm_marks.proofs.Contents.{has-left, has-right}
-use Rattle.nm_marks.proofs.Patterns.{only-ends, only-then, only-either}
-use Rattle.nm_part_marks.specs.Actions.{IsActionOf}
+use Rattle.nm_marks.specs.Contents.{HasEvent}
+use Rattle.nm_marks.proofs.Contents.{has-right}
 use Rattle.nm_unmarked.specs.Unmarking.{IsEndSeen}
-
-pub asks-actions : (may : ℕ → ℕ → Type 0) (ack : AckTo → Type 0) (g : Geometry) (cpu more : ℕ) → ListsOnly (IsActionOf may ack) (AsksFrom g cpu more)
-asks-actions may ack g cpu zero = only-ends (IsActionOf may ack) true
-asks-actions may ack g cpu (suc more) =
-    only-then (IsActionOf may ack) (SeeAck cpu) g (λ reply. Either (tells_end reply) (AsksFrom g (cpu + 1) more) (Ends false)) tt
-    (λ reply. only-either (IsActionOf may ack) (tells_end reply) (AsksFrom g (cpu + 1) more) (Ends false) (asks-actions may ack g (cpu + 1) more) (only-ends (IsActionOf may ack) false))
 
 -- a reply that tells the end
 end-told : (reply : Reply) → tells_end reply ≡ true → reply ≡ Word end_word

@@ -18,11 +18,15 @@ use Rattle.nm_migrator.specs.Planned.{is_mapped}
 use Rattle.nm_marks.specs.Contents.{HasEvent, ListsOnly}
 use Rattle.nm_marks.specs.Marks.{IsMarkOf, HasOnlyMarks, IsMigratorMark, IsTakenBack}
 use Rattle.nm_marks.proofs.Contents.{only-both, marks-more, has-left, has-right}
-use Rattle.nm_unmarked.specs.Unmarking.{IsEndSeen, IsSwept}
+use Rattle.nm_unmarked.specs.Unmarking.{IsEndSeen, IsCandidateTakenBack}
 use Rattle.nm_note_marks.specs.Contents.{own_noted}
 use Rattle.nm_note_marks.proofs.Patterns.{noted-append}
-use Rattle.nm_routine_marks.specs.PendingTurns.{FitsPending}
-use Rattle.nm_routine_marks.proofs.Among.{IsAmong}
+use Rattle.nm_pending.specs.PendingTurns.{FitsPending}
+use Rattle.nm_migrator_marks.proofs.Among.{IsAmong}
+
+-- the outcome of a sequence of the migrator
+abbrev pub MigratorOutcome : Type 0
+MigratorOutcome = Unit {0}
 
 -- a Mark that takes a mark back
 abbrev pub IsReturnMark : ℕ → ℕ → Type 0
@@ -37,7 +41,7 @@ AreAllBack page (e ∷ own) = (e ≡ (Mark page 1 2, Done) → HasEvent (IsTaken
 -- its own; each page was swept; what was marked as pending was taken back, as were the pages that were held and those in the lane.
 pub record Clears (g : Geometry) (before : Own) (held pages : List ℕ) (own : Own) : Type 0 where
   pub marks : HasOnlyMarks IsMigratorMark own
-  pub swept : (page : ℕ) → IsPage g page → IsSwept g page (before ++ own)
+  pub swept : (page : ℕ) → IsPage g page → IsCandidateTakenBack g page (before ++ own)
   pub back : (page : ℕ) → AreAllBack page own
   pub paid : (page : ℕ) → is_mapped g page ≡ true → IsAmong page held ⊎ IsAmong page pages → HasEvent (IsTakenBack page) own
 
@@ -98,7 +102,7 @@ joined : (g : Geometry) (before : Own) (held later pages : List ℕ) (front back
     → ((page : ℕ) → IsAmong page held → IsAmong page later ⊎ HasEvent (IsTakenBack page) front)
     → Clears g (before ++ front) later pages back → Clears g before held pages (front ++ back)
 joined g before held later pages front back so kept c =
-    let S : ℕ → Own → Type 0 = λ page l. IsSwept g page l in
+    let S : ℕ → Own → Type 0 = λ page l. IsCandidateTakenBack g page l in
     record {
       marks = only-both (IsMarkOf IsMigratorMark) front back (marks-more IsReturnMark IsMigratorMark return-mark front so) c.marks;
       swept = λ page here. subst (S page) (append_assoc before front back) (c.swept page here);

@@ -10,9 +10,9 @@ use Rattle.nm_inspect.specs.declared.inspect.Inspected.{Inspected}
 use Rattle.nm_inspect.specs.declared.inspect.Inspected.TheVariants.{Elsewhere, InUse, Idle}
 use Rattle.nm_worker.specs.Notes.{Notes, IsWorkDone}
 use Rattle.nm_kswap.specs.declared.stage.Kept.{Kept}
-use Rattle.nm_kswap.specs.Works.{WorkMade, WorkEnd, IsWork, made_ask, made_level, made_inspect, made_demote}
-use Rattle.nm_kswap.specs.Ends.{all_ended_in, level_in, inspected_in, demoted_in, drawn_in, freed_by, work_counts}
-use Rattle.nm_kswap.specs.Reclaiming.{Sequence, hand_of, moved, with_drawn, marks_of, last_tier, has_vpage, Does, Demotes, AfterInspect, Inspects, Visit, Visits, Relieves, Tiers, Round, Rounds, fresh_kept, IsReclaiming}
+use Rattle.nm_kswap.specs.Works.{ReclaimerWorkMade, ReclaimerWorkEnd, IsReclaimerWork, made_asking, made_level, made_inspect, made_demote}
+use Rattle.nm_kswap.specs.Ends.{asked_in, level_in, inspected_in, demoted_in, spent_in, frames_freed, reclaimer_counts}
+use Rattle.nm_kswap.specs.Reclaiming.{Sequence, hand_of, hand_moved, with_drawn, marks_of, last_tier, has_vpage, Does, Demotes, AfterInspect, Inspects, Visit, VisitsPages, Relieves, Tiers, ReclaimerRound, ReclaimerRounds, kept_at_first, IsReclaiming}
 use Rattle.nm_marks.specs.Contents.{ListsOnly}
 use Rattle.nm_marks.specs.Marks.{HasOnlyMarks, IsNoMark}
 use Rattle.nm_part_marks.specs.Actions.{IsActionOf, IsNoAck}
@@ -21,7 +21,7 @@ use Rattle.nm_part_marks.proofs.Leaves.{pool-actions}
 use Rattle.nm_part_marks.proofs.Keeping.{demotion-actions, inspection-actions}
 use Rattle.nm_note_marks.specs.Contents.{own_noted, NotesOnly}
 use Rattle.nm_note_marks.proofs.Patterns.{note-work, note-ends, note-follows, note-either, note-sometimes}
-use Rattle.nm_routine_marks.proofs.Asking.{asks-actions}
+use Rattle.nm_part_marks.proofs.Asking.{asks-actions}
 
 -- each sequence has no Mark, and no acknowledgement
 abbrev Only : Sequence → Type 0
@@ -29,22 +29,22 @@ Only pattern = NotesOnly (IsActionOf IsNoMark IsNoAck) pattern
 
 -- ---- the pieces of its work
 
-ask-only : (g : Geometry) → ListsOnly (IsActionOf IsNoMark IsNoAck) (IsWork (made_ask g) g)
+ask-only : (g : Geometry) → ListsOnly (IsActionOf IsNoMark IsNoAck) (IsReclaimerWork (made_asking g) g)
 ask-only g own (This all) h = asks-actions IsNoMark IsNoAck g 0 g.cpus own all h
 ask-only g own (Other end) h = absurd h
 
-level-only : (g : Geometry) (tier : ℕ) → ListsOnly (IsActionOf IsNoMark IsNoAck) (IsWork (made_level g tier) g)
+level-only : (g : Geometry) (tier : ℕ) → ListsOnly (IsActionOf IsNoMark IsNoAck) (IsReclaimerWork (made_level g tier) g)
 level-only g tier own (This all) h = absurd h
 level-only g tier own (Other (This end)) h = pool-actions IsNoMark IsNoAck g (Level tier) own end h
 level-only g tier own (Other (Other end)) h = absurd h
 
-inspect-only : (g : Geometry) (page tier : ℕ) → ListsOnly (IsActionOf IsNoMark IsNoAck) (IsWork (made_inspect g page tier) g)
+inspect-only : (g : Geometry) (page tier : ℕ) → ListsOnly (IsActionOf IsNoMark IsNoAck) (IsReclaimerWork (made_inspect g page tier) g)
 inspect-only g page tier own (This all) h = absurd h
 inspect-only g page tier own (Other (This end)) h = absurd h
 inspect-only g page tier own (Other (Other (This found))) h = inspection-actions IsNoMark IsNoAck (record { 0 = g; 1 = record { page = page; tier = tier } }) g own found h
 inspect-only g page tier own (Other (Other (Other told))) h = absurd h
 
-demote-only : (g : Geometry) (page : ℕ) (spent : Spent) → ListsOnly (IsActionOf IsNoMark IsNoAck) (IsWork (made_demote g page spent) g)
+demote-only : (g : Geometry) (page : ℕ) (spent : Spent) → ListsOnly (IsActionOf IsNoMark IsNoAck) (IsReclaimerWork (made_demote g page spent) g)
 demote-only g page spent own (This all) h = absurd h
 demote-only g page spent own (Other (This end)) h = absurd h
 demote-only g page spent own (Other (Other (This found))) h = absurd h
@@ -52,13 +52,13 @@ demote-only g page spent own (Other (Other (Other told))) h = demotion-actions I
 
 -- ---- along the pattern
 
-does-only : (g : Geometry) (work : WorkMade) (after : WorkEnd → Sequence) → ListsOnly (IsActionOf IsNoMark IsNoAck) (IsWork work g) → ((end : WorkEnd) → Only (after end)) → Only (Does g work after)
-does-only g work after so then = note-follows (IsActionOf IsNoMark IsNoAck) (IsWorkDone IsWork work_counts work g) after (note-work (IsActionOf IsNoMark IsNoAck) IsWork work_counts work g so) then
+does-only : (g : Geometry) (work : ReclaimerWorkMade) (after : ReclaimerWorkEnd → Sequence) → ListsOnly (IsActionOf IsNoMark IsNoAck) (IsReclaimerWork work g) → ((end : ReclaimerWorkEnd) → Only (after end)) → Only (Does g work after)
+does-only g work after so then = note-follows (IsActionOf IsNoMark IsNoAck) (IsWorkDone IsReclaimerWork reclaimer_counts work g) after (note-work (IsActionOf IsNoMark IsNoAck) IsReclaimerWork reclaimer_counts work g so) then
 
 demotes-only : (g : Geometry) (page level : ℕ) (kept : Kept) (after : ℕ → Kept → Sequence) → ((level : ℕ) (kept : Kept) → Only (after level kept)) → Only (Demotes g page level kept after)
 demotes-only g page level kept after rest =
-    does-only g (made_demote g page kept.spent) (λ end. after (level + freed_by (demoted_in end)) (with_drawn (drawn_in end) kept)) (demote-only g page kept.spent)
-    (λ end. rest (level + freed_by (demoted_in end)) (with_drawn (drawn_in end) kept))
+    does-only g (made_demote g page kept.spent) (λ end. after (level + frames_freed (demoted_in end)) (with_drawn (spent_in end) kept)) (demote-only g page kept.spent)
+    (λ end. rest (level + frames_freed (demoted_in end)) (with_drawn (spent_in end) kept))
 
 after-inspect-only : (g : Geometry) (page level : ℕ) (kept : Kept) (after : ℕ → Kept → Sequence) (found : Inspected) → ((level : ℕ) (kept : Kept) → Only (after level kept)) → Only (AfterInspect g page level kept after found)
 after-inspect-only g page level kept after Elsewhere rest = rest level kept
@@ -71,30 +71,30 @@ visit-only g tier page level kept after rest =
     (does-only g (made_inspect g page tier) (λ end. AfterInspect g page level kept after (inspected_in end)) (inspect-only g page tier) (λ end. after-inspect-only g page level kept after (inspected_in end) rest))
     (rest level kept)
 
-visits-only : (g : Geometry) (tier more level : ℕ) (kept : Kept) (after : Kept → Sequence) → ((kept : Kept) → Only (after kept)) → Only (Visits g tier more level kept after)
+visits-only : (g : Geometry) (tier more level : ℕ) (kept : Kept) (after : Kept → Sequence) → ((kept : Kept) → Only (after kept)) → Only (VisitsPages g tier more level kept after)
 visits-only g tier zero level kept after rest = rest kept
 visits-only g tier (suc more) level kept after rest =
-    let next : ℕ → Kept → Sequence = λ level kept. Visits g tier more level kept after in
-    note-either (IsActionOf IsNoMark IsNoAck) (nat_lt level (marks_of g tier).high) (Visit g tier (hand_of tier kept) level (moved g tier kept) next) (after kept)
-    (visit-only g tier (hand_of tier kept) level (moved g tier kept) next (λ level kept. visits-only g tier more level kept after rest))
+    let next : ℕ → Kept → Sequence = λ level kept. VisitsPages g tier more level kept after in
+    note-either (IsActionOf IsNoMark IsNoAck) (nat_lt level (marks_of g tier).high) (Visit g tier (hand_of tier kept) level (hand_moved g tier kept) next) (after kept)
+    (visit-only g tier (hand_of tier kept) level (hand_moved g tier kept) next (λ level kept. visits-only g tier more level kept after rest))
     (rest kept)
 
 relieves-only : (g : Geometry) (tier : ℕ) (kept : Kept) (after : Kept → Sequence) → ((kept : Kept) → Only (after kept)) → Only (Relieves g tier kept after)
 relieves-only g tier kept after rest =
-    does-only g (made_level g tier) (λ end. Either (nat_le (level_in end) (marks_of g tier).low) (Visits g tier (page_count g) (level_in end) kept after) (after kept)) (level-only g tier)
-    (λ end. note-either (IsActionOf IsNoMark IsNoAck) (nat_le (level_in end) (marks_of g tier).low) (Visits g tier (page_count g) (level_in end) kept after) (after kept) (visits-only g tier (page_count g) (level_in end) kept after rest) (rest kept))
+    does-only g (made_level g tier) (λ end. Either (nat_le (level_in end) (marks_of g tier).low) (VisitsPages g tier (page_count g) (level_in end) kept after) (after kept)) (level-only g tier)
+    (λ end. note-either (IsActionOf IsNoMark IsNoAck) (nat_le (level_in end) (marks_of g tier).low) (VisitsPages g tier (page_count g) (level_in end) kept after) (after kept) (visits-only g tier (page_count g) (level_in end) kept after rest) (rest kept))
 
 tiers-only : (g : Geometry) (tier more : ℕ) (kept : Kept) (after : Kept → Sequence) → ((kept : Kept) → Only (after kept)) → Only (Tiers g tier more kept after)
 tiers-only g tier zero kept after rest = rest kept
 tiers-only g tier (suc more) kept after rest = relieves-only g tier kept (λ kept. Tiers g (tier + 1) more kept after) (λ kept. tiers-only g (tier + 1) more kept after rest)
 
-rounds-only : (g : Geometry) (more : ℕ) (kept : Kept) → Only (Rounds g more kept)
+rounds-only : (g : Geometry) (more : ℕ) (kept : Kept) → Only (ReclaimerRounds g more kept)
 rounds-only g zero kept notes outcome h = absurd h
 rounds-only g (suc more) kept notes outcome h =
-    let after : Bool → Kept → Sequence = λ ended kept. Either ended (Ends tt) (Rounds g more kept) in
-    does-only g (made_ask g) (λ end. Tiers g 0 (last_tier g) kept (after (all_ended_in end))) (ask-only g)
-    (λ end. tiers-only g 0 (last_tier g) kept (after (all_ended_in end)) (λ kept. note-either (IsActionOf IsNoMark IsNoAck) (all_ended_in end) (Ends tt) (Rounds g more kept) (note-ends (IsActionOf IsNoMark IsNoAck) tt) (rounds-only g more kept)))
+    let after : Bool → Kept → Sequence = λ ended kept. Either ended (Ends tt) (ReclaimerRounds g more kept) in
+    does-only g (made_asking g) (λ end. Tiers g 0 (last_tier g) kept (after (asked_in end))) (ask-only g)
+    (λ end. tiers-only g 0 (last_tier g) kept (after (asked_in end)) (λ kept. note-either (IsActionOf IsNoMark IsNoAck) (asked_in end) (Ends tt) (ReclaimerRounds g more kept) (note-ends (IsActionOf IsNoMark IsNoAck) tt) (rounds-only g more kept)))
     notes outcome h
 
 pub reclaiming-unmarked : (g : Geometry) (notes : Notes) (outcome : Unit {0}) → IsReclaiming g notes outcome → HasOnlyMarks IsNoMark (own_noted notes)
-reclaiming-unmarked g notes outcome h = marks-of IsNoMark (own_noted notes) (note-sometimes (IsActionOf IsNoMark IsNoAck) (λ rounds. Rounds g rounds fresh_kept) (λ rounds. rounds-only g rounds fresh_kept) notes outcome h)
+reclaiming-unmarked g notes outcome h = marks-of IsNoMark (own_noted notes) (note-sometimes (IsActionOf IsNoMark IsNoAck) (λ rounds. ReclaimerRounds g rounds kept_at_first) (λ rounds. rounds-only g rounds kept_at_first) notes outcome h)
