@@ -1,5 +1,5 @@
 -- Where all processors were asked and have ended, each was seen at its end.
-use Rattle.std.proofs.Common.{◌≡◌, ℕ, zero, suc, ◌+◌, ◌<◌, ◌==◌, Bool, true, false, [], ◌++◌, sym, ap, subst, ◌∙◌, inl, arith}
+use Rattle.std.proofs.Common.{◌≡◌, ℕ, zero, suc, ◌+◌, ◌<◌, ◌==◌, Bool, true, false, [], ◌∷◌, ◌++◌, sym, ap, subst, ◌∙◌, inl, arith}
 use Rattle.std.proofs.lemmas.Bool.{eqb-true}
 use Rattle.nm_base.specs.Geometry.{Geometry}
 use Rattle.nm_action.specs.declared.action.Action.TheVariants.{SeeAck}
@@ -29,7 +29,7 @@ went-on g true cpu more back h = record { yes = cc; rest = h }
 went-on g false cpu more back h = absurd (let no : true ≡ false = h.is in cc)
 
 -- where all have ended, each of them was seen at its end
-pub asks-seen : (g : Geometry) (cpu more : ℕ) (own : Own) → AsksFrom g cpu more own true → (c : ℕ) → c < more → HasEvent (IsEndSeen (cpu + c)) own
+asks-seen : (g : Geometry) (cpu more : ℕ) (own : Own) → AsksFrom g cpu more own true → (c : ℕ) → c < more → HasEvent (IsEndSeen (cpu + c)) own
 asks-seen g cpu zero own h c below = absurd (omega (arith, below))
 asks-seen g cpu (suc more) own h zero below =
     let w = went-on g (tells_end h.end) (cpu + 1) more h.back h.rest in
@@ -43,3 +43,8 @@ asks-seen g cpu (suc more) own h (suc c) below =
     let C : ℕ → Type 0 = λ n. HasEvent (IsEndSeen n) h.back in
     let there : HasEvent (IsEndSeen ((cpu + 1) + c)) h.back = asks-seen g (cpu + 1) more h.back w.rest c (omega (arith, below)) in
     subst E (sym h.is) (has-right (IsEndSeen (cpu + suc c)) h.front h.back (subst C (omega (arith)) there))
+
+pub all-seen : (g : Geometry) (own : Own) → AsksFrom g 0 g.cpus own true → (cpu : ℕ) → cpu < g.cpus → HasEvent (IsEndSeen cpu) own
+all-seen g own h cpu there =
+    let C : ℕ → Type 0 = λ n. HasEvent (IsEndSeen n) own in
+    subst C (omega (arith)) (asks-seen g 0 g.cpus own h cpu there)

@@ -1,5 +1,5 @@
 -- Patterns of the migrator whose sequences leave no mark: what is held is taken back, as is what is marked as pending.
-use Rattle.std.proofs.Common.{◌≡◌, ℕ, ◌<◌, ◌⊎◌, Bool, true, false, List, [], ◌∷◌, ◌++◌, inl, inr, refl, sym, ap, subst, ◌∙◌, append_assoc}
+use Rattle.std.proofs.Common.{◌≡◌, ℕ, ◌<◌, ◌⊎◌, Bool, true, false, List, [], ◌∷◌, ◌++◌, inl, inr, refl, sym, ap, subst, ◌∙◌, append_assoc, arith}
 use Rattle.nm_base.specs.Geometry.{Geometry}
 use Rattle.nm_base.specs.Ranges.{IsPage}
 use Rattle.nm_action.specs.declared.action.Action.{Action}
@@ -32,10 +32,14 @@ MigratorOutcome = Unit {0}
 abbrev pub IsReturnMark : ℕ → ℕ → Type 0
 IsReturnMark old new = IsMarkSet 1 0 old new ⊎ IsMarkSet 2 0 old new
 
+-- a page was marked as pending
+abbrev pub IsPendingMade : ℕ → Action × Reply → Type 0
+IsPendingMade page e = e ≡ (Mark page 1 2, Done)
+
 -- whenever a page was marked as pending, that mark was taken back later
 abbrev pub AreAllBack : ℕ → Own → Type 0
 AreAllBack page [] = Unit {0}
-AreAllBack page (e ∷ own) = (e ≡ (Mark page 1 2, Done) → HasEvent (IsTakenBack page) own) × AreAllBack page own
+AreAllBack page (e ∷ own) = (IsPendingMade page e → HasEvent (IsTakenBack page) own) × AreAllBack page own
 
 -- An own list with which the migrator comes to its end, after this list, while it holds these pages and the lane those: each Mark is
 -- its own; each page was swept; what was marked as pending was taken back, as were the pages that were held and those in the lane.
@@ -64,8 +68,8 @@ return-mark old new (inl h) = inr (inl h)
 return-mark old new (inr h) = inr (inr h)
 
 no-return : ¬ IsReturnMark 1 2
-no-return (inl h) = let no : 2 ≡ 0 = h.new_is in cc
-no-return (inr h) = let no : 2 ≡ 0 = h.new_is in cc
+no-return (inl h) = omega (arith, h.new_is)
+no-return (inr h) = omega (arith, h.new_is)
 
 back-front : (page : ℕ) (front own : Own) → HasOnlyMarks IsReturnMark front → AreAllBack page own → AreAllBack page (front ++ own)
 back-front page [] own so h = h
@@ -137,9 +141,9 @@ does-same g held shape counts work after so then before pages =
 
 -- ---- the other patterns
 
-pub either-clears : {O : Type 0} (g : Geometry) (held : List ℕ) (b : Bool) (yes no : Notes → O → Type 0) → ClearsAfter g held yes → ClearsAfter g held no → ClearsAfter g held (Either b yes no)
-either-clears g held true yes no so then = so
-either-clears g held false yes no so then = then
+pub either-clears : {O : Type 0} (g : Geometry) (held : List ℕ) (b : Bool) (one other : Notes → O → Type 0) → ClearsAfter g held one → ClearsAfter g held other → ClearsAfter g held (Either b one other)
+either-clears g held true one other so then = so
+either-clears g held false one other so then = then
 
 -- other pages are held, and others lie in the lane, each of which was held or lay there
 pub owed-more : (g : Geometry) (before : Own) (held later pages rest : List ℕ) (own : Own) → ((page : ℕ) → is_mapped g page ≡ true → IsAmong page held ⊎ IsAmong page pages → IsAmong page later ⊎ IsAmong page rest)

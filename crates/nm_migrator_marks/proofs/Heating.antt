@@ -1,6 +1,7 @@
 -- What is done with a candidate: a page that is marked as pending is put in the pending pages, so it is taken back later.
 use Rattle.std.proofs.Common.{◌≡◌, ℕ, ◌⊎◌, Bool, true, false, List, [], ◌∷◌, ◌++◌, refl, inl, inr, sym, ap, subst, ◌∙◌, append_assoc}
 use Rattle.nm_base.specs.Geometry.{Geometry}
+use Rattle.nm_action.specs.declared.action.Action.{Action}
 use Rattle.nm_action.specs.declared.action.Action.TheVariants as action
 use Rattle.nm_action.specs.declared.action.Reply.{Reply}
 use Rattle.nm_action.specs.declared.action.Reply.TheVariants as replies
@@ -25,7 +26,7 @@ use Rattle.nm_note_marks.specs.Contents.{own_noted}
 use Rattle.nm_note_marks.proofs.Patterns.{noted-append}
 use Rattle.nm_pending.specs.PendingTurns.{FitsPending}
 use Rattle.nm_migrator_marks.proofs.Among.{IsAmong}
-use Rattle.nm_migrator_marks.proofs.Clearing.{MigratorOutcome, Clears, ClearsAfter, worked-fits, fits-parts, does-same, either-clears}
+use Rattle.nm_migrator_marks.proofs.Clearing.{MigratorOutcome, IsPendingMade, Clears, ClearsAfter, worked-fits, fits-parts, does-same, either-clears}
 use Rattle.nm_migrator_marks.proofs.Lanes.{puts-clears, put-candidate}
 use Rattle.nm_migrator_marks.proofs.Works.{unmark-returns, look-returns, cool-returns}
 
@@ -40,7 +41,7 @@ after-cool g next kept page cooled.Busy n before pages notes outcome h fits =
     put-candidate g [] page (Spills g next kept page)
     (λ full. either-clears g [] full (Does g (made_mark page 1 0) (λ end. next Pending kept)) (next Pending kept) (does-same g [] IsMigratorWork migrator_counts (made_mark page 1 0) (λ end. next Pending kept) (unmark-returns g page) (λ end. n Pending kept)) (n Pending kept))
     before pages h.end notes h.front h.back outcome h.is h.shown h.rest fits
-after-cool g next kept page cooled.Cold n = n Candidates kept
+after-cool g next kept page cooled.Cold n before pages notes outcome h fits = n Candidates kept before pages notes outcome h fits
 
 cools-clears : (g : Geometry) (next : Lane → MigratorKept → Sequence) (kept : MigratorKept) (page : ℕ) → NextClears g next → ClearsAfter g [] (Cools g next kept page)
 cools-clears g next kept page n = does-same g [] IsMigratorWork migrator_counts (made_cool g page) (λ end. AfterCool g next kept page (cooled_in end)) (cool-returns g page) (λ end. after-cool g next kept page (cooled_in end) n)
@@ -48,7 +49,7 @@ cools-clears g next kept page n = does-same g [] IsMigratorWork migrator_counts 
 -- ---- a page that is marked as pending
 
 -- the own list with the Mark before it, after which these pages are held
-marked : (g : Geometry) (before : Own) (held pages : List ℕ) (page : ℕ) (reply : Reply) (own : Own) → ((b : ℕ) → (action.Mark page 1 2, reply) ≡ (action.Mark b 1 2, replies.Done) → HasEvent (IsTakenBack b) own)
+marked : (g : Geometry) (before : Own) (held pages : List ℕ) (page : ℕ) (reply : Reply) (own : Own) → ((b : ℕ) → IsPendingMade b (action.Mark page 1 2, reply) → HasEvent (IsTakenBack b) own)
     → Clears g (before ++ (action.Mark page 1 2, reply) ∷ []) held pages own → Clears g before [] pages ((action.Mark page 1 2, reply) ∷ own)
 marked g before held pages page reply own given c =
     let S : ℕ → Own → Type 0 = λ b l. IsCandidateTakenBack g b l in
@@ -70,11 +71,12 @@ heat-by g next kept page mapped n before pages replies.Done back outcome h fits 
     let M : ℕ → Type 0 = λ l. is_mapped g l ≡ true in
     marked g before (page ∷ []) pages page replies.Done (own_noted back)
     (λ b is.
+    let one : action.Mark page 1 2 ≡ action.Mark b 1 2 = ap (λ (p : Action × Reply). p.0) is in
     let same : page ≡ b = cc in
     c.paid b (subst M same mapped) (inl (inl (sym same)))) c
-heat-by g next kept page mapped n before pages (replies.Word w) back outcome h fits = marked g before [] pages page (replies.Word w) (own_noted back) (λ b is. absurd (cc)) (n Candidates kept (before ++ (action.Mark page 1 2, replies.Word w) ∷ []) pages back outcome h fits)
-heat-by g next kept page mapped n before pages (replies.Busy w) back outcome h fits = marked g before [] pages page (replies.Busy w) (own_noted back) (λ b is. absurd (cc)) (n Candidates kept (before ++ (action.Mark page 1 2, replies.Busy w) ∷ []) pages back outcome h fits)
-heat-by g next kept page mapped n before pages (replies.Lost w) back outcome h fits = marked g before [] pages page (replies.Lost w) (own_noted back) (λ b is. absurd (cc)) (n Candidates kept (before ++ (action.Mark page 1 2, replies.Lost w) ∷ []) pages back outcome h fits)
+heat-by g next kept page mapped n before pages (replies.Word w) back outcome h fits = marked g before [] pages page (replies.Word w) (own_noted back) (λ b is. absurd (let bad : replies.Word w ≡ replies.Done = ap (λ (p : Action × Reply). p.1) is in cc)) (n Candidates kept (before ++ (action.Mark page 1 2, replies.Word w) ∷ []) pages back outcome h fits)
+heat-by g next kept page mapped n before pages (replies.Busy w) back outcome h fits = marked g before [] pages page (replies.Busy w) (own_noted back) (λ b is. absurd (let bad : replies.Busy w ≡ replies.Done = ap (λ (p : Action × Reply). p.1) is in cc)) (n Candidates kept (before ++ (action.Mark page 1 2, replies.Busy w) ∷ []) pages back outcome h fits)
+heat-by g next kept page mapped n before pages (replies.Lost w) back outcome h fits = marked g before [] pages page (replies.Lost w) (own_noted back) (λ b is. absurd (let bad : replies.Lost w ≡ replies.Done = ap (λ (p : Action × Reply). p.1) is in cc)) (n Candidates kept (before ++ (action.Mark page 1 2, replies.Lost w) ∷ []) pages back outcome h fits)
 
 heat-end : (g : Geometry) (next : Lane → MigratorKept → Sequence) (kept : MigratorKept) (page : ℕ) → is_mapped g page ≡ true → NextClears g next → (before : Own) (pages : List ℕ) (end : MigratorWorkEnd) (own : Own) (back : Notes) (outcome : MigratorOutcome)
     → IsMigratorWork (made_mark page 1 2) g own end → AfterHeat next kept page (mark_reply_in end) back outcome → FitsPending pages (noted_turns back) → Clears g before [] pages (own ++ own_noted back)

@@ -78,10 +78,10 @@ put-candidate g held page after rest before pages false notes front back outcome
 -- ---- takes from the candidates
 
 -- a taken page, by whether some virtual page is mapped to it
-taken-by : (g : Geometry) (held pages : List ℕ) (before : Own) (page : ℕ) (yes no : Sequence) → (is_mapped g page ≡ true → ClearsWith g before held pages yes) → (is_mapped g page ≡ false → ClearsWith g before held pages no)
-    → (b : Bool) → is_mapped g page ≡ b → ClearsWith g before held pages (Either b yes no)
-taken-by g held pages before page yes no so then true is = so is
-taken-by g held pages before page yes no so then false is = then is
+taken-by : (g : Geometry) (held pages : List ℕ) (before : Own) (page : ℕ) (one other : Sequence) → (is_mapped g page ≡ true → ClearsWith g before held pages one) → (is_mapped g page ≡ false → ClearsWith g before held pages other)
+    → (b : Bool) → is_mapped g page ≡ b → ClearsWith g before held pages (Either b one other)
+taken-by g held pages before page one other so then true is = so is
+taken-by g held pages before page one other so then false is = then is
 
 take-by : (g : Geometry) (held pages : List ℕ) (before : Own) (after : Option ℕ → Sequence) → ((page : ℕ) → is_mapped g page ≡ true → ClearsWith g before held pages (after (Some page))) → ClearsWith g before held pages (after None)
     → (n : ℕ) → ClearsWith g before held pages (TakesMappedTry g Candidates after n) → (end : Option ℕ) (notes front back : Notes) (outcome : MigratorOutcome) → notes ≡ front ++ back → IsTake Candidates front end → Taken g (TakesMappedTry g Candidates after n) after end back outcome
@@ -95,7 +95,7 @@ take-by g held pages before after some none n again (Some page) notes front back
     let s = one-turn pages notes front back (turn.Take Candidates) (Took page) is take.is refl fits in
     let C : Own → Type 0 = λ l. Clears g before held pages l in
     let F : List ℕ → Type 0 = λ l. FitsPending l (noted_turns back) in
-    subst C (sym s.own) (taken-by g held pages before page (after (Some page)) (TakesMappedTry g Candidates after n) (some page) (λ no. again)
+    subst C (sym s.own) (taken-by g held pages before page (after (Some page)) (TakesMappedTry g Candidates after n) (some page) (λ unmapped. again)
     (is_mapped g page) refl back outcome h (subst F s.fits.1.0 s.fits.1.1))
 
 take-candidates-try : (g : Geometry) (held pages : List ℕ) (before : Own) (after : Option ℕ → Sequence) → ((page : ℕ) → is_mapped g page ≡ true → ClearsWith g before held pages (after (Some page))) → ClearsWith g before held pages (after None)
@@ -121,11 +121,11 @@ took-owed page held pages rest b is (inr there) =
 
 -- a page that was dropped is no mapped one
 dropped-owed : (g : Geometry) (page : ℕ) (held pages rest : List ℕ) (b : ℕ) → pages ≡ page ∷ rest → is_mapped g page ≡ false → is_mapped g b ≡ true → IsAmong b held ⊎ IsAmong b pages → IsAmong b held ⊎ IsAmong b rest
-dropped-owed g page held pages rest b is no mapped (inl mine) = inl mine
-dropped-owed g page held pages rest b is no mapped (inr there) =
+dropped-owed g page held pages rest b is unmapped mapped (inl mine) = inl mine
+dropped-owed g page held pages rest b is unmapped mapped (inr there) =
     let A : List ℕ → Type 0 = λ l. IsAmong b l in
     elim (subst A is there) [
-      | inl same ↦ absurd (let both : true ≡ false = sym mapped ∙ ap (λ (n : ℕ). is_mapped g n) same ∙ no in cc)
+      | inl same ↦ absurd (let both : true ≡ false = sym mapped ∙ ap (λ (n : ℕ). is_mapped g n) same ∙ unmapped in cc)
       | inr left ↦ inr left
     ]
 

@@ -24,7 +24,7 @@ use Rattle.nm_migrator_marks.proofs.Unmarking.{asks-clears}
 
 round-clears : (g : Geometry) (retry : Option ℕ) (next : Lane → MigratorKept → Sequence) (lane : Lane) (kept : MigratorKept) → NextClears g next → ClearsAfter g [] (MigratorRound g retry next lane kept)
 round-clears g retry next Candidates kept n before pages = takes-candidates g [] pages before (AfterCandidate g next kept) (λ page mapped. judges-clears g next kept page mapped n before pages) (n Pending kept before pages)
-round-clears g retry next Pending kept n = takes-clears g (AfterTakes g retry next kept) (λ page taken. after-takes-clears g retry next n kept page taken) (λ before. asks-clears g next kept before n) 7
+round-clears g retry next Pending kept n before pages = takes-clears g (AfterTakes g retry next kept) (λ page taken. after-takes-clears g retry next n kept page taken) (λ before. asks-clears g next kept before n) 7 before pages
 
 rounds-clears : (g : Geometry) (retry : Option ℕ) (n : ℕ) → NextClears g (MigratorRounds g retry n)
 rounds-clears g retry zero lane kept before pages notes outcome h fits = absurd h

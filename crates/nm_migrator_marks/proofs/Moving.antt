@@ -61,7 +61,7 @@ move-done g before held pages own page count spent (Move told) after rest h = mo
 move-done g before held pages own page count spent (Ask all) after rest h = absurd h
 
 moves-clears : (g : Geometry) (next : Lane → MigratorKept → Sequence) → NextClears g next → (moves : List (ℕ × ℕ)) (kept : MigratorKept) → ClearsAfter g (pages_of moves) (MovesLocked g next moves kept)
-moves-clears g next n [] kept = n Candidates kept
+moves-clears g next n [] kept before pages = n Candidates kept before pages
 moves-clears g next n (m ∷ ms) kept before pages =
     let after : MigratorKept → Sequence = λ kept. Each (MoveNext g) ms kept (next Candidates) in
     does-clears g before (m.0 ∷ pages_of ms) pages IsMigratorWork migrator_counts (made_move g m.0 m.1 kept.spent) (λ end. Either (is_busy_move (move_in end)) (Puts m.0 (after (kept_drawn (drawn_in end) kept))) (after (kept_drawn (drawn_in end) kept)))
@@ -128,7 +128,7 @@ batch-done g next n moves pieces kept before pages own (Move told) h = absurd h
 batch-done g next n moves pieces kept before pages own (Ask all) h = absurd h
 
 pub batches-clears : (g : Geometry) (next : Lane → MigratorKept → Sequence) → NextClears g next → (kept : MigratorKept) (moves pieces : List (ℕ × ℕ)) → ClearsAfter g (pages_of pieces ++ pages_of moves) (Batches g next kept moves pieces)
-batches-clears g next n kept moves [] = moves-clears g next n moves kept
+batches-clears g next n kept moves [] before pages = moves-clears g next n moves kept before pages
 batches-clears g next n kept moves (p ∷ ps) before pages =
     does-clears g before (pages_of (p ∷ ps) ++ pages_of moves) pages IsMigratorWork migrator_counts (made_batch g (p ∷ ps) kept.spent) (λ end. AfterBatch g next moves (again_of (p ∷ ps) (batch_in end).end) (batched (p ∷ ps) (batch_in end) kept))
     (batch-returns g (p ∷ ps) kept.spent) (λ own end shown. batch-done g next n moves (p ∷ ps) kept before pages own end shown)

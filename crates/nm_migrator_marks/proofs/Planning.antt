@@ -54,7 +54,7 @@ plan-next g retry aborts page pages mapped plan b (inr there) = elim (among-eith
 ]
 
 plans-clears : (g : Geometry) (retry : Option ℕ) (next : Lane → MigratorKept → Sequence) → NextClears g next → (kept : MigratorKept) (taken : List ℕ) (plan : Plan) → ClearsAfter g (taken ++ plan_pages plan) (Plans g retry next kept taken plan)
-plans-clears g retry next n kept [] plan = batches-clears g next n kept plan.moves plan.pieces
+plans-clears g retry next n kept [] plan before pages = batches-clears g next n kept plan.moves plan.pieces before pages
 plans-clears g retry next n kept (page ∷ taken) plan before pages =
     does-clears g before ((page ∷ taken) ++ plan_pages plan) pages IsMigratorWork migrator_counts (made_looks g page) (λ end. Plans g retry next kept taken (planned g retry kept.aborts page (looks_in end).mapped plan)) (look-returns g page)
     (λ own end shown. record {

@@ -19,7 +19,7 @@ use Rattle.nm_migrator.specs.Migrating.{Sequence, TakesMapped, Unmarks, AfterLas
 use Rattle.nm_marks.proofs.Contents.{has-left, has-right}
 use Rattle.nm_unmarked.specs.Unmarking.{IsEndSeen, IsCandidateTakenBack}
 use Rattle.nm_note_marks.specs.Contents.{own_noted}
-use Rattle.nm_migrator_marks.proofs.Asking.{asks-seen}
+use Rattle.nm_migrator_marks.proofs.Asking.{all-seen}
 use Rattle.nm_migrator_marks.proofs.Among.{IsAmong}
 use Rattle.nm_migrator_marks.proofs.Clearing.{Clears, ClearsWith, AreAllSeen, GoesOn, does-clears}
 use Rattle.nm_migrator_marks.proofs.Lanes.{takes-candidates}
@@ -87,20 +87,21 @@ unmarks-clears g [] before seen all notes outcome h fits =
         | inr none ↦ absurd none
       ];
     })
-unmarks-clears g (page ∷ left) before seen all =
+unmarks-clears g (page ∷ left) before seen all notes outcome h fits =
     does-clears g before [] [] IsMigratorWork migrator_counts (made_mark page 1 0) (λ end. Unmarks g left) (unmark-returns g page)
     (λ own end shown. record {
       later = [];
       kept = λ b none. absurd none;
       clear = unmarks-clears g left (before ++ own) (λ cpu there. has-left (IsEndSeen cpu) before own (seen cpu there)) (left-after g page left before own end seen shown all);
     })
+    notes outcome h fits
 
 -- ---- the question whether all have ended
 
 after-last : (g : Geometry) (next : Lane → MigratorKept → Sequence) (kept : MigratorKept) (before : Own) → NextClears g next → AreAllSeen g before → ClearsWith g before [] [] (TakesMapped g Candidates (AfterLast g next kept))
 after-last g next kept before n seen =
     takes-candidates g [] [] before (AfterLast g next kept) (λ page mapped. judges-clears g next kept page mapped n before [])
-    (unmarks-clears g (range_with_len 0 (page_count g)) before seen (λ b here. inl (among-range 0 (page_count g) b (omega (arith)) here)))
+    (unmarks-clears g (range_with_len 0 (page_count g)) before seen (λ b here. inl (among-range 0 (page_count g) b (omega (arith)) (omega (arith, here)))))
 
 asked : (g : Geometry) (next : Lane → MigratorKept → Sequence) (kept : MigratorKept) (before own : Own) (end : MigratorWorkEnd) → NextClears g next → IsMigratorWork (made_ask g) g own end
     → ClearsWith g (before ++ own) [] [] (Either (all_ended_in end) (TakesMapped g Candidates (AfterLast g next kept)) (next Candidates kept))
@@ -109,7 +110,7 @@ asked g next kept before own (Looks found) n h = absurd h
 asked g next kept before own (Cool end) n h = absurd h
 asked g next kept before own (Batch told) n h = absurd h
 asked g next kept before own (Move told) n h = absurd h
-asked g next kept before own (Ask true) n h = after-last g next kept (before ++ own) n (λ cpu there. has-right (IsEndSeen cpu) before own (asks-seen g 0 g.cpus own h cpu there))
+asked g next kept before own (Ask true) n h = after-last g next kept (before ++ own) n (λ cpu there. has-right (IsEndSeen cpu) before own (all-seen g own h cpu there))
 asked g next kept before own (Ask false) n h = n Candidates kept (before ++ own) []
 
 pub asks-clears : (g : Geometry) (next : Lane → MigratorKept → Sequence) (kept : MigratorKept) (before : Own) → NextClears g next → ClearsWith g before [] [] (Asks g next kept)

@@ -44,8 +44,8 @@ alone before p few put took =
     }
 
 -- a page was put
-put : (before : List Played) (p : Played) (page : ℕ) → AreFewTaken before → put_by Pending p.turn p.heard ≡ Some page → took_by Pending p.turn p.heard ≡ None → After before p (pages_in Pending before ++ page ∷ [])
-put before p page few put took =
+put-page : (before : List Played) (p : Played) (page : ℕ) → AreFewTaken before → put_by Pending p.turn p.heard ≡ Some page → took_by Pending p.turn p.heard ≡ None → After before p (pages_in Pending before ++ page ∷ [])
+put-page before p page few put took =
     let puts : puts_in Pending (before ++ p ∷ []) ≡ puts_in Pending before ++ page ∷ [] = puts-push before p ∙ ap (λ o. puts_in Pending before ++ cons_option o []) put in
     let takes : takes_in Pending (before ++ p ∷ []) ≡ takes_in Pending before = takes-push before p ∙ ap (λ o. takes_in Pending before ++ cons_option o []) took ∙ append-nil (takes_in Pending before) in
     record {
@@ -66,8 +66,8 @@ drop-some (suc n) [] rest x e = cc e
 drop-some (suc n) (y ∷ xs) rest x e = let r = drop-some n xs rest x e in omega (arith, r)
 
 -- the first page was taken
-took : (before : List Played) (p : Played) (page : ℕ) (rest : List ℕ) → AreFewTaken before → pages_in Pending before ≡ page ∷ rest → put_by Pending p.turn p.heard ≡ None → took_by Pending p.turn p.heard ≡ Some page → After before p rest
-took before p page rest few first put took =
+took-page : (before : List Played) (p : Played) (page : ℕ) (rest : List ℕ) → AreFewTaken before → pages_in Pending before ≡ page ∷ rest → put_by Pending p.turn p.heard ≡ None → took_by Pending p.turn p.heard ≡ Some page → After before p rest
+took-page before p page rest few first put took =
     let puts : puts_in Pending (before ++ p ∷ []) ≡ puts_in Pending before = puts-push before p ∙ ap (λ o. puts_in Pending before ++ cons_option o []) put ∙ append-nil (puts_in Pending before) in
     let takes : takes_in Pending (before ++ p ∷ []) ≡ takes_in Pending before ++ page ∷ [] = takes-push before p ∙ ap (λ o. takes_in Pending before ++ cons_option o []) took in
     let many : length (takes_in Pending before ++ page ∷ []) ≡ length (takes_in Pending before) + 1 = length-append (takes_in Pending before) (page ∷ []) in
@@ -79,19 +79,19 @@ took before p page rest few first put took =
 
 -- ---- a turn and its answer
 
-made : ℕ → Turn → Heard → Bool → Played
+abbrev made : ℕ → Turn → Heard → Bool → Played
 made actor turn heard ended = record { actor = actor; turn = turn; heard = heard; ended = ended }
 
 pub lane-step : (g : Geometry) (before : List Played) (actor : ℕ) (turn : Turn) (heard : Heard) (ended : Bool) → IsLaneAnswer g before turn heard → AreFewTaken before → IsLaneStep before (record { actor = actor; turn = turn; heard = heard; ended = ended })
 lane-step g before actor (Do action) (Answer reply) ended h few = let a = alone before (made actor (Do action) (Answer reply) ended) few refl refl in record { step = a.now; few = a.few }
 lane-step g before actor (Put Candidates page) PutDone ended h few = let a = alone before (made actor (Put Candidates page) PutDone ended) few refl refl in record { step = a.now; few = a.few }
 lane-step g before actor (Put Candidates page) PutFull ended h few = let a = alone before (made actor (Put Candidates page) PutFull ended) few refl refl in record { step = a.now; few = a.few }
-lane-step g before actor (Put Pending page) PutDone ended h few = let a = put before (made actor (Put Pending page) PutDone ended) page few refl refl in record { step = a.now; few = a.few }
+lane-step g before actor (Put Pending page) PutDone ended h few = let a = put-page before (made actor (Put Pending page) PutDone ended) page few refl refl in record { step = a.now; few = a.few }
 lane-step g before actor (Put Pending page) PutFull ended h few = let a = alone before (made actor (Put Pending page) PutFull ended) few refl refl in record { step = a.now; few = a.few }
 lane-step g before actor (Take Candidates) (Took page) ended h few = let a = alone before (made actor (Take Candidates) (Took page) ended) few refl refl in record { step = a.now; few = a.few }
 lane-step g before actor (Take Candidates) TookNone ended h few = let a = alone before (made actor (Take Candidates) TookNone ended) few refl refl in record { step = a.now; few = a.few }
 lane-step g before actor (Take Pending) (Took page) ended h few =
-    let a = took before (made actor (Take Pending) (Took page) ended) page h.0 few h.1 refl refl in
+    let a = took-page before (made actor (Take Pending) (Took page) ended) page h.0 few h.1 refl refl in
     record { step = h.1 ∙ ap (λ (l : List ℕ). page ∷ l) (sym a.now); few = a.few }
 lane-step g before actor (Take Pending) TookNone ended h few = let a = alone before (made actor (Take Pending) TookNone ended) few refl refl in record { step = (h, a.now ∙ h); few = a.few }
 lane-step g before actor turn heard ended h few = absurd h
