@@ -13,7 +13,6 @@ use Rattle.nm_inspect.specs.declared.inspect.Inspected.TheVariants.{Elsewhere, I
 use Rattle.nm_actor.specs.Turns.{Turns}
 use Rattle.nm_worker.specs.Notes.{Notes, noted_turns, worked}
 use Rattle.nm_worker.proofs.NoteLists.{turns-append}
-use Rattle.nm_kswap.specs.declared.stage.Kept.{Kept}
 use Rattle.nm_kswap.specs.Works.{ReclaimerWorkMade, ReclaimerWorkEnd, IsReclaimerWork, made_asking, made_level, made_inspect, made_demote}
 use Rattle.nm_kswap.specs.Ends.{asked_in, level_in, inspected_in, demoted_in, spent_in, frames_freed, reclaimer_counts}
 use Rattle.nm_kswap.specs.Reclaiming.{Sequence, hand_of, hand_moved, with_drawn, marks_of, last_tier, has_vpage, Does, Demotes, AfterInspect, Inspects, Visit, VisitsPages, Relieves, Tiers, ReclaimerRound, ReclaimerRounds, kept_at_first, IsReclaiming}
@@ -93,43 +92,43 @@ ends-only notes outcome h =
     let N : Notes → Type 0 = λ l. IsQuietlyNoted l in
     subst N (sym h.none) (record { only = tt; off = tt })
 
-demotes-only : (g : Geometry) (page level : ℕ) (kept : Kept) (after : ℕ → Kept → Sequence) → ((level : ℕ) (kept : Kept) → Only (after level kept)) → Only (Demotes g page level kept after)
+demotes-only : (g : Geometry) (page level : ℕ) (kept : _) (after : ℕ → _ → Sequence) → ((level : ℕ) (kept : _) → Only (after level kept)) → Only (Demotes g page level kept after)
 demotes-only g page level kept after rest =
     does-only g (made_demote g page kept.spent) (λ end. after (level + frames_freed (demoted_in end)) (with_drawn (spent_in end) kept)) (demote-only g page kept.spent)
     (λ end. rest (level + frames_freed (demoted_in end)) (with_drawn (spent_in end) kept))
 
-after-inspect-only : (g : Geometry) (page level : ℕ) (kept : Kept) (after : ℕ → Kept → Sequence) (found : Inspected) → ((level : ℕ) (kept : Kept) → Only (after level kept)) → Only (AfterInspect g page level kept after found)
+after-inspect-only : (g : Geometry) (page level : ℕ) (kept : _) (after : ℕ → _ → Sequence) (found : Inspected) → ((level : ℕ) (kept : _) → Only (after level kept)) → Only (AfterInspect g page level kept after found)
 after-inspect-only g page level kept after Elsewhere rest = rest level kept
 after-inspect-only g page level kept after InUse rest = rest level kept
 after-inspect-only g page level kept after Idle rest = demotes-only g page level kept after rest
 
-visit-only : (g : Geometry) (tier page level : ℕ) (kept : Kept) (after : ℕ → Kept → Sequence) → ((level : ℕ) (kept : Kept) → Only (after level kept)) → Only (Visit g tier page level kept after)
+visit-only : (g : Geometry) (tier page level : ℕ) (kept : _) (after : ℕ → _ → Sequence) → ((level : ℕ) (kept : _) → Only (after level kept)) → Only (Visit g tier page level kept after)
 visit-only g tier page level kept after rest =
     either-only (has_vpage g page) (Inspects g tier page level kept after) (after level kept)
     (does-only g (made_inspect g page tier) (λ end. AfterInspect g page level kept after (inspected_in end)) (inspect-only g page tier) (λ end. after-inspect-only g page level kept after (inspected_in end) rest))
     (rest level kept)
 
-visits-only : (g : Geometry) (tier more level : ℕ) (kept : Kept) (after : Kept → Sequence) → ((kept : Kept) → Only (after kept)) → Only (VisitsPages g tier more level kept after)
+visits-only : (g : Geometry) (tier more level : ℕ) (kept : _) (after : _ → Sequence) → ((kept : _) → Only (after kept)) → Only (VisitsPages g tier more level kept after)
 visits-only g tier zero level kept after rest = rest kept
 visits-only g tier (suc more) level kept after rest =
-    let next : ℕ → Kept → Sequence = λ level kept. VisitsPages g tier more level kept after in
+    let next : ℕ → _ → Sequence = λ level kept. VisitsPages g tier more level kept after in
     either-only (nat_lt level (marks_of g tier).high) (Visit g tier (hand_of tier kept) level (hand_moved g tier kept) next) (after kept)
     (visit-only g tier (hand_of tier kept) level (hand_moved g tier kept) next (λ level kept. visits-only g tier more level kept after rest))
     (rest kept)
 
-relieves-only : (g : Geometry) (tier : ℕ) (kept : Kept) (after : Kept → Sequence) → ((kept : Kept) → Only (after kept)) → Only (Relieves g tier kept after)
+relieves-only : (g : Geometry) (tier : ℕ) (kept : _) (after : _ → Sequence) → ((kept : _) → Only (after kept)) → Only (Relieves g tier kept after)
 relieves-only g tier kept after rest =
     does-only g (made_level g tier) (λ end. Either (nat_le (level_in end) (marks_of g tier).low) (VisitsPages g tier (page_count g) (level_in end) kept after) (after kept)) (level-only g tier)
     (λ end. either-only (nat_le (level_in end) (marks_of g tier).low) (VisitsPages g tier (page_count g) (level_in end) kept after) (after kept) (visits-only g tier (page_count g) (level_in end) kept after rest) (rest kept))
 
-tiers-only : (g : Geometry) (tier more : ℕ) (kept : Kept) (after : Kept → Sequence) → ((kept : Kept) → Only (after kept)) → Only (Tiers g tier more kept after)
+tiers-only : (g : Geometry) (tier more : ℕ) (kept : _) (after : _ → Sequence) → ((kept : _) → Only (after kept)) → Only (Tiers g tier more kept after)
 tiers-only g tier zero kept after rest = rest kept
 tiers-only g tier (suc more) kept after rest = relieves-only g tier kept (λ kept. Tiers g (tier + 1) more kept after) (λ kept. tiers-only g (tier + 1) more kept after rest)
 
-rounds-only : (g : Geometry) (more : ℕ) (kept : Kept) → Only (ReclaimerRounds g more kept)
+rounds-only : (g : Geometry) (more : ℕ) (kept : _) → Only (ReclaimerRounds g more kept)
 rounds-only g zero kept notes outcome h = absurd h
 rounds-only g (suc more) kept notes outcome h =
-    let after : Bool → Kept → Sequence = λ ended kept. Either ended (Ends tt) (ReclaimerRounds g more kept) in
+    let after : Bool → _ → Sequence = λ ended kept. Either ended (Ends tt) (ReclaimerRounds g more kept) in
     does-only g (made_asking g) (λ end. Tiers g 0 (last_tier g) kept (after (asked_in end))) (ask-only g)
     (λ end. tiers-only g 0 (last_tier g) kept (after (asked_in end)) (λ kept. either-only (asked_in end) (Ends tt) (ReclaimerRounds g more kept) ends-only (rounds-only g more kept)))
     notes outcome h

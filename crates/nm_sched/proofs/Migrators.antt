@@ -11,8 +11,9 @@ use Rattle.nm_migrator.specs.Planned.{MigratorKept, nothing_kept}
 use Rattle.nm_migrator.specs.Migrating as migrating
 use Rattle.nm_migrator.specs.Migrating.{Sequence, TakesMappedTry, IsMigrating}
 use Rattle.nm_migrator.specs.declared.actor.MigratorActor.{MigratorActor}
-use Rattle.nm_migrator.specs.Parts.{migrator_made, worker_counted, AgreesMigrator, IsMigratorPart}
+use Rattle.nm_migrator.specs.Parts.{migrator_made, worker_counted, AgreesMigrator}
 use Rattle.nm_programs.specs.Runs.{HasPart}
+use Rattle.nm_sched.specs.Parts.{IsMigratorRun}
 use Rattle.nm_sched.proofs.Acting.{front-none, routine-acts}
 use Rattle.nm_sched.proofs.Ending.{routine-agreed}
 
@@ -42,10 +43,10 @@ migrator-acts a h =
 
 pub migrator-part : (script : Script) (made_with : Geometry × Option ℕ) (turns : Turns) (ended : Bool) (counts : Tally)
     → made_with ≡ record { 0 = script.geometry; 1 = script.retry } → HasPart migrator_made AgreesMigrator (λ a. worker_counted a.worker) made_with turns ended counts
-    → IsMigratorPart script.geometry script.retry turns ended counts
+    → IsMigratorRun script.geometry script.retry turns ended counts
 migrator-part script made_with turns ended counts made h =
     let a = h.actor in
     let counted = worker_counted a.worker in
-    let Made : Geometry × Option ℕ → Type 0 = λ m. IsMigratorPart m.0 m.1 turns ended counted in
-    let Counted : Tally → Type 0 = λ t. IsMigratorPart script.geometry script.retry turns ended t in
-    subst Counted (sym h.counts_so) (subst Made (h.same ∙ made) (routine-agreed (AgreesMigrator a) (λ turns ended. IsMigratorPart (migrator_made a).0 (migrator_made a).1 turns ended counted) turns ended (λ turns last k. k.part) h.agreed))
+    let Made : Geometry × Option ℕ → Type 0 = λ m. IsMigratorRun m.0 m.1 turns ended counted in
+    let Counted : Tally → Type 0 = λ t. IsMigratorRun script.geometry script.retry turns ended t in
+    subst Counted (sym h.counts_so) (subst Made (h.same ∙ made) (routine-agreed (AgreesMigrator a) (λ turns ended. IsMigratorRun (migrator_made a).0 (migrator_made a).1 turns ended counted) turns ended (λ turns last k. record { part = k.part; left = k.empty }) h.agreed))
