@@ -1,6 +1,6 @@
 -- What the parts of the actors of a run show, where all of them have ended: each takes its marks back, and leaves nothing open.
 use Rattle.std.proofs.Common.{◌≡◌, ◌≢◌, ℕ, ◌+◌, ◌<◌, Bool, true, false, List, [], Option, sym, ap, subst, ◌∙◌, inl, inr, arith}
-use Rattle.std.proofs.lemmas.Bool.{cases_lt}
+use Rattle.std.proofs.lemmas.Bool.{cases_eq, cases_lt}
 use Rattle.nm_base.specs.Geometry.{Geometry}
 use Rattle.nm_action.specs.declared.tally.Tally.{Tally}
 use Rattle.nm_action.specs.Own.{Own}
@@ -26,6 +26,7 @@ use Rattle.nm_programs.specs.Runs.{results_of, IsLeftByCpu, IsCpuRun}
 use Rattle.nm_sched.specs.Parts.{IsMigratorRun, IsReclaimerRun}
 use Rattle.nm_marks.specs.Marks.{HasOnlyMarks, IsNoMark}
 use Rattle.nm_settled.specs.Ended.{IsEndedView}
+use Rattle.nm_settled_play.specs.EndedTurns.{HaveEndedTurns, TurnsTakeMarksBack}
 use Rattle.nm_unmarked.specs.Unmarking.{IsProcessorUnmarking, IsMigratorUnmarking}
 use Rattle.nm_pending.specs.PendingTurns.{FitsPending, AreOffPending, HasPendingAlone}
 use Rattle.nm_pending.proofs.Fitting.{fits-lane}
@@ -89,10 +90,6 @@ pub record AreAllEnded (script : Script) (run : SimRun) (played : List Played) (
   pub migrator : IsMigratorRun script.geometry script.retry (turns_by script.geometry.cpus played) (has_ended played script.geometry.cpus) (tally script.geometry.cpus)
   pub reclaimer : IsReclaimerRun script.geometry (turns_by (script.geometry.cpus + 1) played) (has_ended played (script.geometry.cpus + 1)) (tally (script.geometry.cpus + 1))
 
--- the last actor of a machine is the reclaimer
-last-actor : (g : Geometry) (actor : ℕ) → IsActor g actor → actor ≢ g.cpus → ¬ (actor < g.cpus) → actor ≡ g.cpus + 1
-last-actor g actor there other past = omega (arith, there, other, past)
-
 -- the migrator alone puts pages into the lane Pending and takes them from it
 alone : (script : Script) (run : SimRun) (played : List Played) (tally : ℕ → Tally) → AreAllEnded script run played tally → HasPendingAlone script.geometry script.geometry.cpus played
 alone script run played tally h actor there other =
@@ -103,4 +100,46 @@ alone script run played tally h actor there other =
           let O : ℕ → Type 0 = λ a. AreOffPending (turns_by a played) in
           let is : actor ≡ n + 1 = omega (arith, there, other, past) in
           subst O (sym is) (reclaimer-off script.geometry (turns_by (n + 1) played) (has_ended played (n + 1)) (tally (n + 1)) h.reclaimer (h.ended (n + 1) (omega (arith))))
+    ]
+
+-- each actor takes its marks back
+pub marks-back : (script : Script) (run : SimRun) (played : List Played) (tally : ℕ → Tally) → AreAllEnded script run played tally → IsScheduled script.geometry script.schedule played → TurnsTakeMarksBack script.geometry played
+marks-back script run played tally h scheduled =
+    let g = script.geometry in
+    let n = g.cpus in
+    let fits : FitsPending [] (turns_by n played) = fits-lane g script.schedule played n scheduled (alone script run played tally h) in
+    record {
+      processors = λ cpu there. cpu-marks script run played cpu (tally cpu) (h.cpus cpu there) (h.ended cpu (omega (arith, there)));
+      migrator = migrator-marks g script.retry (turns_by n played) (has_ended played n) (tally n) h.migrator (h.ended n (omega (arith))) fits;
+      reclaimer = reclaimer-marks g (turns_by (n + 1) played) (has_ended played (n + 1)) (tally (n + 1)) h.reclaimer (h.ended (n + 1) (omega (arith)));
+    }
+
+-- each actor leaves the view of an actor that has ended
+migrator-view : (script : Script) (run : SimRun) (played : List Played) (tally : ℕ → Tally) → AreAllEnded script run played tally → IsEndedView script.geometry script.geometry.cpus (turns_view script.geometry script.geometry.cpus (turns_by script.geometry.cpus played))
+migrator-view script run played tally h =
+    let g = script.geometry in
+    let n = g.cpus in
+    let L : Bool → Type 0 = λ b. migrator.IsEmptyAtEnd b (turns_view g n (turns_by n played)) in
+    routine-view g n (turns_view g n (turns_by n played)) (λ below. omega (arith, below)) (subst L (h.ended n (omega (arith))) h.migrator.left)
+
+reclaimer-view : (script : Script) (run : SimRun) (played : List Played) (tally : ℕ → Tally) → AreAllEnded script run played tally → IsEndedView script.geometry (script.geometry.cpus + 1) (turns_view script.geometry (script.geometry.cpus + 1) (turns_by (script.geometry.cpus + 1) played))
+reclaimer-view script run played tally h =
+    let g = script.geometry in
+    let n = g.cpus in
+    let L : Bool → Type 0 = λ b. reclaimer.IsEmptyAtEnd b (turns_view g (n + 1) (turns_by (n + 1) played)) in
+    routine-view g (n + 1) (turns_view g (n + 1) (turns_by (n + 1) played)) (λ below. omega (arith, below)) (subst L (h.ended (n + 1) (omega (arith))) h.reclaimer.left)
+
+pub ended-turns : (script : Script) (run : SimRun) (played : List Played) (tally : ℕ → Tally) → AreAllEnded script run played tally → HaveEndedTurns script.geometry played
+ended-turns script run played tally h actor there =
+    let g = script.geometry in
+    let n = g.cpus in
+    let V : ℕ → Type 0 = λ a. IsEndedView g a (turns_view g a (turns_by a played)) in
+    elim (cases_lt actor n) [
+      | inl cpu ↦ cpu-view script run played actor (tally actor) (h.cpus actor cpu) (h.ended actor there)
+      | inr past ↦ elim (cases_eq actor n) [
+        | inl same ↦ subst V (sym same) (migrator-view script run played tally h)
+        | inr other ↦
+            let is : actor ≡ n + 1 = omega (arith, there, other, past) in
+            subst V (sym is) (reclaimer-view script run played tally h)
+      ]
     ]
