@@ -6,7 +6,7 @@ use Rattle.nm_action.specs.declared.turn.Turn.{Turn}
 use Rattle.nm_core.specs.State.{actor_count}
 use Rattle.nm_core.specs.Runs.{accesses_of}
 use Rattle.nm_view.specs.Views.{View}
-use Rattle.nm_actor.specs.Turns.{Turns, turns_view}
+use Rattle.nm_actor.specs.Turns.{Turns, own_list, turns_view}
 use Rattle.nm_script.specs.Plain.{Script}
 use Rattle.nm_report.specs.declared.line_result.LineResult.{LineResult}
 use Rattle.nm_report.specs.Plain.{Report}
@@ -19,6 +19,7 @@ use Rattle.nm_crew.specs.Simulated.{IsSimulated}
 use Rattle.nm_cpu_fault.specs.ProcessorFaults.{processor_faults}
 use Rattle.nm_cpu.specs.Parts.{IsCpuPart}
 use Rattle.nm_cpu.specs.Agreeing.{IsEndedCpu}
+use Rattle.nm_cpu_counts.specs.Counting.{processor_tally}
 use Rattle.nm_programs.specs.Cpus.{program_of}
 use Rattle.nm_programs.specs.Plain.{SimRun}
 
@@ -37,8 +38,11 @@ IsLeftByCpu false view = Unit {0}
 
 -- a processor's part of the turns is that of its program, gave these results and counted this; and its accesses among the
 -- events follow its program with the results
+-- a processor's part of the turns is that of its program, gave these results and counted this, which is what its own list does; and its
+-- accesses among the events follow its program with the results
 pub record IsCpuRun (script : Script) (run : SimRun) (played : List Played) (cpu : ℕ) (counts : Tally) : Type 0 where
   pub part : IsCpuPart processor_faults script.geometry cpu (program_of script cpu) (turns_by cpu played) (has_ended played cpu) (results_of run cpu) counts
+  pub counted : counts ≡ processor_tally (own_list (turns_by cpu played))
   pub follows : FollowsProgram cpu (has_ended played cpu) (program_of script cpu) (results_of run cpu) (own_part_of cpu (accesses_of run.events))
   pub left : IsLeftByCpu (has_ended played cpu) (turns_view script.geometry cpu (turns_by cpu played))
 
