@@ -36,10 +36,8 @@ abbrev pub IsLeftByCpu : Bool → View → Type 0
 IsLeftByCpu true view = IsEndedCpu view
 IsLeftByCpu false view = Unit {0}
 
--- a processor's part of the turns is that of its program, gave these results and counted this; and its accesses among the
--- events follow its program with the results
--- a processor's part of the turns is that of its program, gave these results and counted this, which is what its own list does; and its
--- accesses among the events follow its program with the results
+-- a processor's part of the turns is that of its program, gave these results and counted this, which is what its own list does; its accesses
+-- among the events follow its program with the results; and where it has ended it has left nothing open
 pub record IsCpuRun (script : Script) (run : SimRun) (played : List Played) (cpu : ℕ) (counts : Tally) : Type 0 where
   pub part : IsCpuPart processor_faults script.geometry cpu (program_of script cpu) (turns_by cpu played) (has_ended played cpu) (results_of run cpu) counts
   pub counted : counts ≡ processor_tally (own_list (turns_by cpu played))
