@@ -269,9 +269,9 @@ pub record IsAccessHeard {X : Type 0} (awaits : Geometry → Carried X → View 
   pub answer : IsAnswer geometry (view_then geometry view turns) turn heard
 
 -- a turn is given
-abbrev pub IsTurnGiven : AccessStep → Type 0
-IsTurnGiven (Give turn) = Unit {0}
-IsTurnGiven (Over word) = ⊥
+abbrev pub GivesTurn : AccessStep → Type 0
+GivesTurn (Give turn) = Unit {0}
+GivesTurn (Over word) = ⊥
 
 -- the word was touched, and this is what was heard
 pub record IsTouched (stage : AccessStage) (heard : Heard) (word : ℕ) : Type 0 where

@@ -15,7 +15,7 @@ ghost use Rattle.nm_access.specs.declared.access.AccessStep.TheVariants.{Give};
 ghost use Rattle.nm_access.specs.declared.access.AccessStage.TheVariants.{Looking, Faulting, Walking};
 ghost use Rattle.nm_access.specs.Faults.{fault_kinds};
 ghost use Rattle.nm_access.specs.Accesses.{Carried, is_write, touch_action, serves, is_marked};
-ghost use Rattle.nm_access.specs.Accessing.{access_turn, tried_stage, marked_stage, IsAccessHeard, IsCatchingStage, IsToldStage, IsTurnGiven, DoesTouch, view_then};
+ghost use Rattle.nm_access.specs.Accessing.{access_turn, tried_stage, marked_stage, IsAccessHeard, IsCatchingStage, IsToldStage, GivesTurn, DoesTouch, view_then};
 ghost use Rattle.nm_access.specs.Moving.{AwaitsOf, IsStepOf, IsTrying, IsOpening, IsGiving, IsFresh};
 ghost use Rattle.nm_xlat.specs.declared.translations.Entry.{Entry};
 ghost use Rattle.nm_xlat.specs.Translations.{translation_of};
@@ -274,7 +274,7 @@ impl<'a, F: Faults<'a> + Drop> Access<'a, F> {
         ensures step { (g : Geometry) (was : Carried F.Outcome) (view : View) (turns : Turns) → IsTrying (fault_kinds F.shape F.leaves F.waits_at F.missing F.shadowed F.counted) self.old g was view turns
             → IsStepOf (fault_kinds F.shape F.leaves F.waits_at F.missing F.shadowed F.counted) F.made F.awaits self.new g was view turns result }
         ensures made { self.new.made ≡ self.old.made }
-        ensures given { IsTurnGiven result }
+        ensures given { GivesTurn result }
     {
         self.stage = AccessStage::CatchingUp;
         AccessStep::Give(Turn::Do(self.cache.poll()))
@@ -285,7 +285,7 @@ impl<'a, F: Faults<'a> + Drop> Access<'a, F> {
         ensures step { (g : Geometry) (was : Carried F.Outcome) (view : View) (turns : Turns) → IsGiving (fault_kinds F.shape F.leaves F.waits_at F.missing F.shadowed F.counted) F.made F.awaits self.old action g was view turns
             → IsStepOf (fault_kinds F.shape F.leaves F.waits_at F.missing F.shadowed F.counted) F.made F.awaits self.new g was view turns result }
         ensures made { self.new.made ≡ self.old.made }
-        ensures given { IsTurnGiven result }
+        ensures given { GivesTurn result }
     {
         if self.fault.waits() {
             self.stage = AccessStage::Waiting(action);
@@ -303,7 +303,7 @@ impl<'a, F: Faults<'a> + Drop> Access<'a, F> {
         ensures step { (g : Geometry) (was : Carried F.Outcome) (view : View) (turns : Turns) (turn : Turn) → AwaitsOf (fault_kinds F.shape F.leaves F.waits_at F.missing F.shadowed F.counted) F.made F.awaits self.old g was view turns turn
             → IsAnswer g (view_then g view turns) turn (Answer (Word word)) → IsStepOf (fault_kinds F.shape F.leaves F.waits_at F.missing F.shadowed F.counted) F.made F.awaits self.new g was view (turns ++ (turn, Answer (Word word)) ∷ []) result }
         ensures made { self.new.made ≡ self.old.made }
-        ensures given { IsTurnGiven result }
+        ensures given { GivesTurn result }
     {
         let vpage = self.made.vpage;
         if word == 0 {
@@ -328,7 +328,7 @@ impl<'a, F: Faults<'a> + Drop> Access<'a, F> {
         ensures step { (g : Geometry) (was : Carried F.Outcome) (view : View) → IsOpening (fault_kinds F.shape F.leaves F.waits_at F.missing F.shadowed F.counted) self.old made g was view
             → IsStepOf (fault_kinds F.shape F.leaves F.waits_at F.missing F.shadowed F.counted) F.made F.awaits self.new g was view [] result }
         ensures made { self.new.made ≡ made }
-        ensures given { IsTurnGiven result }
+        ensures given { GivesTurn result }
     {
         self.made = made;
         self.hinted = false;
@@ -342,7 +342,7 @@ impl<'a, F: Faults<'a> + Drop> Access<'a, F> {
         ensures step { (g : Geometry) (was : Carried F.Outcome) (view : View) (turns : Turns) (turn : Turn) → AwaitsOf (fault_kinds F.shape F.leaves F.waits_at F.missing F.shadowed F.counted) F.made F.awaits self.old g was view turns turn
             → IsAnswer g (view_then g view turns) turn (Answer reply) → IsStepOf (fault_kinds F.shape F.leaves F.waits_at F.missing F.shadowed F.counted) F.made F.awaits self.new g was view (turns ++ (turn, Answer reply) ∷ []) result }
         ensures made { self.new.made ≡ self.old.made }
-        ensures given { IsTurnGiven result }
+        ensures given { GivesTurn result }
     {
         match self.cache.after(reply) {
             Step::Do(action) => AccessStep::Give(Turn::Do(action)),
@@ -364,7 +364,7 @@ impl<'a, F: Faults<'a> + Drop> Access<'a, F> {
         ensures step { (g : Geometry) (was : Carried F.Outcome) (view : View) (turns : Turns) (turn : Turn) → AwaitsOf (fault_kinds F.shape F.leaves F.waits_at F.missing F.shadowed F.counted) F.made F.awaits self.old g was view turns turn
             → IsAnswer g (view_then g view turns) turn (Answer reply) → IsStepOf (fault_kinds F.shape F.leaves F.waits_at F.missing F.shadowed F.counted) F.made F.awaits self.new g was view (turns ++ (turn, Answer reply) ∷ []) result }
         ensures made { self.new.made ≡ self.old.made }
-        ensures given { IsTurnGiven result }
+        ensures given { GivesTurn result }
     {
         match self.fault.after(reply) {
             Step::Do(action) => self.give(action),
@@ -382,7 +382,7 @@ impl<'a, F: Faults<'a> + Drop> Access<'a, F> {
         ensures step { (g : Geometry) (was : Carried F.Outcome) (view : View) (turns : Turns) (turn : Turn) → AwaitsOf (fault_kinds F.shape F.leaves F.waits_at F.missing F.shadowed F.counted) F.made F.awaits self.old g was view turns turn
             → IsAnswer g (view_then g view turns) turn (Answer Done) → IsStepOf (fault_kinds F.shape F.leaves F.waits_at F.missing F.shadowed F.counted) F.made F.awaits self.new g was view (turns ++ (turn, Answer Done) ∷ []) result }
         ensures made { self.new.made ≡ self.old.made }
-        ensures given { IsTurnGiven result }
+        ensures given { GivesTurn result }
     {
         let frame = frame_of(word);
         let dirty = walked_dirty(self.made.touch, word);

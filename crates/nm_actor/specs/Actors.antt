@@ -1,5 +1,5 @@
 -- Actors: what they hear, and the turns that they give.
-use Rattle.std.specs.Prelude.{ℕ, [], ◌∷◌, ◌++◌, Option, Some, None}
+use Rattle.std.specs.Prelude.{ℕ, Bool, true, false, [], ◌∷◌, ◌++◌, Option, Some, None}
 use Rattle.nm_base.specs.Geometry.{Geometry}
 use Rattle.nm_action.specs.declared.turn.Turn.{Turn}
 use Rattle.nm_action.specs.declared.turn.Turn.TheVariants.{Do, Put, Take, End}
@@ -52,3 +52,8 @@ pub record HasHeard (g : Geometry) (number : ℕ) (agrees : Turns → Option Tur
 pub record IsTurn (g : Geometry) (number : ℕ) (agrees : Turns → Option Turn → Type 0) (turns : Turns) (turn : Turn) : Type 0 where
   pub agreed : agrees turns (Some turn)
   pub permitted : IsPermittedTurn g (turns_view g number turns) turn
+
+-- the turn that was given last is End
+abbrev pub gave_end : Option Turn → Bool
+gave_end (Some End) = true
+gave_end last = false

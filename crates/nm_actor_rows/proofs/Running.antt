@@ -16,7 +16,7 @@ use Rattle.nm_event.specs.Fitting.{Fits}
 use Rattle.nm_part.specs.Parts.{IsPartStep, IsHeard}
 use Rattle.nm_actor.specs.Turns.{Turns, own_list, turns_view}
 use Rattle.nm_actor.specs.Actors.{answered, IsAnswer, IsAnswerTo, IsPermittedTurn, IsTurn}
-use Rattle.nm_actor_rows.specs.Running.{turns_of, turn_of, IsWaiting, IsAtStep, IsAgreed}
+use Rattle.nm_actor_rows.specs.Running.{turns_of, turn_of, IsWaiting, IsAtStep, IsAgreedOn}
 
 own-of : (own : Own) → own_list (turns_of own) ≡ own
 own-of [] = refl
@@ -49,7 +49,7 @@ running-step awaits shape leaves ended g number done turn reply h a =
 
 -- its part hears the reply
 pub running-heard : {waiting : Type 0} {kept : Option Turn} {O : Type 0} (awaits : Geometry → View → Own → Action → Type 0) (shape : Geometry → Own → O → Type 0) (leaves : Geometry → View → O → View → Type 0) (ended : Geometry → Own → O → Type 0) (g : Geometry) (number : ℕ) (done : Turns) (last : Option Turn) (reply : Reply)
-    → IsAgreed waiting (IsAtStep awaits shape leaves ended g number done) kept last → IsAnswerTo g (turns_view g number done) last (Answer reply) → IsHeard awaits reply
+    → IsAgreedOn waiting (IsAtStep awaits shape leaves ended g number done) kept last → IsAnswerTo g (turns_view g number done) last (Answer reply) → IsHeard awaits reply
 running-heard awaits shape leaves ended g number done None reply h a = absurd a
 running-heard awaits shape leaves ended g number done (Some turn) reply h a =
     let s = running-step awaits shape leaves ended g number done turn reply h.by a in
@@ -63,7 +63,7 @@ permitted-turn awaits shape leaves ended g view own (Over outcome) p = tt
 -- a step of its part is its turn
 step-turn : {O : Type 0} (waiting : Turns → Type 0) (awaits : Geometry → View → Own → Action → Type 0) (shape : Geometry → Own → O → Type 0) (leaves : Geometry → View → O → View → Type 0) (ended : Geometry → Own → O → Type 0) (g : Geometry) (number : ℕ) (kept : Option Turn) (done : Turns) (own : Own) (step : Step O) (turn : Turn)
     → done ≡ turns_of own → turn ≡ turn_of step → kept ≡ Some turn → IsPartStep awaits shape leaves ended g (opening g number) own step
-    → IsTurn g number (λ done last. IsAgreed (waiting done) (IsAtStep awaits shape leaves ended g number done) kept last) done turn
+    → IsTurn g number (λ done last. IsAgreedOn (waiting done) (IsAtStep awaits shape leaves ended g number done) kept last) done turn
 step-turn waiting awaits shape leaves ended g number kept done own step turn list is keeps given =
     let P : View → Type 0 = λ view. IsPermittedTurn g view (turn_of step) in
     record {
@@ -73,7 +73,7 @@ step-turn waiting awaits shape leaves ended g number kept done own step turn lis
 
 -- where Start is heard no turn was given
 none-given : {waiting : Type 0} {running : Turn → Type 0} {kept : Option Turn} (g : Geometry) (view : View) (last : Option Turn) (done : Turns)
-    → IsAgreed waiting running kept last → IsAnswerTo g view last Start → waiting × (answered last Start done ≡ done)
+    → IsAgreedOn waiting running kept last → IsAnswerTo g view last Start → waiting × (answered last Start done ≡ done)
 none-given g view None done h a = (h.by, refl)
 none-given g view (Some (turns.Do action)) done h a = absurd a
 none-given g view (Some (turns.Put lane page)) done h a = absurd a
@@ -82,10 +82,10 @@ none-given g view (Some turns.End) done h a = absurd a
 
 -- the first turn
 pub running-first : {new : Type 0} {running : Turn → Type 0} {was kept : Option Turn} {O M : Type 0} (waiting : Turns → Type 0) (may_begin : Geometry → View → Type 0) (next : Geometry → View → Own → Action → Type 0) (shape : M → Geometry → Own → O → Type 0) (leaves : M → Geometry → View → O → View → Type 0) (ended : Geometry → Own → O → Type 0) (made m : M) (g : Geometry) (number : ℕ) (done : Turns) (last : Option Turn) (turn : Turn) (result : Step O)
-    → IsAgreed (IsWaiting new may_begin g number done) running was last → IsAnswerTo g (turns_view g number done) last Start
+    → IsAgreedOn (IsWaiting new may_begin g number done) running was last → IsAnswerTo g (turns_view g number done) last Start
     → made ≡ m → ((g : Geometry) (v : View) → may_begin g v → IsPartStep next (shape made) (leaves made) ended g v [] result)
     → turn ≡ turn_of result → kept ≡ Some turn
-    → IsTurn g number (λ done last. IsAgreed (waiting done) (IsAtStep next (shape m) (leaves m) ended g number done) kept last) (answered last Start done) turn
+    → IsTurn g number (λ done last. IsAgreedOn (waiting done) (IsAtStep next (shape m) (leaves m) ended g number done) kept last) (answered last Start done) turn
 running-first {kept = kept} {O = O} {M = M} waiting may_begin next shape leaves ended made m g number done last turn result h a same first is keeps =
     let b = none-given g (turns_view g number done) last done h a in
     let R : M → Type 0 = λ k. IsPartStep next (shape k) (leaves k) ended g (opening g number) [] result in
@@ -93,10 +93,10 @@ running-first {kept = kept} {O = O} {M = M} waiting may_begin next shape leaves 
 
 -- the turn after a reply
 pub running-more : {new : Type 0} {was kept : Option Turn} {O M : Type 0} (waiting : Turns → Type 0) (awaits next : Geometry → View → Own → Action → Type 0) (shape : M → Geometry → Own → O → Type 0) (leaves : M → Geometry → View → O → View → Type 0) (ended ended' : Geometry → Own → O → Type 0) (made m : M) (g : Geometry) (number : ℕ) (done : Turns) (last : Option Turn) (turn : Turn) (reply : Reply) (result : Step O)
-    → IsAgreed new (IsAtStep awaits (shape made) (leaves made) ended g number done) was last → IsAnswerTo g (turns_view g number done) last (Answer reply)
+    → IsAgreedOn new (IsAtStep awaits (shape made) (leaves made) ended g number done) was last → IsAnswerTo g (turns_view g number done) last (Answer reply)
     → made ≡ m → ((g : Geometry) (v : View) (own : Own) (a : Action) → awaits g v own a → Fits g (view_after g v own) a reply → IsPartStep next (shape made) (leaves made) ended' g v (own ++ (a, reply) ∷ []) result)
     → turn ≡ turn_of result → kept ≡ Some turn
-    → IsTurn g number (λ done last. IsAgreed (waiting done) (IsAtStep next (shape m) (leaves m) ended' g number done) kept last) (answered last (Answer reply) done) turn
+    → IsTurn g number (λ done last. IsAgreedOn (waiting done) (IsAtStep next (shape m) (leaves m) ended' g number done) kept last) (answered last (Answer reply) done) turn
 running-more waiting awaits next shape leaves ended ended' made m g number done None turn reply result h a same after is keeps = absurd a
 running-more {kept = kept} {O = O} {M = M} waiting awaits next shape leaves ended ended' made m g number done (Some last) turn reply result h a same after is keeps =
     let r = h.by in

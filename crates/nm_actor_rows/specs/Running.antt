@@ -44,7 +44,7 @@ AgreesBy waiting running None = waiting
 AgreesBy waiting running (Some turn) = running turn
 
 -- it keeps the turn that it gave last
-pub record IsAgreed (waiting : Type 0) (running : Turn → Type 0) (kept last : Option Turn) : Type 0 where
+pub record IsAgreedOn (waiting : Type 0) (running : Turn → Type 0) (kept last : Option Turn) : Type 0 where
   pub same : kept ≡ last
   pub by : AgreesBy waiting running last
 

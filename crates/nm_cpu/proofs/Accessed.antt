@@ -22,29 +22,29 @@ use Rattle.nm_access.proofs.TurnSteps.{then-append}
 use Rattle.nm_cpu.specs.declared.actor.Processor.{Processor}
 use Rattle.nm_cpu.specs.declared.actor.CpuStage.{CpuStage}
 use Rattle.nm_cpu.specs.declared.actor.CpuStage.TheVariants.{Accessing}
-use Rattle.nm_cpu.specs.Lines.{own_accesses, HasFollowed}
-use Rattle.nm_cpu.specs.Agreeing.{geometry_of, opened_view, accesses_of_turns, line_touch, IsBetween, IsUnderWay, HasTouched, IsAtAccess, IsAtCpuStage, IsAtTurn, IsAdvanced}
+use Rattle.nm_cpu.specs.Lines.{own_accesses, FollowsSoFar}
+use Rattle.nm_cpu.specs.Agreeing.{geometry_of, cpu_view, accesses_of_turns, line_touch, IsBetweenLines, IsUnderWay, HasTouched, IsAtAccess, IsAtCpuStage, IsAtCpuTurn, IsAdvanced}
 use Rattle.nm_cpu.proofs.Silent.{accesses-push, silent-stage, touched-stage}
 use Rattle.nm_cpu.proofs.Going.{access-given}
 
 -- An access hears an answer.
 
-pub at-access : {F M X : Type 0} (kinds : FaultKinds M X) (made_of : F → M) (awaits_of : F → Geometry → View → Own → Action → Type 0) (c : Processor F) (turns : Turns) (last : Option Turn) → c.stage ≡ Accessing → IsAtTurn kinds made_of awaits_of c turns last → IsAtAccess kinds made_of awaits_of c turns last
+pub at-access : {F M X : Type 0} (kinds : FaultKinds M X) (made_of : F → M) (awaits_of : F → Geometry → View → Own → Action → Type 0) (c : Processor F) (turns : Turns) (last : Option Turn) → c.stage ≡ Accessing → IsAtCpuTurn kinds made_of awaits_of c turns last → IsAtAccess kinds made_of awaits_of c turns last
 at-access kinds made_of awaits_of c turns last at h = subst (λ (s : CpuStage). IsAtCpuStage kinds made_of awaits_of s c turns last) at h.at
 
-access-answer : {F M X : Type 0} (kinds : FaultKinds M X) (made_of : F → M) (awaits_of : F → Geometry → View → Own → Action → Type 0) (c : Processor F) (turns : Turns) (last : Option Turn) (heard : Heard) → (a : IsAtAccess kinds made_of awaits_of c turns last) → IsAnswerTo (geometry_of c) (opened_view c turns) last heard
-    → IsAnswer (geometry_of c) (view_then (geometry_of c) (opened_view c a.front) a.inner) a.turn heard
+access-answer : {F M X : Type 0} (kinds : FaultKinds M X) (made_of : F → M) (awaits_of : F → Geometry → View → Own → Action → Type 0) (c : Processor F) (turns : Turns) (last : Option Turn) (heard : Heard) → (a : IsAtAccess kinds made_of awaits_of c turns last) → IsAnswerTo (geometry_of c) (cpu_view c turns) last heard
+    → IsAnswer (geometry_of c) (view_then (geometry_of c) (cpu_view c a.front) a.inner) a.turn heard
 access-answer kinds made_of awaits_of c turns last heard a answer =
     let g = geometry_of c in
-    let L : Option Turn → Type 0 = λ l. IsAnswerTo g (opened_view c turns) l heard in
-    let T : Turns → Type 0 = λ t. IsAnswer g (opened_view c t) a.turn heard in
+    let L : Option Turn → Type 0 = λ l. IsAnswerTo g (cpu_view c turns) l heard in
+    let T : Turns → Type 0 = λ t. IsAnswer g (cpu_view c t) a.turn heard in
     subst (λ (v : View). IsAnswer g v a.turn heard) (then-append g (opening g c.made.number) a.front a.inner) (subst T a.run.is (subst L a.given answer))
 
 pub access-heard : {F M X : Type 0} (kinds : FaultKinds M X) (made_of : F → M) (awaits_of : F → Geometry → View → Own → Action → Type 0) (c : Processor F) (heard : Heard) → c.stage ≡ Accessing
-    → HasHeard (geometry_of c) c.made.number (IsAtTurn kinds made_of awaits_of c) heard → IsAccessHeard (AwaitsOf kinds made_of awaits_of c.access) heard
+    → HasHeard (geometry_of c) c.made.number (IsAtCpuTurn kinds made_of awaits_of c) heard → IsAccessHeard (AwaitsOf kinds made_of awaits_of c.access) heard
 access-heard kinds made_of awaits_of c heard at h =
     let a = at-access kinds made_of awaits_of c h.turns h.last at h.agreed in
-    record { geometry = geometry_of c; was = a.run.held; view = opened_view c a.front; turns = a.inner; turn = a.turn; awaited = a.awaited; answer = access-answer kinds made_of awaits_of c h.turns h.last heard a h.answer }
+    record { geometry = geometry_of c; was = a.run.held; view = cpu_view c a.front; turns = a.inner; turn = a.turn; awaited = a.awaited; answer = access-answer kinds made_of awaits_of c h.turns h.last heard a h.answer }
 
 -- the turns with the answer
 access-turns : {F M X : Type 0} (kinds : FaultKinds M X) (made_of : F → M) (awaits_of : F → Geometry → View → Own → Action → Type 0) (c : Processor F) (turns : Turns) (last : Option Turn) (heard : Heard) → (a : IsAtAccess kinds made_of awaits_of c turns last)
@@ -66,12 +66,12 @@ Steps {F} {M} {X} kinds made_of awaits_of old new heard step = (g : Geometry) (w
 -- the access goes on
 pub access-goes-on : {F M X : Type 0} (kinds : FaultKinds M X) (made_of : F → M) (awaits_of : F → Geometry → View → Own → Action → Type 0) (c : Processor F) (new : Access F) (heard : Heard) (step : AccessStep) (turn : Turn) (turns : Turns) (last : Option Turn)
     → c.stage ≡ Accessing → new.made ≡ c.access.made → step ≡ Give turn → DoesTouch c.access.stage heard step → Steps kinds made_of awaits_of c.access new heard step
-    → IsAtTurn kinds made_of awaits_of c turns last → IsAnswerTo (geometry_of c) (opened_view c turns) last heard → IsAdvanced kinds made_of awaits_of (record c { access = new }) (answered last heard turns) turn
+    → IsAtCpuTurn kinds made_of awaits_of c turns last → IsAnswerTo (geometry_of c) (cpu_view c turns) last heard → IsAdvanced kinds made_of awaits_of (record c { access = new }) (answered last heard turns) turn
 access-goes-on {F} {M} {X} kinds made_of awaits_of c new heard step turn turns last at same is touch steps h answer =
     let a = at-access kinds made_of awaits_of c turns last at h in
     let g = geometry_of c in
     let d : Processor F = record c { access = new } in
-    let view = opened_view c a.front in
+    let view = cpu_view c a.front in
     let inner : Turns = a.inner ++ (a.turn, heard) ∷ [] in
     let asked : IsStepOf kinds made_of awaits_of new g a.run.held view inner (Give turn) = subst (λ (s : AccessStep). IsStepOf kinds made_of awaits_of new g a.run.held view inner s) is
     (steps g a.run.held view a.inner a.turn a.awaited (access-answer kinds made_of awaits_of c turns last heard a answer)) in
@@ -79,8 +79,8 @@ access-goes-on {F} {M} {X} kinds made_of awaits_of c new heard step turn turns l
     (subst (λ (s : AccessStep). DoesTouch c.access.stage heard s) is touch) a.awaited.at c.made.number heard in
     let list = access-turns kinds made_of awaits_of c turns last heard a in
     let all : accesses_of_turns c (answered last heard turns) ≡ accesses_of_turns c turns = access-list kinds made_of awaits_of c turns last heard [] a quiet ∙ append-nil (accesses_of_turns c turns) in
-    let B : List flat.Access → Type 0 = λ l. HasFollowed c.made.number a.run.done (a.run.line ∷ a.run.lines) c.results.items c.loads l in
-    let between : IsBetween d a.run.done (a.run.line ∷ a.run.lines) a.run.more (answered last heard turns) = record {
+    let B : List flat.Access → Type 0 = λ l. FollowsSoFar c.made.number a.run.done (a.run.line ∷ a.run.lines) c.results.items c.loads l in
+    let between : IsBetweenLines d a.run.done (a.run.line ∷ a.run.lines) a.run.more (answered last heard turns) = record {
       is = a.run.between.is;
       as_many = a.run.between.as_many;
       loads = a.run.between.loads;
@@ -88,17 +88,17 @@ access-goes-on {F} {M} {X} kinds made_of awaits_of c new heard step turn turns l
     } in
     subst (λ (t : Turns). IsAdvanced kinds made_of awaits_of d t turn) (sym list)
     (access-given kinds made_of awaits_of d a.front inner turn a.run.done a.run.line a.run.lines a.run.more a.run.held at h.cpu h.room
-    (subst (λ (t : Turns). IsBetween d a.run.done (a.run.line ∷ a.run.lines) a.run.more t) list between) (same ∙ a.run.access) a.run.due
+    (subst (λ (t : Turns). IsBetweenLines d a.run.done (a.run.line ∷ a.run.lines) a.run.more t) list between) (same ∙ a.run.access) a.run.due
     (subst (λ (v : View). IsPermittedTurn g v turn) (sym (then-append g (opening g c.made.number) a.front inner)) asked.permitted) asked.awaited asked.begun)
 
 -- the access is over
 pub access-over : {F M X : Type 0} (kinds : FaultKinds M X) (made_of : F → M) (awaits_of : F → Geometry → View → Own → Action → Type 0) (c : Processor F) (new : Access F) (heard : Heard) (step : AccessStep) (word : ℕ) (turns : Turns) (last : Option Turn)
     → c.stage ≡ Accessing → new.made ≡ c.access.made → step ≡ Over word → DoesTouch c.access.stage heard step → Steps kinds made_of awaits_of c.access new heard step
-    → IsAtTurn kinds made_of awaits_of c turns last → IsAnswerTo (geometry_of c) (opened_view c turns) last heard → HasTouched kinds (record c { access = new }) word (answered last heard turns)
+    → IsAtCpuTurn kinds made_of awaits_of c turns last → IsAnswerTo (geometry_of c) (cpu_view c turns) last heard → HasTouched kinds (record c { access = new }) word (answered last heard turns)
 access-over {F} {M} {X} kinds made_of awaits_of c new heard step word turns last at same is touch steps h answer =
     let a = at-access kinds made_of awaits_of c turns last at h in
     let g = geometry_of c in
-    let view = opened_view c a.front in
+    let view = cpu_view c a.front in
     let inner : Turns = a.inner ++ (a.turn, heard) ∷ [] in
     let over : IsStepOf kinds made_of awaits_of new g a.run.held view inner (Over word) = subst (λ (s : AccessStep). IsStepOf kinds made_of awaits_of new g a.run.held view inner s) is
     (steps g a.run.held view a.inner a.turn a.awaited (access-answer kinds made_of awaits_of c turns last heard a answer)) in
@@ -121,7 +121,7 @@ access-over {F} {M} {X} kinds made_of awaits_of c new heard step word turns last
     }
 
 -- a line is under way
-pub under-way : {F M X : Type 0} (kinds : FaultKinds M X) (made_of : F → M) (awaits_of : F → Geometry → View → Own → Action → Type 0) (c : Processor F) (heard : Heard) → c.stage ≡ Accessing → HasHeard (geometry_of c) c.made.number (IsAtTurn kinds made_of awaits_of c) heard → IsUnderWay c
+pub under-way : {F M X : Type 0} (kinds : FaultKinds M X) (made_of : F → M) (awaits_of : F → Geometry → View → Own → Action → Type 0) (c : Processor F) (heard : Heard) → c.stage ≡ Accessing → HasHeard (geometry_of c) c.made.number (IsAtCpuTurn kinds made_of awaits_of c) heard → IsUnderWay c
 under-way kinds made_of awaits_of c heard at h =
     let a = at-access kinds made_of awaits_of c h.turns h.last at h.agreed in
     record { done = a.run.done; line = a.run.line; lines = a.run.lines; more = a.run.more; is = a.run.between.is; as_many = a.run.between.as_many; loads = a.run.between.loads; room = h.agreed.room }

@@ -27,7 +27,7 @@ use Rattle.nm_script.specs.declared.script.Line.{Line}
 use Rattle.nm_script.specs.declared.script.Line.TheVariants.{Load, Store, Add, Await}
 use Rattle.nm_report.specs.declared.line_result.LineResult.{LineResult}
 use Rattle.nm_report.specs.declared.line_result.LineResult.TheVariants.{Loaded, Stored, Added, Met, Missed}
-use Rattle.nm_cpu.specs.Programs.{CpuEnd, AfterLine, access_to, Awaits, LineMade, LinesMade, fresh_kept, held_with, IsProgramMade}
+use Rattle.nm_cpu.specs.Programs.{CpuEnd, AfterLine, access_to, Awaits, LineMade, LinesMade, fresh_kept, carried_with, IsProgramMade}
 use Rattle.nm_cpu.specs.Lines.{after_access, after_line}
 
 -- Patterns that have a list.
@@ -72,7 +72,7 @@ after-access-can kinds g (Await v w x max) lines results loads more end = can-ei
 pub program-can : {M X : Type 0} (kinds : FaultKinds M X) (g : Geometry) (program : List Line) → CanEnd (IsProgramMade kinds g program)
 program-can kinds g program =
     let caught = some-acts (CatchesUp g fresh_kept) (catches-up-can g fresh_kept) in
-    can-follow (Acts (CatchesUp g fresh_kept)) (λ kept. LinesMade kinds g program [] (held_with kept [])) caught (lines-can kinds g program [] (held_with caught.outcome []))
+    can-follow (Acts (CatchesUp g fresh_kept)) (λ kept. LinesMade kinds g program [] (carried_with kept [])) caught (lines-can kinds g program [] (carried_with caught.outcome []))
 
 -- Turns that begin a list.
 
@@ -112,7 +112,7 @@ pub opening-begun : {M X : Type 0} (kinds : FaultKinds M X) (g : Geometry) (prog
 opening-begun {M} {X} kinds g program own action begun =
     let done : Own = (own ++ (action, begun.reply) ∷ []) ++ begun.begun.rest in
     let kept : Kept = begun.begun.outcome in
-    let more = lines-can kinds g program [] (held_with kept []) in
+    let more = lines-can kinds g program [] (carried_with kept []) in
     record {
       heard = Answer begun.reply;
       can = record {

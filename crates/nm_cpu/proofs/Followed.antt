@@ -6,7 +6,7 @@ use Rattle.nm_script.specs.declared.script.Line.{Line}
 use Rattle.nm_script.specs.declared.script.Line.TheVariants.{Load, Store, Add, Await}
 use Rattle.nm_report.specs.declared.line_result.LineResult.{LineResult}
 use Rattle.nm_report.specs.Follows.{IsPiece, IsCut, AreMade, FollowsProgram}
-use Rattle.nm_cpu.specs.Lines.{AreLoadsOf, IsTried, HasFollowed}
+use Rattle.nm_cpu.specs.Lines.{AreLoadsOf, IsTried, FollowsSoFar}
 
 -- Lines that were made.
 
@@ -65,7 +65,7 @@ tried-cut p (Await v w x max ∷ lines) loads more back of tried = record { valu
 
 -- the accesses so far follow the program, which goes on
 pub followed-part : (p : ℕ) (program done lines : List Line) (results : List LineResult) (loads more : ℕ) (list : List Access) → program ≡ done ++ lines → length done ≡ length results → AreLoadsOf lines loads more
-    → HasFollowed p done lines results loads list → FollowsProgram p false program results list
+    → FollowsSoFar p done lines results loads list → FollowsProgram p false program results list
 followed-part p program done lines results loads more list is same of h =
     let P : List Line → Type 0 = λ l. AreMade p l results list in
     let L : List Access → Type 0 = λ l. AreMade p (done ++ lines) results l in
@@ -78,7 +78,7 @@ followed-part p program done lines results loads more list is same of h =
     no-true e = cc
 
 -- nothing was made
-pub followed-none : (p : ℕ) (lines : List Line) → HasFollowed p [] lines [] 0 []
+pub followed-none : (p : ℕ) (lines : List Line) → FollowsSoFar p [] lines [] 0 []
 followed-none p lines = record { front = []; back = []; is = refl; made = refl; tried = tried-none p lines }
   where
     tried-none : (p : ℕ) (lines : List Line) → IsTried p lines 0 []
@@ -89,5 +89,5 @@ followed-none p lines = record { front = []; back = []; is = refl; made = refl; 
     tried-none p (Await v w x max ∷ lines) = record { values = []; is = refl; others = tt; count = refl }
 
 -- all lines were made
-pub followed-all : (p : ℕ) (done : List Line) (results : List LineResult) (loads : ℕ) (list : List Access) → HasFollowed p done [] results loads list → AreMade p done results list
+pub followed-all : (p : ℕ) (done : List Line) (results : List LineResult) (loads : ℕ) (list : List Access) → FollowsSoFar p done [] results loads list → AreMade p done results list
 followed-all p done results loads list h = subst (λ (l : List Access). AreMade p done results l) (sym (h.is ∙ (ap (λ (l : List Access). h.front ++ l) h.tried ∙ append-nil h.front))) h.made

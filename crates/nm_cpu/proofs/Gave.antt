@@ -20,9 +20,9 @@ use Rattle.nm_script.specs.declared.script.Line.TheVariants.{Load, Store, Add, A
 use Rattle.nm_report.specs.declared.line_result.LineResult.{LineResult}
 use Rattle.nm_cpu.specs.declared.actor.Processor.{Processor}
 use Rattle.nm_cpu.specs.declared.made.CpuMade.{CpuMade}
-use Rattle.nm_cpu.specs.Programs.{CpuEnd, IsLineOf, line_access, held_with, IsProgramMade}
-use Rattle.nm_cpu.specs.Lines.{HasLoadsLeft, line_result, IsLoadsOf, after_access, after_line, NextLeft, HasFollowed}
-use Rattle.nm_cpu.specs.Agreeing.{geometry_of, program_of, opened_view, accesses_of_turns, IsAtNext, IsUnderWay, HasTouched}
+use Rattle.nm_cpu.specs.Programs.{CpuEnd, IsLineOf, line_access, carried_with, IsProgramMade}
+use Rattle.nm_cpu.specs.Lines.{HasLoadsLeft, line_result, IsLoadsOf, after_access, after_line, NextLeft, FollowsSoFar}
+use Rattle.nm_cpu.specs.Agreeing.{geometry_of, made_program, cpu_view, accesses_of_turns, IsAtNext, IsUnderWay, HasTouched}
 use Rattle.nm_cpu.proofs.Touched.{followed-some, followed-again}
 use Rattle.nm_cpu.proofs.Lines.{lines-begin, left-gave, left-again}
 use Rattle.nm_cpu.proofs.Opening.{first-of}
@@ -30,7 +30,7 @@ use Rattle.nm_cpu.proofs.Opening.{first-of}
 -- What the code needs.
 
 -- the result that is next is that of a line
-pub way-exists : {F : Type 0} (c : Processor F) → IsUnderWay c → length c.results.items < length (program_of c)
+pub way-exists : {F : Type 0} (c : Processor F) → IsUnderWay c → length c.results.items < length (made_program c)
 way-exists c w = omega (arith, ap (λ (l : List Line). length l) w.is, length-append w.done (w.line ∷ w.lines), w.as_many)
 
 line-behind : (done lines : List Line) (line d : Line) → get_or (done ++ line ∷ lines) (length done) d ≡ line
@@ -38,7 +38,7 @@ line-behind [] lines line d = refl
 line-behind (l ∷ done) lines line d = line-behind done lines line d
 
 -- it is the line that is under way
-pub way-line : {F : Type 0} (c : Processor F) (d : Line) (n : ℕ) → n ≡ length c.results.items → (w : IsUnderWay c) → get_or (program_of c) n d ≡ w.line
+pub way-line : {F : Type 0} (c : Processor F) (d : Line) (n : ℕ) → n ≡ length c.results.items → (w : IsUnderWay c) → get_or (made_program c) n d ≡ w.line
 way-line c d n number w =
     let P : List Line → Type 0 = λ l. get_or l n d ≡ w.line in
     let N : ℕ → Type 0 = λ n. get_or (w.done ++ w.line ∷ w.lines) n d ≡ w.line in
@@ -50,47 +50,47 @@ loads-left (Store v w x) loads more h = tt
 loads-left (Add v w x) loads more h = tt
 loads-left (Await v w x max) loads more h = omega (arith, h)
 
-pub way-loads : {F : Type 0} (c : Processor F) (line d : Line) (n : ℕ) → n ≡ length c.results.items → get_or (program_of c) n d ≡ line → IsUnderWay c → HasLoadsLeft line c.loads
+pub way-loads : {F : Type 0} (c : Processor F) (line d : Line) (n : ℕ) → n ≡ length c.results.items → get_or (made_program c) n d ≡ line → IsUnderWay c → HasLoadsLeft line c.loads
 way-loads c line d n number at w = subst (λ (l : Line). HasLoadsLeft l c.loads) (sym (way-line c d n number w) ∙ at) (loads-left w.line c.loads w.more w.loads)
 
 -- The access is over.
 
-over-ready : {F M X : Type 0} (kinds : FaultKinds M X) (c : Processor F) (word : ℕ) (turns : Turns) → (t : HasTouched kinds c word turns) → IsAccessReady (geometry_of c) (kept_of c.access.cache) (opened_view c turns)
+over-ready : {F M X : Type 0} (kinds : FaultKinds M X) (c : Processor F) (word : ℕ) (turns : Turns) → (t : HasTouched kinds c word turns) → IsAccessReady (geometry_of c) (kept_of c.access.cache) (cpu_view c turns)
 over-ready kinds c word turns t =
     let g = geometry_of c in
     let R : View → Type 0 = λ v. IsAccessReady g (kept_of c.access.cache) v in
-    let T : Turns → Type 0 = λ l. R (opened_view c l) in
+    let T : Turns → Type 0 = λ l. R (cpu_view c l) in
     subst T (sym t.is) (subst R (sym (then-append g (opening g c.made.number) t.front t.inner)) t.over.ready)
 
 -- what the access came to
 abbrev over-end : {F M X : Type 0} (kinds : FaultKinds M X) (c : Processor F) (word : ℕ) (turns : Turns) → HasTouched kinds c word turns → Accessed X
-over-end kinds c word turns t = record { held = held_with (kept_of c.access.cache) t.over.ends; word = word }
+over-end kinds c word turns t = record { held = carried_with (kept_of c.access.cache) t.over.ends; word = word }
 
 over-left : {F M X : Type 0} (kinds : FaultKinds M X) (c : Processor F) (word : ℕ) (turns : Turns) → (t : HasTouched kinds c word turns)
-    → IsLeft (IsProgramMade kinds (geometry_of c) (program_of c)) turns (after_access kinds (geometry_of c) t.way.line c.loads t.way.more (after_line kinds (geometry_of c) t.way.lines c.results.items) (over-end kinds c word turns t))
+    → IsLeft (IsProgramMade kinds (geometry_of c) (made_program c)) turns (after_access kinds (geometry_of c) t.way.line c.loads t.way.more (after_line kinds (geometry_of c) t.way.lines c.results.items) (over-end kinds c word turns t))
 over-left {F} {M} {X} kinds c word turns t =
     let g = geometry_of c in
-    let whole = IsProgramMade kinds g (program_of c) in
-    let end : Accessed X = record { held = held_with (kept_of c.access.cache) t.over.ends; word = word } in
+    let whole = IsProgramMade kinds g (made_program c) in
+    let end : Accessed X = record { held = carried_with (kept_of c.access.cache) t.over.ends; word = word } in
     let after : Accessed X → Turns → CpuEnd X → Type 0 = after_access kinds g t.way.line c.loads t.way.more (after_line kinds g t.way.lines c.results.items) in
     let A : AccessMade → Type 0 = λ m. IsWholeAccess kinds g m t.held t.inner end in
     subst (λ (l : Turns). IsLeft whole l (after end)) (sym t.is) (left-after whole t.front t.inner (IsWholeAccess kinds g (line_access g t.way.line) t.held) after end t.due (subst A t.access t.over.shown))
 
 -- the line gave something
 pub line-gave : {F M X : Type 0} (kinds : FaultKinds M X) (c d : Processor F) (line at : Line) (n word : ℕ) (result : LineResult) (turns : Turns)
-    → n ≡ length c.results.items → get_or (program_of c) n at ≡ line → line_result line c.loads word ≡ Some result
+    → n ≡ length c.results.items → get_or (made_program c) n at ≡ line → line_result line c.loads word ≡ Some result
     → d.made ≡ c.made → d.access ≡ c.access → d.loads ≡ 0 → d.results.items ≡ c.results.items ++ result ∷ [] → vec_capacity d.results ≡ vec_capacity c.results
     → HasTouched kinds c word turns → IsAtNext kinds d turns
 line-gave {F} {M} {X} kinds c d line at n word result turns number is gives made access loads items capacity t =
     let g = geometry_of c in
     let w = t.way in
-    let whole = IsProgramMade kinds g (program_of c) in
+    let whole = IsProgramMade kinds g (made_program c) in
     let gives' : line_result w.line c.loads word ≡ Some result = ap (λ (l : Line). line_result l c.loads word) (sym (way-line c at n number w) ∙ is) ∙ gives in
-    let program : program_of c ≡ (w.done ++ w.line ∷ []) ++ w.lines = w.is ∙ sym (append_assoc w.done (w.line ∷ []) w.lines) in
+    let program : made_program c ≡ (w.done ++ w.line ∷ []) ++ w.lines = w.is ∙ sym (append_assoc w.done (w.line ∷ []) w.lines) in
     let rest = left-gave kinds g whole turns w.line w.lines c.results.items c.loads w.more (over-end kinds c word turns t) result gives' w.loads (over-left kinds c word turns t) in
-    let begins = lines-begin kinds g whole turns w.lines (c.results.items ++ result ∷ []) (held_with (kept_of c.access.cache) t.over.ends) (behind w.done w.line w.lines g (subst (λ (l : List Line). AllByRecursion (IsLineOf g) l) w.is t.cpu.lines)) rest in
-    let L : List LineResult → Type 0 = λ r. IsLeft whole turns (NextLeft kinds g w.lines r 0 begins.more (held_with (kept_of c.access.cache) t.over.ends)) in
-    let A : List flat.Access → List LineResult → Type 0 = λ l r. HasFollowed c.made.number (w.done ++ w.line ∷ []) w.lines r 0 l in
+    let begins = lines-begin kinds g whole turns w.lines (c.results.items ++ result ∷ []) (carried_with (kept_of c.access.cache) t.over.ends) (behind w.done w.line w.lines g (subst (λ (l : List Line). AllByRecursion (IsLineOf g) l) w.is t.cpu.lines)) rest in
+    let L : List LineResult → Type 0 = λ r. IsLeft whole turns (NextLeft kinds g w.lines r 0 begins.more (carried_with (kept_of c.access.cache) t.over.ends)) in
+    let A : List flat.Access → List LineResult → Type 0 = λ l r. FollowsSoFar c.made.number (w.done ++ w.line ∷ []) w.lines r 0 l in
     let followed : A (accesses_of_turns c turns) d.results.items = subst (λ (r : List LineResult). A (accesses_of_turns c turns) r) (sym items) (subst (λ (l : List flat.Access). A l (c.results.items ++ result ∷ [])) (sym t.touched)
     (followed-some c.made.number w.done w.line w.lines c.results.items c.loads w.more word result t.list w.as_many gives' w.loads t.follows)) in
     let P : CpuMade → Access F → ℕ → Type 0 = λ m a k. IsAtNext kinds (record d { made = m; access = a; loads = k }) turns in
@@ -105,7 +105,7 @@ line-gave {F} {M} {X} kinds c d line at n word result turns number is gives made
         follows = followed;
       };
       cpu = t.cpu;
-      room = subst (λ n. length (program_of c) ≤ n) (sym capacity) w.room;
+      room = subst (λ n. length (made_program c) ≤ n) (sym capacity) w.room;
       same = t.over.same;
       ends = t.over.ends;
       counted = t.over.counted;
@@ -120,14 +120,14 @@ line-gave {F} {M} {X} kinds c d line at n word result turns number is gives made
 
 -- the line is tried again
 pub line-again : {F M X : Type 0} (kinds : FaultKinds M X) (c d : Processor F) (line at : Line) (n word : ℕ) (turns : Turns)
-    → n ≡ length c.results.items → get_or (program_of c) n at ≡ line → line_result line c.loads word ≡ None → d ≡ record c { loads = c.loads + 1 } → HasTouched kinds c word turns → IsAtNext kinds d turns
+    → n ≡ length c.results.items → get_or (made_program c) n at ≡ line → line_result line c.loads word ≡ None → d ≡ record c { loads = c.loads + 1 } → HasTouched kinds c word turns → IsAtNext kinds d turns
 line-again {F} {M} {X} kinds c d line at n word turns number is gives same t =
     let g = geometry_of c in
     let w = t.way in
-    let whole = IsProgramMade kinds g (program_of c) in
+    let whole = IsProgramMade kinds g (made_program c) in
     let gives' : line_result w.line c.loads word ≡ None = ap (λ (l : Line). line_result l c.loads word) (sym (way-line c at n number w) ∙ is) ∙ gives in
     let again = left-again kinds g whole turns w.line w.lines c.results.items c.loads w.more (over-end kinds c word turns t) gives' w.loads (over-left kinds c word turns t) in
-    let A : List flat.Access → Type 0 = λ l. HasFollowed c.made.number w.done (w.line ∷ w.lines) c.results.items (c.loads + 1) l in
+    let A : List flat.Access → Type 0 = λ l. FollowsSoFar c.made.number w.done (w.line ∷ w.lines) c.results.items (c.loads + 1) l in
     subst (λ (x : Processor F). IsAtNext kinds x turns) (sym same) (record {
       done = w.done;
       lines = w.line ∷ w.lines;

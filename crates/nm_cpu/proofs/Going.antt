@@ -18,7 +18,7 @@ use Rattle.nm_view.specs.Views.{View}
 use Rattle.nm_part.specs.Patterns.{IsLeft}
 use Rattle.nm_tally.specs.Counts.{events_tally}
 use Rattle.nm_actor.specs.Turns.{Turns, own_list}
-use Rattle.nm_actor.specs.Actors.{IsPermittedTurn}
+use Rattle.nm_actor.specs.Actors.{IsPermittedTurn, gave_end}
 use Rattle.nm_catchup.specs.Catching.{kept_of}
 use Rattle.nm_catchup.specs.declared.cache.TranslationCache.{TranslationCache}
 use Rattle.nm_access.specs.declared.made.AccessMade.{AccessMade}
@@ -36,10 +36,10 @@ use Rattle.nm_report.specs.Follows.{AreMade}
 use Rattle.nm_cpu.specs.declared.actor.Processor.{Processor}
 use Rattle.nm_cpu.specs.declared.actor.CpuStage.{CpuStage}
 use Rattle.nm_cpu.specs.declared.actor.CpuStage.TheVariants.{Accessing, Ending}
-use Rattle.nm_cpu.specs.Programs.{CpuEnd, IsLineOf, IsCpu, line_access, held_with, IsProgramMade}
+use Rattle.nm_cpu.specs.Programs.{CpuEnd, IsLineOf, IsCpu, line_access, carried_with, IsProgramMade}
 use Rattle.nm_cpu.specs.Lines.{AccessLeft, NextLeft, after_access, after_line}
 use Rattle.nm_cpu.specs.Parts.{IsCpuPart}
-use Rattle.nm_cpu.specs.Agreeing.{geometry_of, program_of, opened_view, accesses_of_turns, IsBetween, IsAtNext, IsAtAccess, IsAtEnding, IsAtCpuStage, IsLeftAt, ComesNext, is_end, IsAdvanced}
+use Rattle.nm_cpu.specs.Agreeing.{geometry_of, made_program, cpu_view, accesses_of_turns, IsBetweenLines, IsAtNext, IsAtAccess, IsAtEnding, IsAtCpuStage, IsLeftAt, ComesNextTurn, IsAdvanced}
 use Rattle.nm_cpu.proofs.Followed.{followed-part, followed-all}
 use Rattle.nm_cpu.proofs.Mapped.{line-made, one-line, line-at, none-left}
 use Rattle.nm_cpu.proofs.Ends.{after-access-can, turns-begun, inside-begun}
@@ -71,13 +71,13 @@ access-goes kinds made accesses.Putting hinted fault awaits cache ends g was vie
 access-goes kinds made accesses.Unmarking hinted fault awaits cache ends g was view turns turn h e = not-do turn _ h.is e
 access-goes kinds made accesses.Touching hinted fault awaits cache ends g was view turns turn h e = not-do turn _ h.is e
 
-pub goes-on : (turn : Turn) → turn ≢ End → is_end (Some turn) ≡ false
+pub goes-on : (turn : Turn) → turn ≢ End → gave_end (Some turn) ≡ false
 goes-on (Do action) not = refl
 goes-on (Put lane page) not = refl
 goes-on (Take lane) not = refl
 goes-on End not = absurd (not refl)
 
-comes-next : {M X : Type 0} (kinds : FaultKinds M X) (g : Geometry) (program : List Line) (turns : Turns) (turn : Turn) → turn ≢ End → IsTurnBegun (IsProgramMade kinds g program) turns turn → ComesNext kinds g program turns (Some turn)
+comes-next : {M X : Type 0} (kinds : FaultKinds M X) (g : Geometry) (program : List Line) (turns : Turns) (turn : Turn) → turn ≢ End → IsTurnBegun (IsProgramMade kinds g program) turns turn → ComesNextTurn kinds g program turns (Some turn)
 comes-next kinds g program turns (Do action) not begun = begun
 comes-next kinds g program turns (Put lane page) not begun = begun
 comes-next kinds g program turns (Take lane) not begun = begun
@@ -93,22 +93,22 @@ pub sum-as : (a b c d : Tally) → a ≡ c → b ≡ d → sum_of a b ≡ sum_of
 sum-as a b c d e f = ap (λ (t : Tally). sum_of t b) e ∙ ap (λ (t : Tally). sum_of c t) f
 
 -- what is between the lines speaks of neither the access nor the stage
-pub between-as : {F : Type 0} (c : Processor F) (a : Access F) (stage : CpuStage) (done lines : List Line) (more : ℕ) (turns : Turns) → IsBetween c done lines more turns → IsBetween (record c { access = a; stage = stage }) done lines more turns
+pub between-as : {F : Type 0} (c : Processor F) (a : Access F) (stage : CpuStage) (done lines : List Line) (more : ℕ) (turns : Turns) → IsBetweenLines c done lines more turns → IsBetweenLines (record c { access = a; stage = stage }) done lines more turns
 between-as c a stage done lines more turns b = record { is = b.is; as_many = b.as_many; loads = b.loads; follows = b.follows }
 
 -- a turn that is not End is given
 pub going : {F M X : Type 0} (kinds : FaultKinds M X) (made_of : F → M) (awaits_of : F → Geometry → View → Own → Action → Type 0) (c : Processor F) (turns : Turns) (turn : Turn) (done lines : List Line) (more : ℕ) (ends : List X)
-    → turn ≢ End → IsPermittedTurn (geometry_of c) (opened_view c turns) turn → IsTurnBegun (IsProgramMade kinds (geometry_of c) (program_of c)) turns turn
-    → IsCpu (geometry_of c) c.made.number (program_of c) → length (program_of c) ≤ vec_capacity c.results → IsBetween c done lines more turns → c.access.tally ≡ ends_tally kinds.counts ends
+    → turn ≢ End → IsPermittedTurn (geometry_of c) (cpu_view c turns) turn → IsTurnBegun (IsProgramMade kinds (geometry_of c) (made_program c)) turns turn
+    → IsCpu (geometry_of c) c.made.number (made_program c) → length (made_program c) ≤ vec_capacity c.results → IsBetweenLines c done lines more turns → c.access.tally ≡ ends_tally kinds.counts ends
     → IsAtCpuStage kinds made_of awaits_of c.stage c turns (Some turn) → IsAdvanced kinds made_of awaits_of c turns turn
 going {F} {M} {X} kinds made_of awaits_of c turns turn done lines more ends not permitted begun cpu room between counted at =
-    let P : Tally → Bool → Type 0 = λ counts b. IsCpuPart kinds (geometry_of c) c.made.number (program_of c) turns b c.results.items (sum_of counts c.access.tally) in
+    let P : Tally → Bool → Type 0 = λ counts b. IsCpuPart kinds (geometry_of c) c.made.number (made_program c) turns b c.results.items (sum_of counts c.access.tally) in
     record {
-      at = record { cpu = cpu; room = room; next = comes-next kinds (geometry_of c) (program_of c) turns turn not begun; permitted = permitted; left = left-at (opened_view c turns) turn not; at = at };
+      at = record { cpu = cpu; room = room; next = comes-next kinds (geometry_of c) (made_program c) turns turn not begun; permitted = permitted; left = left-at (cpu_view c turns) turn not; at = at };
       part = λ counts is. subst (λ (b : Bool). P counts b) (sym (goes-on turn not)) (record {
         ends = ends;
-        sequence = turns-begun (IsProgramMade kinds (geometry_of c) (program_of c)) turns turn begun;
-        follows = followed-part c.made.number (program_of c) done lines c.results.items c.loads more (accesses_of_turns c turns) between.is between.as_many between.loads between.follows;
+        sequence = turns-begun (IsProgramMade kinds (geometry_of c) (made_program c)) turns turn begun;
+        follows = followed-part c.made.number (made_program c) done lines c.results.items c.loads more (accesses_of_turns c turns) between.is between.as_many between.loads between.follows;
         counted = sum-as counts c.access.tally (events_tally (own_list turns)) (ends_tally kinds.counts ends) is counted;
       });
     }
@@ -116,11 +116,11 @@ going {F} {M} {X} kinds made_of awaits_of c turns turn done lines more ends not 
 -- An access awaits an answer.
 
 pub access-given : {F M X : Type 0} (kinds : FaultKinds M X) (made_of : F → M) (awaits_of : F → Geometry → View → Own → Action → Type 0) (c : Processor F) (front inner : Turns) (turn : Turn) (done : List Line) (line : Line) (lines : List Line) (more : ℕ) (held : Carried X)
-    → c.stage ≡ Accessing → IsCpu (geometry_of c) c.made.number (program_of c) → length (program_of c) ≤ vec_capacity c.results → IsBetween c done (line ∷ lines) more (front ++ inner)
+    → c.stage ≡ Accessing → IsCpu (geometry_of c) c.made.number (made_program c) → length (made_program c) ≤ vec_capacity c.results → IsBetweenLines c done (line ∷ lines) more (front ++ inner)
     → c.access.made ≡ line_access (geometry_of c) line
-    → IsLeft (IsProgramMade kinds (geometry_of c) (program_of c)) front (AccessLeft kinds (geometry_of c) line lines c.results.items c.loads more held)
-    → IsPermittedTurn (geometry_of c) (opened_view c (front ++ inner)) turn
-    → AwaitsOf kinds made_of awaits_of c.access (geometry_of c) held (opened_view c front) inner turn → IsTurnBegun (IsWholeAccess kinds (geometry_of c) c.access.made held) inner turn
+    → IsLeft (IsProgramMade kinds (geometry_of c) (made_program c)) front (AccessLeft kinds (geometry_of c) line lines c.results.items c.loads more held)
+    → IsPermittedTurn (geometry_of c) (cpu_view c (front ++ inner)) turn
+    → AwaitsOf kinds made_of awaits_of c.access (geometry_of c) held (cpu_view c front) inner turn → IsTurnBegun (IsWholeAccess kinds (geometry_of c) c.access.made held) inner turn
     → IsAdvanced kinds made_of awaits_of c (front ++ inner) turn
 access-given {F} {M} {X} kinds made_of awaits_of c front inner turn done line lines more held at cpu room between access due permitted awaited begun =
     let B : AccessMade → Type 0 = λ m. IsTurnBegun (IsWholeAccess kinds (geometry_of c) m held) inner turn in
@@ -133,9 +133,9 @@ access-given {F} {M} {X} kinds made_of awaits_of c front inner turn done line li
       awaited = awaited;
     } in
     going kinds made_of awaits_of c (front ++ inner) turn done (line ∷ lines) more awaited.ends
-    (access-goes kinds c.access.made c.access.stage c.access.hinted (made_of c.access.fault) (awaits_of c.access.fault) c.access.cache awaited.ends (geometry_of c) held (opened_view c front) inner turn awaited.at)
+    (access-goes kinds c.access.made c.access.stage c.access.hinted (made_of c.access.fault) (awaits_of c.access.fault) c.access.cache awaited.ends (geometry_of c) held (cpu_view c front) inner turn awaited.at)
     permitted
-    (inside-begun (IsProgramMade kinds (geometry_of c) (program_of c)) (IsWholeAccess kinds (geometry_of c) (line_access (geometry_of c) line) held) (after_access kinds (geometry_of c) line c.loads more (after_line kinds (geometry_of c) lines c.results.items)) front inner turn due
+    (inside-begun (IsProgramMade kinds (geometry_of c) (made_program c)) (IsWholeAccess kinds (geometry_of c) (line_access (geometry_of c) line) held) (after_access kinds (geometry_of c) line c.loads more (after_line kinds (geometry_of c) lines c.results.items)) front inner turn due
     (subst B access begun) (after-access-can kinds (geometry_of c) line lines c.results.items c.loads more))
     cpu room between awaited.counted
     (subst (λ s. IsAtCpuStage kinds made_of awaits_of s c (front ++ inner) (Some turn)) (sym at) here)
@@ -143,15 +143,15 @@ access-given {F} {M} {X} kinds made_of awaits_of c front inner turn done line li
 -- The next access is begun.
 
 pub access-begins : {F M X : Type 0} (kinds : FaultKinds M X) (made_of : F → M) (awaits_of : F → Geometry → View → Own → Action → Type 0) (c : Processor F) (a : Access F) (made : AccessMade) (turn : Turn) (line d : Line) (n : ℕ) (turns : Turns)
-    → n ≡ length c.results.items → n < length (program_of c) → get_or (program_of c) n d ≡ line → made ≡ line_access (geometry_of c) line → IsTouchWord made.touch → a.made ≡ made
+    → n ≡ length c.results.items → n < length (made_program c) → get_or (made_program c) n d ≡ line → made ≡ line_access (geometry_of c) line → IsTouchWord made.touch → a.made ≡ made
     → ((g : Geometry) (was : Carried X) (view : View) → IsOpening kinds c.access made g was view → IsStepOf kinds made_of awaits_of a g was view [] (Give turn))
     → IsAtNext kinds c turns → IsAdvanced kinds made_of awaits_of (record c { access = a; stage = Accessing }) turns turn
 access-begins {F} {M} {X} kinds made_of awaits_of c a made turn line d n turns number some at access value same begins h =
-    let first = line-at (program_of c) h.done h.lines line d n h.between.is (h.between.as_many ∙ sym number) some at in
-    let B : List Line → Type 0 = λ l. IsBetween c h.done l h.more turns in
+    let first = line-at (made_program c) h.done h.lines line d n h.between.is (h.between.as_many ∙ sym number) some at in
+    let B : List Line → Type 0 = λ l. IsBetweenLines c h.done l h.more turns in
     let between : B (line ∷ first.rest) = subst B first.is h.between in
-    let L : List Line → Type 0 = λ l. IsLeft (IsProgramMade kinds (geometry_of c) (program_of c)) turns (NextLeft kinds (geometry_of c) l c.results.items c.loads h.more (held_with (kept_of c.access.cache) h.ends)) in
-    let step = begins (geometry_of c) (held_with (kept_of c.access.cache) h.ends) (opened_view c turns) (record {
+    let L : List Line → Type 0 = λ l. IsLeft (IsProgramMade kinds (geometry_of c) (made_program c)) turns (NextLeft kinds (geometry_of c) l c.results.items c.loads h.more (carried_with (kept_of c.access.cache) h.ends)) in
+    let step = begins (geometry_of c) (carried_with (kept_of c.access.cache) h.ends) (cpu_view c turns) (record {
       same = h.same;
       may = subst (λ (m : AccessMade). IsAccessMade (geometry_of c) m) (sym access) (line-made (geometry_of c) line h.cpu.geometry (one-line _ h.done first.rest line (subst (λ (l : List Line). AllByRecursion (IsLineOf (geometry_of c)) l) between.is h.cpu.lines)) (subst (λ (m : AccessMade). IsTouchWord m.touch) access value));
       kept = refl;
@@ -159,25 +159,25 @@ access-begins {F} {M} {X} kinds made_of awaits_of c a made turn line d n turns n
       ready = h.ready;
     }) in
     let T : Turns → Type 0 = λ l. IsAdvanced kinds made_of awaits_of (record c { access = a; stage = Accessing }) l turn in
-    let V : Turns → Type 0 = λ l. IsPermittedTurn (geometry_of c) (opened_view c l) turn in
-    let W : Turns → Type 0 = λ l. IsBetween c h.done (line ∷ first.rest) h.more l in
-    subst T (append-nil turns) (access-given kinds made_of awaits_of (record c { access = a; stage = Accessing }) turns [] turn h.done line first.rest h.more (held_with (kept_of c.access.cache) h.ends)
+    let V : Turns → Type 0 = λ l. IsPermittedTurn (geometry_of c) (cpu_view c l) turn in
+    let W : Turns → Type 0 = λ l. IsBetweenLines c h.done (line ∷ first.rest) h.more l in
+    subst T (append-nil turns) (access-given kinds made_of awaits_of (record c { access = a; stage = Accessing }) turns [] turn h.done line first.rest h.more (carried_with (kept_of c.access.cache) h.ends)
     refl h.cpu h.room (between-as c a Accessing h.done (line ∷ first.rest) h.more (turns ++ []) (subst W (sym (append-nil turns)) between)) (same ∙ access) (subst L first.is h.due) (subst V (sym (append-nil turns)) step.permitted) step.awaited step.begun)
 
 -- All lines were made.
 
-pub ending-begins : {F M X : Type 0} (kinds : FaultKinds M X) (made_of : F → M) (awaits_of : F → Geometry → View → Own → Action → Type 0) (c : Processor F) (n : ℕ) (turns : Turns) → n ≡ length c.results.items → length (program_of c) ≤ n
+pub ending-begins : {F M X : Type 0} (kinds : FaultKinds M X) (made_of : F → M) (awaits_of : F → Geometry → View → Own → Action → Type 0) (c : Processor F) (n : ℕ) (turns : Turns) → n ≡ length c.results.items → length (made_program c) ≤ n
     → IsAtNext kinds c turns → IsAdvanced kinds made_of awaits_of (record c { stage = Ending }) turns (Do (Ack ack.End))
 ending-begins {F} {M} {X} kinds made_of awaits_of c n turns number all h =
-    let none = none-left (program_of c) h.done h.lines n h.between.is (h.between.as_many ∙ sym number) all in
-    let B : List Line → Type 0 = λ l. IsBetween c h.done l h.more turns in
+    let none = none-left (made_program c) h.done h.lines n h.between.is (h.between.as_many ∙ sym number) all in
+    let B : List Line → Type 0 = λ l. IsBetweenLines c h.done l h.more turns in
     let between : B [] = subst B none h.between in
-    let L : List Line → Type 0 = λ l. IsLeft (IsProgramMade kinds (geometry_of c) (program_of c)) turns (NextLeft kinds (geometry_of c) l c.results.items c.loads h.more (held_with (kept_of c.access.cache) h.ends)) in
+    let L : List Line → Type 0 = λ l. IsLeft (IsProgramMade kinds (geometry_of c) (made_program c)) turns (NextLeft kinds (geometry_of c) l c.results.items c.loads h.more (carried_with (kept_of c.access.cache) h.ends)) in
     let due : L [] = subst L none h.due in
-    let whole : program_of c ≡ h.done = between.is ∙ append-nil h.done in
+    let whole : made_program c ≡ h.done = between.is ∙ append-nil h.done in
     let A : List Line → Type 0 = λ l. AreMade c.made.number l c.results.items (accesses_of_turns c turns) in
     let last : CpuEnd X = record { results = c.results.items; ends = h.ends } in
-    let T : Turns → Type 0 = λ l. IsTurnBegun (IsProgramMade kinds (geometry_of c) (program_of c)) l (Do (Ack ack.End)) in
+    let T : Turns → Type 0 = λ l. IsTurnBegun (IsProgramMade kinds (geometry_of c) (made_program c)) l (Do (Ack ack.End)) in
     let here : IsAtEnding kinds (record c { stage = Ending }) turns (Some (Do (Ack ack.End))) = record {
       given = refl;
       same = h.same;
@@ -195,7 +195,7 @@ ending-begins {F} {M} {X} kinds made_of awaits_of c n turns number all h =
       can = record {
         rest = [];
         outcome = last;
-        shown = subst (λ (l : Turns). IsProgramMade kinds (geometry_of c) (program_of c) l last) (sym (append-nil (turns ++ (Do (Ack ack.End), Answer replies.Done) ∷ []))) (due.carry ((Do (Ack ack.End), Answer replies.Done) ∷ []) last
+        shown = subst (λ (l : Turns). IsProgramMade kinds (geometry_of c) (made_program c) l last) (sym (append-nil (turns ++ (Do (Ack ack.End), Answer replies.Done) ∷ []))) (due.carry ((Do (Ack ack.End), Answer replies.Done) ∷ []) last
             (record { end = Answer replies.Done; front = (Do (Ack ack.End), Answer replies.Done) ∷ []; back = []; shown = record { is = refl; kind = λ view. tt }; rest = record { none = refl; is = refl }; is = refl }));
       };
     })

@@ -8,7 +8,7 @@ use Rattle.nm_access.specs.declared.made.Touch.{Touch}
 use Rattle.nm_access.specs.Accessing.{IsTouchWord, IsAccessMade}
 use Rattle.nm_script.specs.declared.script.Line.{Line}
 use Rattle.nm_script.specs.declared.script.Line.TheVariants.{Load, Store, Add, Await}
-use Rattle.nm_cpu.specs.Programs.{IsLineOf, page_or, access_to, line_access}
+use Rattle.nm_cpu.specs.Programs.{IsLineOf, backing_or_zero, access_to, line_access}
 
 no-true : false ≡ true → ⊥
 no-true e = cc
@@ -18,10 +18,10 @@ inside [] v some = absurd (no-true some)
 inside (x ∷ vs) zero some = omega arith
 inside (x ∷ vs) (suc v) some = omega (arith, inside vs v some)
 
-mapped : (g : Geometry) (v : ℕ) → IsSome (vpage_at g v) → backing_page g v ≡ Some (page_or (backing_page g v))
+mapped : (g : Geometry) (v : ℕ) → IsSome (vpage_at g v) → backing_page g v ≡ Some (backing_or_zero (backing_page g v))
 mapped g v some = by-page (vpage_at g v) some
   where
-    by-page : (found : Option VPage) → IsSome found → option_map (λ p. p.page) found ≡ Some (page_or (option_map (λ p. p.page) found))
+    by-page : (found : Option VPage) → IsSome found → option_map (λ p. p.page) found ≡ Some (backing_or_zero (option_map (λ p. p.page) found))
     by-page None some = absurd (no-true some)
     by-page (Some p) some = refl
 
@@ -34,7 +34,7 @@ access-made g v w touch geometry some word value = record {
   geometry = geometry;
   vpage = inside g.vpages v some;
   mapped = mapped g v some;
-  page = backing_page-lt g v (page_or (backing_page g v)) (mapped g v some);
+  page = backing_page-lt g v (backing_or_zero (backing_page g v)) (mapped g v some);
   index = word;
   value = value;
 }

@@ -21,7 +21,7 @@ use Rattle.nm_cpu.specs.declared.actor.Processor.{Processor}
 use Rattle.nm_cpu.specs.declared.actor.CpuStage.{CpuStage}
 use Rattle.nm_cpu.specs.declared.actor.CpuStage.TheVariants.{New, Opening, Accessing, Ending, Over}
 use Rattle.nm_cpu.specs.declared.made.CpuMade.{CpuMade}
-use Rattle.nm_cpu.specs.Agreeing.{geometry_of, opened_view, IsPermittedLast, IsKeptTurn, IsAtCpuStage, IsAtTurn, IsAdvanced, FollowsCpu}
+use Rattle.nm_cpu.specs.Agreeing.{geometry_of, cpu_view, IsPermittedLast, IsKeptTurn, IsAtCpuStage, IsAtCpuTurn, IsAdvanced, FollowsCpu}
 
 -- The event.
 
@@ -38,10 +38,10 @@ pub record IsActionKept {F M X : Type 0} (kinds : FaultKinds M X) (made_of : F �
   pub last_is : last ≡ Some (Do action)
 
 pub action-kept : {F M X : Type 0} (kinds : FaultKinds M X) (made_of : F → M) (awaits_of : F → Geometry → View → Own → Action → Type 0) (c : Processor F) (turns : Turns) (last : Option Turn) (reply : Reply)
-    → IsKeptTurn c.given last → IsAnswerTo (geometry_of c) (opened_view c turns) last (Answer reply) → IsActionKept kinds made_of awaits_of c turns last
+    → IsKeptTurn c.given last → IsAnswerTo (geometry_of c) (cpu_view c turns) last (Answer reply) → IsActionKept kinds made_of awaits_of c turns last
 action-kept kinds made_of awaits_of c turns None reply kept answer = absurd answer
 action-kept kinds made_of awaits_of c turns (Some turn) reply kept answer =
-    let a = answers-do (geometry_of c) (opened_view c turns) turn reply answer in
+    let a = answers-do (geometry_of c) (cpu_view c turns) turn reply answer in
     record { action = a.0; given = sym kept ∙ a.1; last_is = ap Some a.1 }
 
 do-same : (a b : Action) → Do a ≡ Do b → a ≡ b
@@ -51,8 +51,8 @@ do-same a b e = cc
 pub note-fits : {F M X : Type 0} (kinds : FaultKinds M X) (made_of : F → M) (awaits_of : F → Geometry → View → Own → Action → Type 0) (c : Processor F) (heard : Heard) (reply : Reply) (action : Action) → heard ≡ Answer reply → c.given ≡ Do action
     → HasHeard (geometry_of c) c.made.number (FollowsCpu kinds made_of awaits_of c) heard → IsCountable (length c.counter.locked.items) action
 note-fits kinds made_of awaits_of c heard reply action is given h =
-    let k = action-kept kinds made_of awaits_of c h.turns h.last reply h.agreed.kept (subst (λ (x : Heard). IsAnswerTo (geometry_of c) (opened_view c h.turns) h.last x) is h.answer) in
-    let L : Option Turn → Type 0 = λ l. IsPermittedLast (geometry_of c) (opened_view c h.turns) l in
+    let k = action-kept kinds made_of awaits_of c h.turns h.last reply h.agreed.kept (subst (λ (x : Heard). IsAnswerTo (geometry_of c) (cpu_view c h.turns) h.last x) is h.answer) in
+    let L : Option Turn → Type 0 = λ l. IsPermittedLast (geometry_of c) (cpu_view c h.turns) l in
     let permitted = subst L k.last_is h.agreed.at.permitted in
     let N : ℕ → Type 0 = λ n. IsCountable n k.action in
     subst (λ (a : Action). IsCountable (length c.counter.locked.items) a) (do-same k.action action (sym k.given ∙ given)) (subst N (sym h.agreed.pages) (countable (geometry_of c) k.action permitted.range))
@@ -61,15 +61,15 @@ note-fits kinds made_of awaits_of c heard reply action is given h =
 pub note-do : {F M X : Type 0} (kinds : FaultKinds M X) (made_of : F → M) (awaits_of : F → Geometry → View → Own → Action → Type 0) (c : Processor F) (heard : Heard) (reply : Reply) (other : Turn) → heard ≡ Answer reply → c.given ≡ other → ((action : Action) → Do action ≡ other → ⊥)
     → HasHeard (geometry_of c) c.made.number (FollowsCpu kinds made_of awaits_of c) heard → ⊥
 note-do kinds made_of awaits_of c heard reply other is given not h =
-    let k = action-kept kinds made_of awaits_of c h.turns h.last reply h.agreed.kept (subst (λ (x : Heard). IsAnswerTo (geometry_of c) (opened_view c h.turns) h.last x) is h.answer) in
+    let k = action-kept kinds made_of awaits_of c h.turns h.last reply h.agreed.kept (subst (λ (x : Heard). IsAnswerTo (geometry_of c) (cpu_view c h.turns) h.last x) is h.answer) in
     not k.action (sym k.given ∙ given)
 
 -- a reply was counted
 pub noted-reply : {F M X : Type 0} (kinds : FaultKinds M X) (made_of : F → M) (awaits_of : F → Geometry → View → Own → Action → Type 0) (c : Processor F) (counter : Counter) (heard : Heard) (reply : Reply) (action : Action) (turns : Turns) (last : Option Turn) → heard ≡ Answer reply → c.given ≡ Do action
-    → ((own : Own) → CountsEvents c.counter own → CountsEvents counter (own ++ (action, reply) ∷ [])) → FollowsCpu kinds made_of awaits_of c turns last → IsAnswerTo (geometry_of c) (opened_view c turns) last heard
+    → ((own : Own) → CountsEvents c.counter own → CountsEvents counter (own ++ (action, reply) ∷ [])) → FollowsCpu kinds made_of awaits_of c turns last → IsAnswerTo (geometry_of c) (cpu_view c turns) last heard
     → CountsEvents counter (own_list (answered last heard turns))
 noted-reply kinds made_of awaits_of c counter heard reply action turns last is given counts h answer =
-    let k = action-kept kinds made_of awaits_of c turns last reply h.kept (subst (λ (x : Heard). IsAnswerTo (geometry_of c) (opened_view c turns) last x) is answer) in
+    let k = action-kept kinds made_of awaits_of c turns last reply h.kept (subst (λ (x : Heard). IsAnswerTo (geometry_of c) (cpu_view c turns) last x) is answer) in
     let same : k.action ≡ action = do-same k.action action (sym k.given ∙ given) in
     let E : Own → Type 0 = λ l. CountsEvents counter l in
     let T : Option Turn → Heard → Type 0 = λ l x. CountsEvents counter (own_list (answered l x turns)) in
@@ -98,8 +98,8 @@ same-list g view turns None heard none h = refl
 same-list g view turns (Some turn) heard none h = own-push turns turn heard ∙ (ap (λ (l : Own). own_list turns ++ l) (no-event g view turn heard none h) ∙ append-nil (own_list turns))
 
 pub noted-none : {F M X : Type 0} (kinds : FaultKinds M X) (made_of : F → M) (awaits_of : F → Geometry → View → Own → Action → Type 0) (c : Processor F) (heard : Heard) (turns : Turns) (last : Option Turn) → IsNoReply heard → FollowsCpu kinds made_of awaits_of c turns last
-    → IsAnswerTo (geometry_of c) (opened_view c turns) last heard → CountsEvents c.counter (own_list (answered last heard turns))
-noted-none kinds made_of awaits_of c heard turns last none h answer = subst (λ (l : Own). CountsEvents c.counter l) (sym (same-list (geometry_of c) (opened_view c turns) turns last heard none answer)) h.events
+    → IsAnswerTo (geometry_of c) (cpu_view c turns) last heard → CountsEvents c.counter (own_list (answered last heard turns))
+noted-none kinds made_of awaits_of c heard turns last none h answer = subst (λ (l : Own). CountsEvents c.counter l) (sym (same-list (geometry_of c) (cpu_view c turns) turns last heard none answer)) h.events
 
 -- The turn.
 
@@ -141,33 +141,33 @@ at-kept kinds made_of awaits_of Ending c counter turn turns last h = record { gi
 at-kept kinds made_of awaits_of Over c counter turn turns last h = h
 
 pub turn-kept : {F M X : Type 0} (kinds : FaultKinds M X) (made_of : F → M) (awaits_of : F → Geometry → View → Own → Action → Type 0) (c : Processor F) (counter : Counter) (turn : Turn) (turns : Turns) (last : Option Turn)
-    → IsAtTurn kinds made_of awaits_of c turns last → IsAtTurn kinds made_of awaits_of (record c { counter = counter; given = turn }) turns last
+    → IsAtCpuTurn kinds made_of awaits_of c turns last → IsAtCpuTurn kinds made_of awaits_of (record c { counter = counter; given = turn }) turns last
 turn-kept kinds made_of awaits_of c counter turn turns last h = record { cpu = h.cpu; room = h.room; next = h.next; permitted = h.permitted; left = h.left; at = at-kept kinds made_of awaits_of c.stage c counter turn turns last h.at }
 
 -- what is agreed with speaks of all but the counter
 pub at-noted : {F M X : Type 0} (kinds : FaultKinds M X) (made_of : F → M) (awaits_of : F → Geometry → View → Own → Action → Type 0) (c n : Processor F) (turns : Turns) (last : Option Turn) → n ≡ record c { counter = n.counter }
-    → IsAtTurn kinds made_of awaits_of c turns last → IsAtTurn kinds made_of awaits_of n turns last
-at-noted {F} kinds made_of awaits_of c n turns last rest h = subst (λ (x : Processor F). IsAtTurn kinds made_of awaits_of x turns last) (sym rest) (turn-kept kinds made_of awaits_of c n.counter c.given turns last h)
+    → IsAtCpuTurn kinds made_of awaits_of c turns last → IsAtCpuTurn kinds made_of awaits_of n turns last
+at-noted {F} kinds made_of awaits_of c n turns last rest h = subst (λ (x : Processor F). IsAtCpuTurn kinds made_of awaits_of x turns last) (sym rest) (turn-kept kinds made_of awaits_of c n.counter c.given turns last h)
 
-answer-noted : {F : Type 0} (c n : Processor F) (turns : Turns) (last : Option Turn) (heard : Heard) → n ≡ record c { counter = n.counter } → IsAnswerTo (geometry_of c) (opened_view c turns) last heard → IsAnswerTo (geometry_of n) (opened_view n turns) last heard
-answer-noted {F} c n turns last heard rest h = subst (λ (x : Processor F). IsAnswerTo (geometry_of x) (opened_view x turns) last heard) (sym rest) h
+answer-noted : {F : Type 0} (c n : Processor F) (turns : Turns) (last : Option Turn) (heard : Heard) → n ≡ record c { counter = n.counter } → IsAnswerTo (geometry_of c) (cpu_view c turns) last heard → IsAnswerTo (geometry_of n) (cpu_view n turns) last heard
+answer-noted {F} c n turns last heard rest h = subst (λ (x : Processor F). IsAnswerTo (geometry_of x) (cpu_view x turns) last heard) (sym rest) h
 
 -- the processor goes on with the counter
 pub heard-noted : {F M X : Type 0} (kinds : FaultKinds M X) (made_of : F → M) (awaits_of : F → Geometry → View → Own → Action → Type 0) (c n : Processor F) (heard : Heard) → n ≡ record c { counter = n.counter }
-    → HasHeard (geometry_of c) c.made.number (FollowsCpu kinds made_of awaits_of c) heard → HasHeard (geometry_of n) n.made.number (IsAtTurn kinds made_of awaits_of n) heard
+    → HasHeard (geometry_of c) c.made.number (FollowsCpu kinds made_of awaits_of c) heard → HasHeard (geometry_of n) n.made.number (IsAtCpuTurn kinds made_of awaits_of n) heard
 heard-noted kinds made_of awaits_of c n heard rest h =
     record { turns = h.turns; last = h.last; agreed = at-noted kinds made_of awaits_of c n h.turns h.last rest h.agreed.at; answer = answer-noted c n h.turns h.last heard rest h.answer }
 
 pub turn-follows : {F M X : Type 0} (kinds : FaultKinds M X) (made_of : F → M) (awaits_of : F → Geometry → View → Own → Action → Type 0) (c n d : Processor F) (turn : Turn) (heard : Heard) (turns : Turns) (last : Option Turn)
     → n ≡ record c { counter = n.counter } → length n.counter.locked.items ≡ length c.counter.locked.items → CountsEvents n.counter (own_list (answered last heard turns)) → d.made ≡ n.made → d.counter ≡ n.counter
-    → (IsAtTurn kinds made_of awaits_of n turns last → IsAnswerTo (geometry_of n) (opened_view n turns) last heard → IsAdvanced kinds made_of awaits_of d (answered last heard turns) turn)
-    → FollowsCpu kinds made_of awaits_of c turns last → IsAnswerTo (geometry_of c) (opened_view c turns) last heard
+    → (IsAtCpuTurn kinds made_of awaits_of n turns last → IsAnswerTo (geometry_of n) (cpu_view n turns) last heard → IsAdvanced kinds made_of awaits_of d (answered last heard turns) turn)
+    → FollowsCpu kinds made_of awaits_of c turns last → IsAnswerTo (geometry_of c) (cpu_view c turns) last heard
     → IsTurn (geometry_of c) c.made.number (FollowsCpu kinds made_of awaits_of (record d { given = turn })) (answered last heard turns) turn
 turn-follows {F} kinds made_of awaits_of c n d turn heard turns last rest pages counts made counter advances h answer =
     let a = advances (at-noted kinds made_of awaits_of c n turns last rest h.at) (answer-noted c n turns last heard rest answer) in
     let same : d.made ≡ c.made = made ∙ ap (λ (x : Processor F). x.made) rest in
     let events : CountsEvents d.counter (own_list (answered last heard turns)) = subst (λ (k : Counter). CountsEvents k (own_list (answered last heard turns))) (sym counter) counts in
-    let view = opened_view d (answered last heard turns) in
+    let view = cpu_view d (answered last heard turns) in
     record {
       agreed = record {
         part = a.part d.counter.tally events.tally;

@@ -16,25 +16,25 @@ use Rattle.nm_access.specs.Moving.{IsFresh}
 use Rattle.nm_cpu.specs.declared.actor.Processor.{Processor}
 use Rattle.nm_cpu.specs.declared.actor.CpuStage.TheVariants.{New}
 use Rattle.nm_cpu.specs.Programs.{fresh_kept, IsLineOf, IsCpu}
-use Rattle.nm_cpu.specs.Agreeing.{geometry_of, program_of, IsAtNew, IsAtCpuStage, FollowsCpu}
+use Rattle.nm_cpu.specs.Agreeing.{geometry_of, made_program, IsAtNew, IsAtCpuStage, FollowsCpu}
 use Rattle.nm_cpu.proofs.Followed.{followed-part}
 use Rattle.nm_cpu.proofs.Lines.{some-loads}
 use Rattle.nm_cpu.proofs.Ends.{program-can}
 use Rattle.nm_cpu.proofs.Going.{sum-as}
 use Rattle.nm_cpu.proofs.Opening.{first-of, between-first}
 
-pub starts : {F M X : Type 0} (kinds : FaultKinds M X) (made_of : F → M) (awaits_of : F → Geometry → View → Own → Action → Type 0) (c : Processor F) → IsCpu (geometry_of c) c.made.number (program_of c) → c.stage ≡ New → IsFresh (geometry_of c) c.access → c.results.items ≡ [] → c.loads ≡ 0
-    → length (program_of c) ≤ vec_capacity c.results → CountsEvents c.counter [] → length c.counter.locked.items ≡ page_count (geometry_of c) → FollowsCpu kinds made_of awaits_of c [] None
+pub starts : {F M X : Type 0} (kinds : FaultKinds M X) (made_of : F → M) (awaits_of : F → Geometry → View → Own → Action → Type 0) (c : Processor F) → IsCpu (geometry_of c) c.made.number (made_program c) → c.stage ≡ New → IsFresh (geometry_of c) c.access → c.results.items ≡ [] → c.loads ≡ 0
+    → length (made_program c) ≤ vec_capacity c.results → CountsEvents c.counter [] → length c.counter.locked.items ≡ page_count (geometry_of c) → FollowsCpu kinds made_of awaits_of c [] None
 starts kinds made_of awaits_of c cpu at fresh results loads room events pages =
-    let first = some-loads (geometry_of c) (program_of c) (first-of (IsLineOf (geometry_of c)) (program_of c) cpu.lines) in
+    let first = some-loads (geometry_of c) (made_program c) (first-of (IsLineOf (geometry_of c)) (made_program c) cpu.lines) in
     let between = between-first c first.0 [] results loads refl first.1 in
     let here : IsAtNew c [] None = record { none = refl; start = refl; fresh = fresh; results = results; loads = loads } in
-    let can = program-can kinds (geometry_of c) (program_of c) in
+    let can = program-can kinds (geometry_of c) (made_program c) in
     record {
       part = record {
         ends = [];
         sequence = record { rest = can.rest; outcome = can.outcome; shown = can.shown };
-        follows = followed-part c.made.number (program_of c) [] (program_of c) c.results.items c.loads first.0 [] between.is between.as_many between.loads between.follows;
+        follows = followed-part c.made.number (made_program c) [] (made_program c) c.results.items c.loads first.0 [] between.is between.as_many between.loads between.follows;
         counted = sum-as c.counter.tally c.access.tally (events_tally []) (ends_tally kinds.counts []) events.tally fresh.counted;
       };
       at = record { cpu = cpu; room = room; next = refl; permitted = tt; left = tt; at = subst (λ s. IsAtCpuStage kinds made_of awaits_of s c [] None) (sym at) here };

@@ -10,7 +10,7 @@ use Rattle.nm_script.specs.declared.script.Line.TheVariants.{Load, Store, Add, A
 use Rattle.nm_report.specs.declared.line_result.LineResult.{LineResult}
 use Rattle.nm_report.specs.declared.line_result.LineResult.TheVariants.{Loaded, Stored, Added, Met, Missed}
 use Rattle.nm_report.specs.Follows.{access_made, loads_of, AllOther, IsPiece}
-use Rattle.nm_cpu.specs.Lines.{line_result, IsLoadsOf, AreLoads, IsTried, HasFollowed}
+use Rattle.nm_cpu.specs.Lines.{line_result, IsLoadsOf, AreLoads, IsTried, FollowsSoFar}
 use Rattle.nm_cpu.specs.Agreeing.{line_touch}
 use Rattle.nm_cpu.proofs.Followed.{made-more}
 
@@ -108,8 +108,8 @@ nothing-tried p (Await v w x max ∷ lines) = record { values = []; is = refl; o
 
 -- the line gave something
 pub followed-some : (p : ℕ) (done : List Line) (line : Line) (lines : List Line) (results : List LineResult) (loads more word : ℕ) (r : LineResult) (list : List Access) → length done ≡ length results
-    → line_result line loads word ≡ Some r → IsLoadsOf line loads more → HasFollowed p done (line ∷ lines) results loads list
-    → HasFollowed p (done ++ line ∷ []) lines (results ++ r ∷ []) 0 (list ++ line_touch p line word ∷ [])
+    → line_result line loads word ≡ Some r → IsLoadsOf line loads more → FollowsSoFar p done (line ∷ lines) results loads list
+    → FollowsSoFar p (done ++ line ∷ []) lines (results ++ r ∷ []) 0 (list ++ line_touch p line word ∷ [])
 followed-some p done line lines results loads more word r list same gives of h = record {
   front = h.front ++ (h.back ++ line_touch p line word ∷ []);
   back = [];
@@ -120,7 +120,7 @@ followed-some p done line lines results loads more word r list same gives of h =
 
 -- the line gave nothing
 pub followed-again : (p : ℕ) (done : List Line) (line : Line) (lines : List Line) (results : List LineResult) (loads word : ℕ) (list : List Access) → line_result line loads word ≡ None
-    → HasFollowed p done (line ∷ lines) results loads list → HasFollowed p done (line ∷ lines) results (loads + 1) (list ++ line_touch p line word ∷ [])
+    → FollowsSoFar p done (line ∷ lines) results loads list → FollowsSoFar p done (line ∷ lines) results (loads + 1) (list ++ line_touch p line word ∷ [])
 followed-again p done line lines results loads word list gives h = record {
   front = h.front;
   back = h.back ++ line_touch p line word ∷ [];

@@ -17,7 +17,7 @@ use Rattle.nm_part.specs.Patterns.{Ends, Follows, IsLeft}
 use Rattle.nm_tally.specs.Counts.{events_tally}
 use Rattle.nm_tally.specs.Counting.{CountsEvents}
 use Rattle.nm_actor.specs.Turns.{Turns, own_list, turns_view}
-use Rattle.nm_actor.specs.Actors.{IsPermittedTurn}
+use Rattle.nm_actor.specs.Actors.{IsPermittedTurn, gave_end}
 use Rattle.nm_catchup.specs.Catching.{kept_of, AwaitsCatch}
 use Rattle.nm_access.specs.Turning.{Hears, action_turns, IsTurnBegun}
 use Rattle.nm_access.specs.Faults.{FaultKinds, HasNothingOpen, ends_tally}
@@ -30,8 +30,8 @@ use Rattle.nm_report.specs.Follows.{access_made, AreMade}
 use Rattle.nm_cpu.specs.declared.actor.Processor.{Processor}
 use Rattle.nm_cpu.specs.declared.actor.CpuStage.{CpuStage}
 use Rattle.nm_cpu.specs.declared.actor.CpuStage.TheVariants.{New, Opening, Accessing, Ending, Over}
-use Rattle.nm_cpu.specs.Programs.{fresh_kept, held_with, line_access, IsProgramMade, IsCpu}
-use Rattle.nm_cpu.specs.Lines.{own_accesses, AreLoadsOf, IsLoadsOf, AccessLeft, NextLeft, HasFollowed}
+use Rattle.nm_cpu.specs.Programs.{fresh_kept, carried_with, line_access, IsProgramMade, IsCpu}
+use Rattle.nm_cpu.specs.Lines.{own_accesses, AreLoadsOf, IsLoadsOf, AccessLeft, NextLeft, FollowsSoFar}
 use Rattle.nm_cpu.specs.Parts.{IsCpuPart}
 
 -- In all of these `made_of` and `awaits_of` tell the data of a fault, and what it awaits.
@@ -39,11 +39,11 @@ use Rattle.nm_cpu.specs.Parts.{IsCpuPart}
 abbrev pub geometry_of : {F : Type 0} → Processor F → Geometry
 geometry_of c = c.made.geometry.now
 
-abbrev pub program_of : {F : Type 0} → Processor F → List Line
-program_of c = c.made.program.now
+abbrev pub made_program : {F : Type 0} → Processor F → List Line
+made_program c = c.made.program.now
 
-abbrev pub opened_view : {F : Type 0} → Processor F → Turns → View
-opened_view c turns = turns_view (geometry_of c) c.made.number turns
+abbrev pub cpu_view : {F : Type 0} → Processor F → Turns → View
+cpu_view c turns = turns_view (geometry_of c) c.made.number turns
 
 abbrev pub accesses_of_turns : {F : Type 0} → Processor F → Turns → List flat.Access
 accesses_of_turns c turns = own_accesses c.made.number (own_list turns)
@@ -51,25 +51,25 @@ accesses_of_turns c turns = own_accesses c.made.number (own_list turns)
 -- Lines.
 
 -- the lines `done` were made, with these results, and then come `lines`
-pub record IsBetween {F : Type 0} (c : Processor F) (done lines : List Line) (more : ℕ) (turns : Turns) : Type 0 where
-  pub is : program_of c ≡ done ++ lines
+pub record IsBetweenLines {F : Type 0} (c : Processor F) (done lines : List Line) (more : ℕ) (turns : Turns) : Type 0 where
+  pub is : made_program c ≡ done ++ lines
   pub as_many : length done ≡ length c.results.items
   pub loads : AreLoadsOf lines c.loads more
-  pub follows : HasFollowed c.made.number done lines c.results.items c.loads (accesses_of_turns c turns)
+  pub follows : FollowsSoFar c.made.number done lines c.results.items c.loads (accesses_of_turns c turns)
 
 -- the next access is to be begun
 pub record IsAtNext {F M X : Type 0} (kinds : FaultKinds M X) (c : Processor F) (turns : Turns) : Type 0 where
   pub done : List Line
   pub lines : List Line
   pub more : ℕ
-  pub between : IsBetween c done lines more turns
-  pub cpu : IsCpu (geometry_of c) c.made.number (program_of c)
-  pub room : length (program_of c) ≤ vec_capacity c.results
+  pub between : IsBetweenLines c done lines more turns
+  pub cpu : IsCpu (geometry_of c) c.made.number (made_program c)
+  pub room : length (made_program c) ≤ vec_capacity c.results
   pub same : c.access.geometry.now ≡ geometry_of c
   pub ends : List X
   pub counted : c.access.tally ≡ ends_tally kinds.counts ends
-  pub ready : IsAccessReady (geometry_of c) (kept_of c.access.cache) (opened_view c turns)
-  pub due : IsLeft (IsProgramMade kinds (geometry_of c) (program_of c)) turns (NextLeft kinds (geometry_of c) lines c.results.items c.loads more (held_with (kept_of c.access.cache) ends))
+  pub ready : IsAccessReady (geometry_of c) (kept_of c.access.cache) (cpu_view c turns)
+  pub due : IsLeft (IsProgramMade kinds (geometry_of c) (made_program c)) turns (NextLeft kinds (geometry_of c) lines c.results.items c.loads more (carried_with (kept_of c.access.cache) ends))
 
 -- an access of a line is under way: `front` are the turns before it, and `inner` those since then
 pub record IsInAccess {F M X : Type 0} (kinds : FaultKinds M X) (c : Processor F) (turns : Turns) (front inner : Turns) : Type 0 where
@@ -77,11 +77,11 @@ pub record IsInAccess {F M X : Type 0} (kinds : FaultKinds M X) (c : Processor F
   pub line : Line
   pub lines : List Line
   pub more : ℕ
-  pub between : IsBetween c done (line ∷ lines) more turns
+  pub between : IsBetweenLines c done (line ∷ lines) more turns
   pub is : turns ≡ front ++ inner
   pub access : c.access.made ≡ line_access (geometry_of c) line
   pub held : Carried X
-  pub due : IsLeft (IsProgramMade kinds (geometry_of c) (program_of c)) front (AccessLeft kinds (geometry_of c) line lines c.results.items c.loads more held)
+  pub due : IsLeft (IsProgramMade kinds (geometry_of c) (made_program c)) front (AccessLeft kinds (geometry_of c) line lines c.results.items c.loads more held)
 
 -- a line is under way, for whose result there is room
 pub record IsUnderWay {F : Type 0} (c : Processor F) : Type 0 where
@@ -89,10 +89,10 @@ pub record IsUnderWay {F : Type 0} (c : Processor F) : Type 0 where
   pub line : Line
   pub lines : List Line
   pub more : ℕ
-  pub is : program_of c ≡ done ++ line ∷ lines
+  pub is : made_program c ≡ done ++ line ∷ lines
   pub as_many : length done ≡ length c.results.items
   pub loads : IsLoadsOf line c.loads more
-  pub room : length (program_of c) ≤ vec_capacity c.results
+  pub room : length (made_program c) ≤ vec_capacity c.results
 
 -- the access that a line made, which was told this word
 abbrev pub line_touch : ℕ → Line → ℕ → flat.Access
@@ -103,18 +103,18 @@ line_touch number (Await v w x max) word = access_made number v w (kind.Load wor
 
 -- an access of a line is over, which was told this word; before it, the accesses were `list`
 pub record HasTouched {F M X : Type 0} (kinds : FaultKinds M X) (c : Processor F) (word : ℕ) (turns : Turns) : Type 0 where
-  pub cpu : IsCpu (geometry_of c) c.made.number (program_of c)
+  pub cpu : IsCpu (geometry_of c) c.made.number (made_program c)
   pub way : IsUnderWay c
   pub list : List flat.Access
-  pub follows : HasFollowed c.made.number way.done (way.line ∷ way.lines) c.results.items c.loads list
+  pub follows : FollowsSoFar c.made.number way.done (way.line ∷ way.lines) c.results.items c.loads list
   pub touched : accesses_of_turns c turns ≡ list ++ line_touch c.made.number way.line word ∷ []
   pub front : Turns
   pub inner : Turns
   pub is : turns ≡ front ++ inner
   pub access : c.access.made ≡ line_access (geometry_of c) way.line
   pub held : Carried X
-  pub due : IsLeft (IsProgramMade kinds (geometry_of c) (program_of c)) front (AccessLeft kinds (geometry_of c) way.line way.lines c.results.items c.loads way.more held)
-  pub over : IsAccessOver kinds c.access.geometry.now c.access.made c.access.cache c.access.tally (geometry_of c) held (opened_view c front) inner word
+  pub due : IsLeft (IsProgramMade kinds (geometry_of c) (made_program c)) front (AccessLeft kinds (geometry_of c) way.line way.lines c.results.items c.loads way.more held)
+  pub over : IsAccessOver kinds c.access.geometry.now c.access.made c.access.cache c.access.tally (geometry_of c) held (cpu_view c front) inner word
 
 -- Stages.
 
@@ -146,7 +146,7 @@ pub record IsAtAccess {F M X : Type 0} (kinds : FaultKinds M X) (made_of : F →
   pub front : Turns
   pub inner : Turns
   pub run : IsInAccess kinds c turns front inner
-  pub awaited : AwaitsOf kinds made_of awaits_of c.access (geometry_of c) run.held (opened_view c front) inner turn
+  pub awaited : AwaitsOf kinds made_of awaits_of c.access (geometry_of c) run.held (cpu_view c front) inner turn
 
 -- the end is acknowledged
 pub record IsAtEnding {F M X : Type 0} (kinds : FaultKinds M X) (c : Processor F) (turns : Turns) (last : Option Turn) : Type 0 where
@@ -154,10 +154,10 @@ pub record IsAtEnding {F M X : Type 0} (kinds : FaultKinds M X) (c : Processor F
   pub same : c.access.geometry.now ≡ geometry_of c
   pub ends : List X
   pub counted : c.access.tally ≡ ends_tally kinds.counts ends
-  pub free : HasNothingOpen (opened_view c turns)
-  pub as_many : length c.results.items ≡ length (program_of c)
-  pub follows : AreMade c.made.number (program_of c) c.results.items (accesses_of_turns c turns)
-  pub due : IsLeft (IsProgramMade kinds (geometry_of c) (program_of c)) turns (Follows (Hears (geometry_of c) (Do (Ack ack.End))) (λ heard. Ends (record { results = c.results.items; ends = ends })))
+  pub free : HasNothingOpen (cpu_view c turns)
+  pub as_many : length c.results.items ≡ length (made_program c)
+  pub follows : AreMade c.made.number (made_program c) c.results.items (accesses_of_turns c turns)
+  pub due : IsLeft (IsProgramMade kinds (geometry_of c) (made_program c)) turns (Follows (Hears (geometry_of c) (Do (Ack ack.End))) (λ heard. Ends (record { results = c.results.items; ends = ends })))
 
 -- by the stage
 abbrev pub IsAtCpuStage : {F M X : Type 0} → FaultKinds M X → (F → M) → (F → Geometry → View → Own → Action → Type 0) → CpuStage → Processor F → Turns → Option Turn → Type 0
@@ -171,14 +171,10 @@ IsAtCpuStage kinds made_of awaits_of Over c turns last = last ≡ Some End
 
 -- after these turns the one that awaits its answer comes next in a whole sequence; where Start is to be heard there are none,
 -- and where End was given nothing more comes
-abbrev pub ComesNext : {M X : Type 0} → FaultKinds M X → Geometry → List Line → Turns → Option Turn → Type 0
-ComesNext kinds g program turns None = turns ≡ []
-ComesNext kinds g program turns (Some End) = Unit {0}
-ComesNext kinds g program turns (Some turn) = IsTurnBegun (IsProgramMade kinds g program) turns turn
-
-abbrev pub is_end : Option Turn → Bool
-is_end (Some End) = true
-is_end _ = false
+abbrev pub ComesNextTurn : {M X : Type 0} → FaultKinds M X → Geometry → List Line → Turns → Option Turn → Type 0
+ComesNextTurn kinds g program turns None = turns ≡ []
+ComesNextTurn kinds g program turns (Some End) = Unit {0}
+ComesNextTurn kinds g program turns (Some turn) = IsTurnBegun (IsProgramMade kinds g program) turns turn
 
 -- the turn that is kept is the last one
 abbrev pub IsKeptTurn : Turn → Option Turn → Type 0
@@ -201,23 +197,23 @@ IsLeftAt view (Some End) = IsEndedCpu view
 IsLeftAt view _ = Unit {0}
 
 -- how far it has come: the last turn comes next in its sequence, and its action is permitted
-pub record IsAtTurn {F M X : Type 0} (kinds : FaultKinds M X) (made_of : F → M) (awaits_of : F → Geometry → View → Own → Action → Type 0) (c : Processor F) (turns : Turns) (last : Option Turn) : Type 0 where
-  pub cpu : IsCpu (geometry_of c) c.made.number (program_of c)
-  pub room : length (program_of c) ≤ vec_capacity c.results
-  pub next : ComesNext kinds (geometry_of c) (program_of c) turns last
-  pub permitted : IsPermittedLast (geometry_of c) (opened_view c turns) last
-  pub left : IsLeftAt (opened_view c turns) last
+pub record IsAtCpuTurn {F M X : Type 0} (kinds : FaultKinds M X) (made_of : F → M) (awaits_of : F → Geometry → View → Own → Action → Type 0) (c : Processor F) (turns : Turns) (last : Option Turn) : Type 0 where
+  pub cpu : IsCpu (geometry_of c) c.made.number (made_program c)
+  pub room : length (made_program c) ≤ vec_capacity c.results
+  pub next : ComesNextTurn kinds (geometry_of c) (made_program c) turns last
+  pub permitted : IsPermittedLast (geometry_of c) (cpu_view c turns) last
+  pub left : IsLeftAt (cpu_view c turns) last
   pub at : IsAtCpuStage kinds made_of awaits_of c.stage c turns last
 
 -- it has these answered turns, and this one awaits its answer
 pub record FollowsCpu {F M X : Type 0} (kinds : FaultKinds M X) (made_of : F → M) (awaits_of : F → Geometry → View → Own → Action → Type 0) (c : Processor F) (turns : Turns) (last : Option Turn) : Type 0 where
-  pub part : IsCpuPart kinds (geometry_of c) c.made.number (program_of c) turns (is_end last) c.results.items (sum_of c.counter.tally c.access.tally)
-  pub at : IsAtTurn kinds made_of awaits_of c turns last
+  pub part : IsCpuPart kinds (geometry_of c) c.made.number (made_program c) turns (gave_end last) c.results.items (sum_of c.counter.tally c.access.tally)
+  pub at : IsAtCpuTurn kinds made_of awaits_of c turns last
   pub events : CountsEvents c.counter (own_list turns)
   pub pages : length c.counter.locked.items ≡ page_count (geometry_of c)
   pub kept : IsKeptTurn c.given last
 
 -- a turn is given after these turns, which with what their events count are the processor's part of a run
 pub record IsAdvanced {F M X : Type 0} (kinds : FaultKinds M X) (made_of : F → M) (awaits_of : F → Geometry → View → Own → Action → Type 0) (c : Processor F) (turns : Turns) (turn : Turn) : Type 0 where
-  pub at : IsAtTurn kinds made_of awaits_of c turns (Some turn)
-  pub part : (counts : Tally) → counts ≡ events_tally (own_list turns) → IsCpuPart kinds (geometry_of c) c.made.number (program_of c) turns (is_end (Some turn)) c.results.items (sum_of counts c.access.tally)
+  pub at : IsAtCpuTurn kinds made_of awaits_of c turns (Some turn)
+  pub part : (counts : Tally) → counts ≡ events_tally (own_list turns) → IsCpuPart kinds (geometry_of c) c.made.number (made_program c) turns (gave_end (Some turn)) c.results.items (sum_of counts c.access.tally)

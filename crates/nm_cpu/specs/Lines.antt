@@ -89,7 +89,7 @@ IsTried number (Await v w x max ∷ lines) loads list = AreLoads number v w x lo
 IsTried number lines loads list = list ≡ []
 
 -- the accesses are those of the lines `done` with these results, and then of the first of `lines`, which gave nothing yet
-pub record HasFollowed (number : ℕ) (done lines : List Line) (results : List LineResult) (loads : ℕ) (list : List Access) : Type 0 where
+pub record FollowsSoFar (number : ℕ) (done lines : List Line) (results : List LineResult) (loads : ℕ) (list : List Access) : Type 0 where
   pub front : List Access
   pub back : List Access
   pub is : list ≡ front ++ back

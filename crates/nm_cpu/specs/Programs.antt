@@ -34,13 +34,13 @@ pub record IsCpu (g : Geometry) (number : ℕ) (program : List Line) : Type 0 wh
   pub lines : AllByRecursion (IsLineOf g) program
 
 -- the backing page, or 0 where there is none
-abbrev pub page_or : Option ℕ → ℕ
-page_or None = 0
-page_or (Some page) = page
+abbrev pub backing_or_zero : Option ℕ → ℕ
+backing_or_zero None = 0
+backing_or_zero (Some page) = page
 
 -- an access to a word of a virtual page
 abbrev pub access_to : Geometry → ℕ → ℕ → Touch → AccessMade
-access_to g v w touch = record { vpage = v; page = page_or (backing_page g v); word = w; touch = touch }
+access_to g v w touch = record { vpage = v; page = backing_or_zero (backing_page g v); word = w; touch = touch }
 
 -- the access that a line makes, or makes again
 abbrev pub line_access : Geometry → Line → AccessMade
@@ -80,9 +80,9 @@ LinesMade kinds g (line ∷ lines) results held = LineMade kinds g line (λ resu
 abbrev pub fresh_kept : Kept
 fresh_kept = record { cache = record { sets = 16; ways = 4; entries = [] }; acked = None }
 
-abbrev pub held_with : {X : Type 0} → Kept → List X → Carried X
-held_with kept ends = record { kept = kept; ends = ends }
+abbrev pub carried_with : {X : Type 0} → Kept → List X → Carried X
+carried_with kept ends = record { kept = kept; ends = ends }
 
 -- A processor catches up, and makes the lines of its program.
 abbrev pub IsProgramMade : {M X : Type 0} → FaultKinds M X → Geometry → List Line → Turns → CpuEnd X → Type 0
-IsProgramMade kinds g program = Follows (Acts (CatchesUp g fresh_kept)) (λ kept. LinesMade kinds g program [] (held_with kept []))
+IsProgramMade kinds g program = Follows (Acts (CatchesUp g fresh_kept)) (λ kept. LinesMade kinds g program [] (carried_with kept []))

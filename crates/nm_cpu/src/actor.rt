@@ -10,7 +10,7 @@ ghost use Rattle.nm_actor.specs.Actors.{HasHeard, IsAnswerTo, answered};
 ghost use Rattle.nm_access.specs.Faults.{fault_kinds};
 ghost use Rattle.nm_cpu.specs.declared.actor.CpuStage.TheVariants.{Opening, Accessing};
 ghost use Rattle.nm_cpu.specs.Programs.{IsCpu};
-ghost use Rattle.nm_cpu.specs.Agreeing.{geometry_of, opened_view, IsAtNext, IsUnderWay, HasTouched, IsAtTurn, FollowsCpu, IsAdvanced};
+ghost use Rattle.nm_cpu.specs.Agreeing.{geometry_of, cpu_view, IsAtNext, IsUnderWay, HasTouched, IsAtCpuTurn, FollowsCpu, IsAdvanced};
 
 use crate::line::{line_access, line_result};
 use crate::made::CpuMade;
@@ -111,7 +111,7 @@ impl<'a, F: Faults<'a> + Drop> Processor<'a, F> {
         ensures rest { self.new ≡ record self.old { counter = self.new.counter } }
         ensures pages { length self.new.counter.locked.items ≡ length self.old.counter.locked.items }
         ensures counted { (turns : Turns) (last : Option Turn) → FollowsCpu (fault_kinds F.shape F.leaves F.waits_at F.missing F.shadowed F.counted) F.made F.awaits self.old turns last
-            → IsAnswerTo (geometry_of self.old) (opened_view self.old turns) last heard → CountsEvents self.new.counter (own_list (answered last heard turns)) }
+            → IsAnswerTo (geometry_of self.old) (cpu_view self.old turns) last heard → CountsEvents self.new.counter (own_list (answered last heard turns)) }
     {
         if let Heard::Answer(reply) = heard {
             let Turn::Do(action) = self.given else {
@@ -168,12 +168,12 @@ impl<'a, F: Faults<'a> + Drop> Processor<'a, F> {
 
     /// The turn after an answer to an access.
     fn accessed(&mut self, heard: Heard) -> Turn
-        requires heard { HasHeard (geometry_of self.old) self.old.made.number (IsAtTurn (fault_kinds F.shape F.leaves F.waits_at F.missing F.shadowed F.counted) F.made F.awaits self.old) heard }
+        requires heard { HasHeard (geometry_of self.old) self.old.made.number (IsAtCpuTurn (fault_kinds F.shape F.leaves F.waits_at F.missing F.shadowed F.counted) F.made F.awaits self.old) heard }
         requires stage { self.old.stage ≡ Accessing }
         ensures made { self.new.made ≡ self.old.made }
         ensures counter { self.new.counter ≡ self.old.counter }
-        ensures advanced { (turns : Turns) (last : Option Turn) → IsAtTurn (fault_kinds F.shape F.leaves F.waits_at F.missing F.shadowed F.counted) F.made F.awaits self.old turns last
-            → IsAnswerTo (geometry_of self.old) (opened_view self.old turns) last heard
+        ensures advanced { (turns : Turns) (last : Option Turn) → IsAtCpuTurn (fault_kinds F.shape F.leaves F.waits_at F.missing F.shadowed F.counted) F.made F.awaits self.old turns last
+            → IsAnswerTo (geometry_of self.old) (cpu_view self.old turns) last heard
             → IsAdvanced (fault_kinds F.shape F.leaves F.waits_at F.missing F.shadowed F.counted) F.made F.awaits self.new (answered last heard turns) result }
     {
         match self.access.after(heard) {
@@ -184,12 +184,12 @@ impl<'a, F: Faults<'a> + Drop> Processor<'a, F> {
 
     /// The turn after a reply to the first catch up.
     fn opened(&mut self, reply: Reply) -> Turn
-        requires heard { HasHeard (geometry_of self.old) self.old.made.number (IsAtTurn (fault_kinds F.shape F.leaves F.waits_at F.missing F.shadowed F.counted) F.made F.awaits self.old) (Answer reply) }
+        requires heard { HasHeard (geometry_of self.old) self.old.made.number (IsAtCpuTurn (fault_kinds F.shape F.leaves F.waits_at F.missing F.shadowed F.counted) F.made F.awaits self.old) (Answer reply) }
         requires stage { self.old.stage ≡ Opening }
         ensures made { self.new.made ≡ self.old.made }
         ensures counter { self.new.counter ≡ self.old.counter }
-        ensures advanced { (turns : Turns) (last : Option Turn) → IsAtTurn (fault_kinds F.shape F.leaves F.waits_at F.missing F.shadowed F.counted) F.made F.awaits self.old turns last
-            → IsAnswerTo (geometry_of self.old) (opened_view self.old turns) last (Answer reply)
+        ensures advanced { (turns : Turns) (last : Option Turn) → IsAtCpuTurn (fault_kinds F.shape F.leaves F.waits_at F.missing F.shadowed F.counted) F.made F.awaits self.old turns last
+            → IsAnswerTo (geometry_of self.old) (cpu_view self.old turns) last (Answer reply)
             → IsAdvanced (fault_kinds F.shape F.leaves F.waits_at F.missing F.shadowed F.counted) F.made F.awaits self.new (answered last (Answer reply) turns) result }
     {
         match self.access.opened(reply) {
@@ -200,11 +200,11 @@ impl<'a, F: Faults<'a> + Drop> Processor<'a, F> {
 
     /// The turn after what is heard.
     fn advance(&mut self, heard: Heard) -> Turn
-        requires { HasHeard (geometry_of self.old) self.old.made.number (IsAtTurn (fault_kinds F.shape F.leaves F.waits_at F.missing F.shadowed F.counted) F.made F.awaits self.old) heard }
+        requires { HasHeard (geometry_of self.old) self.old.made.number (IsAtCpuTurn (fault_kinds F.shape F.leaves F.waits_at F.missing F.shadowed F.counted) F.made F.awaits self.old) heard }
         ensures made { self.new.made ≡ self.old.made }
         ensures counter { self.new.counter ≡ self.old.counter }
-        ensures advanced { (turns : Turns) (last : Option Turn) → IsAtTurn (fault_kinds F.shape F.leaves F.waits_at F.missing F.shadowed F.counted) F.made F.awaits self.old turns last
-            → IsAnswerTo (geometry_of self.old) (opened_view self.old turns) last heard
+        ensures advanced { (turns : Turns) (last : Option Turn) → IsAtCpuTurn (fault_kinds F.shape F.leaves F.waits_at F.missing F.shadowed F.counted) F.made F.awaits self.old turns last
+            → IsAnswerTo (geometry_of self.old) (cpu_view self.old turns) last heard
             → IsAdvanced (fault_kinds F.shape F.leaves F.waits_at F.missing F.shadowed F.counted) F.made F.awaits self.new (answered last heard turns) result }
     {
         match self.stage {

@@ -2,7 +2,7 @@
 
 ghost use Rattle.std.specs.Prelude.{◌≡◌, ◌+◌, ◌<◌, ◌^◌, IfNone};
 ghost use Rattle.nm_access.specs.Accessing.{IsTouchWord};
-ghost use Rattle.nm_cpu.specs.Programs.{page_or, line_access};
+ghost use Rattle.nm_cpu.specs.Programs.{backing_or_zero, line_access};
 ghost use Rattle.nm_cpu.specs.Lines.{line_result, HasLoadsLeft};
 
 use nm_access::{AccessMade, Touch};
@@ -11,8 +11,8 @@ use nm_report::LineResult;
 use nm_script::Line;
 
 /// The backing page, or 0 where there is none.
-fn page_or(page: Option<u32>) -> u32
-    ensures { result ≡ page_or page }
+fn backing_or_zero(page: Option<u32>) -> u32
+    ensures { result ≡ backing_or_zero page }
 {
     match page {
         Some(page) => page,
@@ -33,7 +33,7 @@ pub(crate) fn line_access(g: &Geometry, line: Line) -> AccessMade
     };
     AccessMade {
         vpage,
-        page: page_or(g.backing(vpage)),
+        page: backing_or_zero(g.backing(vpage)),
         word,
         touch,
     }

@@ -25,7 +25,7 @@ use Rattle.nm_access.specs.Faults.{FaultKinds}
 use Rattle.nm_access.specs.Accesses.{Carried, IsWholeAccess}
 use Rattle.nm_shadow_fault.specs.declared.fault.FaultEnd.{FaultEnd}
 use Rattle.nm_cpu_fault.specs.ProcessorFaults.{processor_faults}
-use Rattle.nm_cpu.specs.Programs.{access_to, CpuEnd, AfterLine, Awaits, LineMade, LinesMade, fresh_kept, held_with, IsProgramMade}
+use Rattle.nm_cpu.specs.Programs.{access_to, CpuEnd, AfterLine, Awaits, LineMade, LinesMade, fresh_kept, carried_with, IsProgramMade}
 use Rattle.nm_marks.specs.Contents.{HasOnly}
 use Rattle.nm_marks.specs.Marks.{IsMarkOf, HasOnlyMarks, IsNoMark, IsCandidateMark}
 use Rattle.nm_marks.proofs.Contents.{only-both, only-more}
@@ -95,7 +95,7 @@ lines-made kinds g (line ∷ lines) results held faults =
     line-made kinds g line (λ result now. LinesMade kinds g lines (results ++ result ∷ []) now) held faults (λ result now. lines-made kinds g lines (results ++ result ∷ []) now faults)
 
 program-made : {M X : Type 0} (kinds : FaultKinds M X) (g : Geometry) (program : List Line) → FaultsOnly kinds → AllEndOnce (IsProgramMade kinds g program)
-program-made kinds g program faults = end-follows (Acts (CatchesUp g fresh_kept)) (λ kept. LinesMade kinds g program [] (held_with kept [])) (catches-turns g fresh_kept) (λ kept. lines-made kinds g program [] (held_with kept []) faults)
+program-made kinds g program faults = end-follows (Acts (CatchesUp g fresh_kept)) (λ kept. LinesMade kinds g program [] (carried_with kept [])) (catches-turns g fresh_kept) (λ kept. lines-made kinds g program [] (carried_with kept []) faults)
 
 -- ---- the processor's faults
 

@@ -5,9 +5,9 @@ use Rattle.std.proofs.lemmas.List.{take_more, map-append, length-map, length-app
 use Rattle.nm_action.specs.declared.tally.Tally.{Tally}
 use Rattle.nm_action.specs.Tally.{sum_of}
 use Rattle.nm_tally.specs.Counts.{zero_tally}
-use Rattle.nm_crew.specs.Crewed.{tally_from, tally_of, counts_of, crew_tallies}
+use Rattle.nm_crew.specs.Crewed.{tallies_from, tally_of, counts_at, crew_tallies}
 
-pub tally-append : (tally : Tally) (first second : List Tally) → tally_from tally (first ++ second) ≡ tally_from (tally_from tally first) second
+pub tally-append : (tally : Tally) (first second : List Tally) → tallies_from tally (first ++ second) ≡ tallies_from (tallies_from tally first) second
 tally-append tally [] second = refl
 tally-append tally (counts ∷ first) second = tally-append (sum_of tally counts) first second
 
@@ -28,14 +28,14 @@ tally-all cpus migrator reclaimer tally is =
 pub tallies-many : (cpus : List Tally) (migrator reclaimer : Tally) (n : ℕ) → length cpus ≡ n → length (crew_tallies cpus migrator reclaimer) ≡ n + 2
 tallies-many cpus migrator reclaimer n many = length-append cpus (migrator ∷ reclaimer ∷ []) ∙ ap (λ k. k + 2) many
 
-pub counts-cpu : {C : Type 0} (counted : C → Tally) (cpus : List C) (migrator reclaimer : Tally) (cpu : ℕ) (d : C) → cpu < length cpus → counts_of (crew_tallies (map counted cpus) migrator reclaimer) cpu ≡ counted (get_or cpus cpu d)
+pub counts-cpu : {C : Type 0} (counted : C → Tally) (cpus : List C) (migrator reclaimer : Tally) (cpu : ℕ) (d : C) → cpu < length cpus → counts_at (crew_tallies (map counted cpus) migrator reclaimer) cpu ≡ counted (get_or cpus cpu d)
 counts-cpu counted cpus migrator reclaimer cpu d lt =
     get_or_append_left (map counted cpus) (migrator ∷ reclaimer ∷ []) zero_tally cpu (omega (arith, lt, length-map cpus counted)) ∙ get_or-map counted cpus cpu d zero_tally lt
 
-pub counts-migrator : (cpus : List Tally) (migrator reclaimer : Tally) (n : ℕ) → length cpus ≡ n → counts_of (crew_tallies cpus migrator reclaimer) n ≡ migrator
+pub counts-migrator : (cpus : List Tally) (migrator reclaimer : Tally) (n : ℕ) → length cpus ≡ n → counts_at (crew_tallies cpus migrator reclaimer) n ≡ migrator
 counts-migrator cpus migrator reclaimer n many =
     ap (λ k. get_or (crew_tallies cpus migrator reclaimer) k zero_tally) (sym many) ∙ get_or-append_seam cpus migrator (reclaimer ∷ []) zero_tally
 
-pub counts-reclaimer : (cpus : List Tally) (migrator reclaimer : Tally) (n : ℕ) → length cpus ≡ n → counts_of (crew_tallies cpus migrator reclaimer) (n + 1) ≡ reclaimer
+pub counts-reclaimer : (cpus : List Tally) (migrator reclaimer : Tally) (n : ℕ) → length cpus ≡ n → counts_at (crew_tallies cpus migrator reclaimer) (n + 1) ≡ reclaimer
 counts-reclaimer cpus migrator reclaimer n many =
     ap (λ k. get_or (crew_tallies cpus migrator reclaimer) (k + 1) zero_tally) (sym many) ∙ get_or-append-add cpus (migrator ∷ reclaimer ∷ []) 1 zero_tally

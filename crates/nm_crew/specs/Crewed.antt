@@ -46,17 +46,17 @@ pub record IsCrewRun {C : Type 0} (cpu_agrees : C → Turns → Option Turn → 
   pub reclaimer : IsAgreedAt reclaimer_agrees played (g.cpus + 1)
 
 -- the counts so far with those of some actors, each count at most 2^64 - 1
-abbrev pub tally_from : Tally → List Tally → Tally
-tally_from tally [] = tally
-tally_from tally (counts ∷ tallies) = tally_from (sum_of tally counts) tallies
+abbrev pub tallies_from : Tally → List Tally → Tally
+tallies_from tally [] = tally
+tallies_from tally (counts ∷ tallies) = tallies_from (sum_of tally counts) tallies
 
 -- the counts of some actors together, each at most 2^64 - 1
 abbrev pub tally_of : List Tally → Tally
-tally_of tallies = tally_from zero_tally tallies
+tally_of tallies = tallies_from zero_tally tallies
 
 -- the counts of the actor of a number
-abbrev pub counts_of : List Tally → ℕ → Tally
-counts_of tallies actor = slice_index_or tallies actor zero_tally
+abbrev pub counts_at : List Tally → ℕ → Tally
+counts_at tallies actor = slice_index_or tallies actor zero_tally
 
 -- the counts of the processors, of the migrator and of the reclaimer, by their numbers
 abbrev pub crew_tallies : List Tally → Tally → Tally → List Tally

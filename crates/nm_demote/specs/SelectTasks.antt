@@ -21,7 +21,8 @@ use Rattle.nm_demote.specs.declared.select.Selected.{Selected}
 use Rattle.nm_demote.specs.declared.select_task.SelectTask.{SelectTask}
 use Rattle.nm_demote.specs.Selecting.{IsSelecting}
 use Rattle.nm_demote.specs.Selections.{MayDemote}
-use Rattle.nm_demote.specs.Stages.{VisitsPart, ObtainPart, select_piece_made, IsNewSelectPiece, MaySelectPiece, IsSelectPiece, select_piece, select_left, SelectKnown}
+use Rattle.nm_obtain.specs.Searching.{ObtainPart}
+use Rattle.nm_demote.specs.Stages.{VisitsPart, select_piece_made, IsNewSelectPiece, MaySelectPiece, IsSelectPiece, select_piece, select_left, SelectKnown}
 
 -- what it was begun with, in which geometry
 abbrev pub select_of : SelectTask → Geometry × DemoteMade

@@ -33,8 +33,7 @@ use Rattle.nm_mappings.specs.declared.visits.VisitPlan.{VisitPlan}
 use Rattle.nm_copying.specs.Copying.{told}
 use Rattle.nm_obtain.specs.Obtains.{IsObtain}
 use Rattle.nm_obtain.specs.Obtaining.{MayObtain, IsObtained}
-use Rattle.nm_obtain.specs.Searching.{ObtainPiece, obtain_parts, IsNewObtainPiece, MayObtainPiece, IsObtainPiece, obtain_made, obtain_left, obtain_stages}
-use Rattle.nm_obtain.specs.declared.obtain.Obtain.{Obtain}
+use Rattle.nm_obtain.specs.Searching.{ObtainPart, obtain_parts, IsNewObtainPiece, MayObtainPiece, IsObtainPiece, obtain_made, obtain_left, obtain_stages}
 use Rattle.nm_obtain.specs.declared.obtain.ObtainMade.{ObtainMade}
 use Rattle.nm_obtain.specs.declared.obtain.Obtained.{Obtained}
 use Rattle.nm_obtain.specs.declared.obtain.Obtained.TheVariants.{AtFloor}
@@ -79,9 +78,6 @@ SelectPieceLeaves = LeavesOr (λ action g view reply left. IsActed g view action
 abbrev pub VisitsPart : Type 0
 VisitsPart = Composite VisitPlan Act
 
-abbrev pub ObtainPart : Type 0
-ObtainPart = Composite Obtain ObtainPiece
-
 abbrev pub SelectPiece : Type 0
 SelectPiece = Or Act (Or VisitsPart ObtainPart)
 
@@ -89,15 +85,15 @@ SelectPiece = Or Act (Or VisitsPart ObtainPart)
 abbrev pub select_piece_made : SelectPiece → SelectParts
 select_piece_made = or_made (λ a. a.action) (or_made (λ c. c.plan.made) (λ c. obtain_made c.plan.geometry.now c.plan.made))
 
-abbrev pub IsNewLooksPart : VisitsPart → Type 0
-IsNewLooksPart c = HasFirst (λ (a : Act). a.action) (λ a. Unit {0}) (λ action g view. MayAct g view action) IsAct (IsPieceAt visit_stages c.plan.made (visit_place c.plan)) (visit_left c.plan.made (visit_place c.plan)) MayVisit IsVisits c.plan.made c.piece
+abbrev pub IsNewDemoteLooks : VisitsPart → Type 0
+IsNewDemoteLooks c = HasFirst (λ (a : Act). a.action) (λ a. Unit {0}) (λ action g view. MayAct g view action) IsAct (IsPieceAt visit_stages c.plan.made (visit_place c.plan)) (visit_left c.plan.made (visit_place c.plan)) MayVisit IsVisits c.plan.made c.piece
 
-abbrev pub IsNewObtainPart : ObtainPart → Type 0
-IsNewObtainPart c = HasFirst obtain_parts IsNewObtainPiece MayObtainPiece IsObtainPiece (IsPieceAt obtain_stages (obtain_made c.plan.geometry.now c.plan.made) c.plan.stage) (obtain_left (obtain_made c.plan.geometry.now c.plan.made) c.plan.stage)
+abbrev pub IsNewDemoteObtain : ObtainPart → Type 0
+IsNewDemoteObtain c = HasFirst obtain_parts IsNewObtainPiece MayObtainPiece IsObtainPiece (IsPieceAt obtain_stages (obtain_made c.plan.geometry.now c.plan.made) c.plan.stage) (obtain_left (obtain_made c.plan.geometry.now c.plan.made) c.plan.stage)
     MayObtainOf IsObtainOf (obtain_made c.plan.geometry.now c.plan.made) c.piece
 
 abbrev pub IsNewSelectPiece : SelectPiece → Type 0
-IsNewSelectPiece = IsNewOr (λ a. Unit {0}) (IsNewOr IsNewLooksPart IsNewObtainPart)
+IsNewSelectPiece = IsNewOr (λ a. Unit {0}) (IsNewOr IsNewDemoteLooks IsNewDemoteObtain)
 
 -- the reply with which an action ended, the word that it carries, the virtual pages that visits found, and how the search for
 -- a frame ended (of other pieces nothing is claimed by these)

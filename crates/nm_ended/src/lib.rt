@@ -3,4 +3,4 @@
 
 pub mod ask;
 
-pub use ask::AskEnded;
+pub use ask::{AskEnded, AskPart};

@@ -4,7 +4,7 @@ use Rattle.std.specs.List.{range_with_len}
 use Rattle.std.proofs.lemmas.List.FromFn.{filter_of_map_range_with_len_more}
 use Rattle.std.proofs.lemmas.List.{append-nil, map-id, map-append}
 use Rattle.nm_script.specs.declared.script.Line.{Line}
-use Rattle.nm_gen.specs.Generated.{next_draw, drawn, line_at, program_of, programs_of}
+use Rattle.nm_gen.specs.Generated.{next_draw, drawn, line_at, generated_program, programs_of}
 
 pub drawn-suc : (n i : ℕ) → drawn n (i + 1) ≡ next_draw (drawn n i)
 unfolding drawn
@@ -22,9 +22,9 @@ map_cond n i true = refl
 map_cond n i false = refl
 
 -- the program of a processor after one draw more
-pub program_more : (n i p : ℕ) → program_of n (i + 1) p ≡ program_of n i p ++ cond (i % 4 == p) (line_at n i ∷ []) []
+pub program_more : (n i p : ℕ) → generated_program n (i + 1) p ≡ generated_program n i p ++ cond (i % 4 == p) (line_at n i ∷ []) []
 program_more n i p =
-    ap (map (line_at n)) (own_more p i) ∙ map-append (line_at n) (filter (λ k. k % 4 == p) (range_with_len 0 i)) (cond (i % 4 == p) (i ∷ []) []) ∙ ap (λ l. program_of n i p ++ l) (map_cond n i (i % 4 == p))
+    ap (map (line_at n)) (own_more p i) ∙ map-append (line_at n) (filter (λ k. k % 4 == p) (range_with_len 0 i)) (cond (i % 4 == p) (i ∷ []) []) ∙ ap (λ l. generated_program n i p ++ l) (map_cond n i (i % 4 == p))
 
 -- a list with the item at place q longer by a line, where q is below 4
 longer : (a b c d : List Line) (l : Line) (q : ℕ) → q < 4 → set (a ∷ b ∷ c ∷ d ∷ []) q (get_or (a ∷ b ∷ c ∷ d ∷ []) q [] ++ l ∷ []) ≡ (a ++ cond (q == 0) (l ∷ []) []) ∷ (b ++ cond (q == 1) (l ∷ []) []) ∷ (c ++ cond (q == 2) (l ∷ []) []) ∷ (d ++ cond (q == 3) (l ∷ []) []) ∷ []
@@ -37,5 +37,5 @@ longer a b c d l (suc (suc (suc (suc q)))) h = absurd (omega arith)
 -- one draw more makes one program longer by its line
 pub programs_more : (n i : ℕ) → set (programs_of n i) (i % 4) (get_or (programs_of n i) (i % 4) [] ++ line_at n i ∷ []) ≡ programs_of n (i + 1)
 programs_more n i =
-    longer (program_of n i 0) (program_of n i 1) (program_of n i 2) (program_of n i 3) (line_at n i) (i % 4) (omega arith)
+    longer (generated_program n i 0) (generated_program n i 1) (generated_program n i 2) (generated_program n i 3) (line_at n i) (i % 4) (omega arith)
     ∙ rw (program_more n i 0, program_more n i 1, program_more n i 2, program_more n i 3) refl

@@ -9,7 +9,7 @@ use Rattle.nm_base.specs.declared.geometry.Field.TheVariants.{Words, Tiers, Cpus
 use Rattle.nm_base.specs.Geometry.{IsGeometry, HasRanges, IsFirstOutside, IsCrowded, IsWritable, AreTiers, AreVPages, vpage_at}
 use Rattle.nm_script.specs.declared.script.Line.TheVariants.{Load, Store}
 use Rattle.nm_script.specs.Script.{IsScript, IsAccess}
-use Rattle.nm_gen.specs.Generated.{generated, geometry, one_to_one, line_at, page_drawn, word_drawn, program_of, drawn}
+use Rattle.nm_gen.specs.Generated.{generated, geometry, one_to_one, line_at, page_drawn, word_drawn, generated_program, drawn}
 
 tiers_fit : AreTiers (64 ∷ 256 ∷ [])
 tiers_fit = (lit≤ tt, lit≤ tt, All-from_recursion (λ n. (1 ≤ n) × (n ≤ 4095)) (64 ∷ 256 ∷ []) ((lit≤ tt, lit≤ tt), ((lit≤ tt, lit≤ tt), tt)), lit≤ tt)
@@ -75,7 +75,7 @@ lines_all : (n size : ℕ) (ks : List ℕ) → size ≤ 100000 → AllByRecursio
 lines_all n size [] few h = tt
 lines_all n size (k ∷ ks) few h = (line_access n size k few h.0, lines_all n size ks few h.1)
 
-program_all : (n size p : ℕ) → size ≤ 100000 → AllByRecursion (IsAccess geometry) (program_of n size p)
+program_all : (n size p : ℕ) → size ≤ 100000 → AllByRecursion (IsAccess geometry) (generated_program n size p)
 program_all n size p few =
     lines_all n size (filter (λ i. i % 4 == p) (range_with_len 0 size)) few (filter_all (λ i. i % 4 == p) size (range_with_len 0 size) (range_below 0 size size (omega arith)))
 

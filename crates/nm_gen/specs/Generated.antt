@@ -34,11 +34,11 @@ abbrev pub line_at : ℕ → ℕ → Line
 line_at n i = line_drawn (drawn n (i + 1) / 2 ^ 33) i
 
 -- of `size` draws processor p has every fourth, from draw p on
-abbrev pub program_of : ℕ → ℕ → ℕ → List Line
-program_of n size p = map (line_at n) (filter (λ i. i % 4 == p) (range_with_len 0 size))
+abbrev pub generated_program : ℕ → ℕ → ℕ → List Line
+generated_program n size p = map (line_at n) (filter (λ i. i % 4 == p) (range_with_len 0 size))
 
 abbrev pub programs_of : ℕ → ℕ → List (List Line)
-programs_of n size = map (program_of n size) (0 ∷ 1 ∷ 2 ∷ 3 ∷ [])
+programs_of n size = map (generated_program n size) (0 ∷ 1 ∷ 2 ∷ 3 ∷ [])
 
 -- 240 virtual pages, each mapped to the backing page of its number
 abbrev pub one_to_one : ℕ → Option VPage

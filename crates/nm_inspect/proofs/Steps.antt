@@ -18,7 +18,7 @@ use Rattle.nm_vpages.specs.VPages.{vpages_of}
 use Rattle.nm_mappings.proofs.Lists.{vpage-there}
 use Rattle.nm_prepare.proofs.Found.{vpages-all}
 use Rattle.nm_looks.specs.declared.seen.Seen.{Seen}
-use Rattle.nm_looks.specs.Seeing.{is_mapped_word, is_inside, IsLooks, HasLooked}
+use Rattle.nm_looks.specs.Seeing.{is_mapped_word, is_in_tier, IsLooks, HasLooked}
 use Rattle.nm_looks.specs.Softening.{IsSoftens}
 use Rattle.nm_looks.specs.Parts.{page_looks}
 use Rattle.nm_looks.proofs.Leaving.{seen-alone, mapped-all}
@@ -49,13 +49,13 @@ some-inspection made g =
 
 -- Where a word is in the tier, one is mapped.
 
-some-go : (p : ℕ × ℕ) (g : Geometry) (tier : ℕ) (ps : List (ℕ × ℕ)) (m t : Bool) → ((m && t) || list_any (λ q. is_inside g tier q.1) ps) ≡ true
-    → (list_any (λ q. is_inside g tier q.1) ps ≡ true → map first (filter (λ q. is_mapped_word q.1) ps) ≡ [] → ⊥)
+some-go : (p : ℕ × ℕ) (g : Geometry) (tier : ℕ) (ps : List (ℕ × ℕ)) (m t : Bool) → ((m && t) || list_any (λ q. is_in_tier g tier q.1) ps) ≡ true
+    → (list_any (λ q. is_in_tier g tier q.1) ps ≡ true → map first (filter (λ q. is_mapped_word q.1) ps) ≡ [] → ⊥)
     → map first (if m then p ∷ filter (λ q. is_mapped_word q.1) ps else filter (λ q. is_mapped_word q.1) ps) ≡ [] → ⊥
 some-go p g tier ps true t some later none = cc
 some-go p g tier ps false t some later none = later some none
 
-inside-some : (g : Geometry) (tier : ℕ) (told : List (ℕ × ℕ)) → list_any (λ q. is_inside g tier q.1) told ≡ true → map first (filter (λ q. is_mapped_word q.1) told) ≡ [] → ⊥
+inside-some : (g : Geometry) (tier : ℕ) (told : List (ℕ × ℕ)) → list_any (λ q. is_in_tier g tier q.1) told ≡ true → map first (filter (λ q. is_mapped_word q.1) told) ≡ [] → ⊥
 inside-some g tier [] some none = cc
 inside-some g tier (p ∷ ps) some none = some-go p g tier ps (is_mapped_word p.1) _ some (inside-some g tier ps) none
 

@@ -12,10 +12,10 @@ use Rattle.nm_actor.specs.Turns.{Turns, turns_view}
 use Rattle.nm_worker.specs.Routines.{IsNextTask}
 use Rattle.nm_worker.specs.Workers.{FollowsRoutine, IsNewWorker}
 use Rattle.nm_worker.proofs.Ending.{known-at-end}
-use Rattle.nm_routine_part.specs.Parts.{is_end}
+use Rattle.nm_actor.specs.Actors.{gave_end}
 use Rattle.nm_routine_part.proofs.Parts.{part-of-routine}
-use Rattle.nm_kswap.specs.Works.{ReclaimerPiece, work_made, MayWork, IsWork}
-use Rattle.nm_kswap.specs.Ends.{work_counts}
+use Rattle.nm_kswap.specs.Works.{ReclaimerPiece, reclaimer_work_made, MayReclaimerWork, IsReclaimerWork}
+use Rattle.nm_kswap.specs.Ends.{reclaimer_counts}
 use Rattle.nm_kswap.specs.Reclaiming.{IsReclaiming}
 use Rattle.nm_kswap.specs.Knowing.{KnowsReclaiming, ReclaimingLeft}
 use Rattle.nm_kswap.specs.Parts.{reclaimer_number, IsReclaimerPart, IsEmptyAtEnd, ReclaimerWorker}
@@ -23,24 +23,24 @@ use Rattle.nm_kswap.proofs.Lists.{reclaiming-can}
 
 -- what the worker says of itself
 abbrev pub FollowsReclaiming : (ReclaimerPiece → Type 0) → (ReclaimerPiece → Geometry → View → Own → Action → Type 0) → ReclaimerWorker → Turns → Option Turn → Type 0
-FollowsReclaiming is_new awaits w turns last = FollowsRoutine work_made is_new MayWork IsWork awaits work_counts (KnowsReclaiming w.routine) (ReclaimingLeft w.routine) (IsReclaiming w.routine.geometry.now) w.routine.geometry.now (reclaimer_number w.routine.geometry.now) w.action w.task w.events w.ends w.spent turns last
+FollowsReclaiming is_new awaits w turns last = FollowsRoutine reclaimer_work_made is_new MayReclaimerWork IsReclaimerWork awaits reclaimer_counts (KnowsReclaiming w.routine) (ReclaimingLeft w.routine) (IsReclaiming w.routine.geometry.now) w.routine.geometry.now (reclaimer_number w.routine.geometry.now) w.action w.task w.events w.ends w.spent turns last
 
 pub worker-part : (is_new : ReclaimerPiece → Type 0) (awaits : ReclaimerPiece → Geometry → View → Own → Action → Type 0) (w : ReclaimerWorker) (turns : Turns) (last : Option Turn)
-    → FollowsReclaiming is_new awaits w turns last → IsReclaimerPart w.routine.geometry.now turns (is_end last) (sum_of w.events.tally w.ends)
+    → FollowsReclaiming is_new awaits w turns last → IsReclaimerPart w.routine.geometry.now turns (gave_end last) (sum_of w.events.tally w.ends)
 worker-part is_new awaits w turns last h =
-    part-of-routine work_made is_new MayWork IsWork awaits work_counts (KnowsReclaiming w.routine) (ReclaimingLeft w.routine) (IsReclaiming w.routine.geometry.now) w.routine.geometry.now (reclaimer_number w.routine.geometry.now) w.action w.task w.events w.ends w.spent turns last (reclaiming-can w.routine.geometry.now) h
+    part-of-routine reclaimer_work_made is_new MayReclaimerWork IsReclaimerWork awaits reclaimer_counts (KnowsReclaiming w.routine) (ReclaimingLeft w.routine) (IsReclaiming w.routine.geometry.now) w.routine.geometry.now (reclaimer_number w.routine.geometry.now) w.action w.task w.events w.ends w.spent turns last (reclaiming-can w.routine.geometry.now) h
 
 pub worker-empty : (is_new : ReclaimerPiece → Type 0) (awaits : ReclaimerPiece → Geometry → View → Own → Action → Type 0) (w : ReclaimerWorker) (turns : Turns) (last : Option Turn)
-    → FollowsReclaiming is_new awaits w turns last → IsEmptyAtEnd (is_end last) (turns_view w.routine.geometry.now (reclaimer_number w.routine.geometry.now) turns)
+    → FollowsReclaiming is_new awaits w turns last → IsEmptyAtEnd (gave_end last) (turns_view w.routine.geometry.now (reclaimer_number w.routine.geometry.now) turns)
 worker-empty is_new awaits w turns None h = tt
 worker-empty is_new awaits w turns (Some turn.End) h =
-    (known-at-end work_made is_new MayWork IsWork awaits work_counts (KnowsReclaiming w.routine) (ReclaimingLeft w.routine) (IsReclaiming w.routine.geometry.now) w.routine.geometry.now (reclaimer_number w.routine.geometry.now) w.action w.task w.events w.ends w.spent turns h).resting.empty
+    (known-at-end reclaimer_work_made is_new MayReclaimerWork IsReclaimerWork awaits reclaimer_counts (KnowsReclaiming w.routine) (ReclaimingLeft w.routine) (IsReclaiming w.routine.geometry.now) w.routine.geometry.now (reclaimer_number w.routine.geometry.now) w.action w.task w.events w.ends w.spent turns h).resting.empty
 worker-empty is_new awaits w turns (Some (turn.Do action)) h = tt
 worker-empty is_new awaits w turns (Some (turn.Put lane page)) h = tt
 worker-empty is_new awaits w turns (Some (turn.Take lane)) h = tt
 
 -- a new worker agrees with no turns
 pub new-follows : (is_new : ReclaimerPiece → Type 0) (awaits : ReclaimerPiece → Geometry → View → Own → Action → Type 0) (w : ReclaimerWorker)
-    → IsNewWorker (IsNextTask work_made is_new MayWork IsWork work_counts (KnowsReclaiming w.routine) (ReclaimingLeft w.routine) (IsReclaiming w.routine.geometry.now) w.routine.geometry.now (opening w.routine.geometry.now (reclaimer_number w.routine.geometry.now)) w.task) w.routine.geometry.now (reclaimer_number w.routine.geometry.now) w.events w.ends w.spent
+    → IsNewWorker (IsNextTask reclaimer_work_made is_new MayReclaimerWork IsReclaimerWork reclaimer_counts (KnowsReclaiming w.routine) (ReclaimingLeft w.routine) (IsReclaiming w.routine.geometry.now) w.routine.geometry.now (opening w.routine.geometry.now (reclaimer_number w.routine.geometry.now)) w.task) w.routine.geometry.now (reclaimer_number w.routine.geometry.now) w.events w.ends w.spent
     → FollowsReclaiming is_new awaits w [] None
 new-follows is_new awaits w new = record { notes = []; is = refl; next = refl; events = new.events; ends = new.ends; pages = new.pages; drawn = new.drawn; few = new.few; at = new.next }

@@ -9,10 +9,10 @@ use Rattle.nm_kswap.specs.declared.stage.Kept.{Kept}
 use Rattle.nm_kswap.specs.declared.stage.Visit.{Visit}
 use Rattle.nm_kswap.specs.declared.stage.Stage.{Stage}
 use Rattle.nm_kswap.specs.declared.stage.Stage.TheVariants.{New, Asking, Counting, Inspecting, Demoting, Over}
-use Rattle.nm_kswap.specs.Works.{WorkEnd}
-use Rattle.nm_kswap.specs.Ends.{all_ended_in, level_in, inspected_in, demoted_in, drawn_in, freed_by}
-use Rattle.nm_kswap.specs.Reclaiming.{Sequence, hand_of, moved, with_drawn, marks_of, last_tier, has_vpage, AfterInspect, Inspects, Visits, Tiers}
-use Rattle.nm_kswap.specs.Knowing.{IsRunning}
+use Rattle.nm_kswap.specs.Works.{ReclaimerWorkEnd}
+use Rattle.nm_kswap.specs.Ends.{asked_in, level_in, inspected_in, demoted_in, spent_in, frames_freed}
+use Rattle.nm_kswap.specs.Reclaiming.{Sequence, hand_of, hand_moved, with_drawn, marks_of, last_tier, has_vpage, AfterInspect, Inspects, VisitsPages, Tiers}
+use Rattle.nm_kswap.specs.Knowing.{RunsWork}
 use Rattle.nm_kswap.specs.Stages.{Going, to_stage, tier_stage, to_visit, to_demote, going_on, AfterRound, AfterTier, AfterVisit, StageOn, StageLeft}
 
 -- Which stage comes next of the tiers that are left.
@@ -43,25 +43,25 @@ GoingOn g going rounds notes outcome = StageOn g going.kept going.stage rounds n
 -- Which stage comes next of the visits that are left.
 
 visits-by : (g : Geometry) (last : Bool) (tier level left : ℕ) (kept : Kept) (rounds : ℕ) (notes : Notes) (outcome : Unit {0}) (below some : Bool)
-    → (GoingOn g (to_visit g last tier level left (moved g tier kept)) rounds notes outcome → Visits g tier left level (moved g tier kept) (AfterTier g rounds last tier) notes outcome)
-    → GoingOn g (if below then (if some then to_stage (Inspecting (record { last = last; tier = tier; level = level; page = hand_of tier kept; left = left })) (moved g tier kept) else to_visit g last tier level left (moved g tier kept)) else to_stage (tier_stage g last (tier + 1)) kept) rounds notes outcome
-    → Either below (Either some (Inspects g tier (hand_of tier kept) level (moved g tier kept) (λ level kept. Visits g tier left level kept (AfterTier g rounds last tier))) (Visits g tier left level (moved g tier kept) (AfterTier g rounds last tier))) (AfterTier g rounds last tier kept) notes outcome
+    → (GoingOn g (to_visit g last tier level left (hand_moved g tier kept)) rounds notes outcome → VisitsPages g tier left level (hand_moved g tier kept) (AfterTier g rounds last tier) notes outcome)
+    → GoingOn g (if below then (if some then to_stage (Inspecting (record { last = last; tier = tier; level = level; page = hand_of tier kept; left = left })) (hand_moved g tier kept) else to_visit g last tier level left (hand_moved g tier kept)) else to_stage (tier_stage g last (tier + 1)) kept) rounds notes outcome
+    → Either below (Either some (Inspects g tier (hand_of tier kept) level (hand_moved g tier kept) (λ level kept. VisitsPages g tier left level kept (AfterTier g rounds last tier))) (VisitsPages g tier left level (hand_moved g tier kept) (AfterTier g rounds last tier))) (AfterTier g rounds last tier kept) notes outcome
 visits-by g last tier level left kept rounds notes outcome true true later h = h
 visits-by g last tier level left kept rounds notes outcome true false later h = later h
 visits-by g last tier level left kept rounds notes outcome false some later h = tiers-fit g last (tier + 1) kept rounds notes outcome h
 
 visits-fit : (g : Geometry) (last : Bool) (tier level left : ℕ) (kept : Kept) (rounds : ℕ) (notes : Notes) (outcome : Unit {0})
-    → GoingOn g (to_visit g last tier level left kept) rounds notes outcome → Visits g tier left level kept (AfterTier g rounds last tier) notes outcome
+    → GoingOn g (to_visit g last tier level left kept) rounds notes outcome → VisitsPages g tier left level kept (AfterTier g rounds last tier) notes outcome
 visits-fit g last tier level zero kept rounds notes outcome h = tiers-fit g last (tier + 1) kept rounds notes outcome h
 visits-fit g last tier level (suc left) kept rounds notes outcome h =
     visits-by g last tier level left kept rounds notes outcome (nat_lt level (marks_of g tier).high) (has_vpage g (hand_of tier kept))
-    (visits-fit g last tier level left (moved g tier kept) rounds notes outcome) h
+    (visits-fit g last tier level left (hand_moved g tier kept) rounds notes outcome) h
 
 -- The stages.
 
 level-by : (g : Geometry) (last : Bool) (tier level : ℕ) (kept : Kept) (rounds : ℕ) (notes : Notes) (outcome : Unit {0}) (low : Bool)
     → GoingOn g (if low then to_visit g last tier level (page_count g) kept else to_stage (tier_stage g last (tier + 1)) kept) rounds notes outcome
-    → Either low (Visits g tier (page_count g) level kept (AfterTier g rounds last tier)) (AfterTier g rounds last tier kept) notes outcome
+    → Either low (VisitsPages g tier (page_count g) level kept (AfterTier g rounds last tier)) (AfterTier g rounds last tier kept) notes outcome
 level-by g last tier level kept rounds notes outcome true h = visits-fit g last tier level (page_count g) kept rounds notes outcome h
 level-by g last tier level kept rounds notes outcome false h = tiers-fit g last (tier + 1) kept rounds notes outcome h
 
@@ -71,14 +71,14 @@ inspected-by g visit kept Elsewhere rounds notes outcome h = visits-fit g visit.
 inspected-by g visit kept InUse rounds notes outcome h = visits-fit g visit.last visit.tier visit.level visit.left kept rounds notes outcome h
 inspected-by g visit kept Idle rounds notes outcome h = h
 
-pub going-fits : (g : Geometry) (kept : Kept) (stage : Stage) (end : WorkEnd) (rounds : ℕ) (notes : Notes) (outcome : Unit {0}) → IsRunning stage
+pub going-fits : (g : Geometry) (kept : Kept) (stage : Stage) (end : ReclaimerWorkEnd) (rounds : ℕ) (notes : Notes) (outcome : Unit {0}) → RunsWork stage
     → GoingOn g (going_on g kept stage end) rounds notes outcome → StageLeft g kept stage end rounds notes outcome
 going-fits g kept New end rounds notes outcome runs h = absurd runs
 going-fits g kept Asking end rounds notes outcome runs h =
     let all : last_tier g - 0 ≡ last_tier g = omega arith in
-    let T : ℕ → Type 0 = λ n. Tiers g 0 n kept (AfterRound g rounds (all_ended_in end)) notes outcome in
-    subst T all (tiers-fit g (all_ended_in end) 0 kept rounds notes outcome h)
+    let T : ℕ → Type 0 = λ n. Tiers g 0 n kept (AfterRound g rounds (asked_in end)) notes outcome in
+    subst T all (tiers-fit g (asked_in end) 0 kept rounds notes outcome h)
 going-fits g kept (Counting last tier) end rounds notes outcome runs h = level-by g last tier (level_in end) kept rounds notes outcome (nat_le (level_in end) (marks_of g tier).low) h
 going-fits g kept (Inspecting visit) end rounds notes outcome runs h = inspected-by g visit kept (inspected_in end) rounds notes outcome h
-going-fits g kept (Demoting visit) end rounds notes outcome runs h = visits-fit g visit.last visit.tier (visit.level + freed_by (demoted_in end)) visit.left (with_drawn (drawn_in end) kept) rounds notes outcome h
+going-fits g kept (Demoting visit) end rounds notes outcome runs h = visits-fit g visit.last visit.tier (visit.level + frames_freed (demoted_in end)) visit.left (with_drawn (spent_in end) kept) rounds notes outcome h
 going-fits g kept Over end rounds notes outcome runs h = absurd runs

@@ -26,11 +26,11 @@ use Rattle.nm_kswap.specs.declared.stage.Visit.{Visit}
 use Rattle.nm_kswap.specs.declared.stage.Stage.{Stage}
 use Rattle.nm_kswap.specs.declared.stage.Stage.TheVariants.{New, Asking, Counting, Inspecting, Demoting, Over}
 use Rattle.nm_kswap.specs.declared.reclaiming.Reclaiming.{Reclaiming}
-use Rattle.nm_kswap.specs.Works.{ReclaimerPiece, WorkMade, WorkEnd, work_made, MayWork, IsWork, WorkLeaves, made_ask, made_level, made_inspect, made_demote}
-use Rattle.nm_kswap.specs.Ends.{nothing_drawn, level_in, inspected_in, demoted_in, drawn_in, freed_by, work_counts}
-use Rattle.nm_kswap.specs.Reclaiming.{Sequence, fresh_kept, IsReclaiming, hand_of, moved, with_drawn, marks_of, has_any, has_vpage, Does}
+use Rattle.nm_kswap.specs.Works.{ReclaimerPiece, ReclaimerWorkMade, ReclaimerWorkEnd, reclaimer_work_made, MayReclaimerWork, IsReclaimerWork, ReclaimerWorkLeaves, made_asking, made_level, made_inspect, made_demote}
+use Rattle.nm_kswap.specs.Ends.{nothing_drawn, level_in, inspected_in, demoted_in, spent_in, frames_freed, reclaimer_counts}
+use Rattle.nm_kswap.specs.Reclaiming.{Sequence, kept_at_first, IsReclaiming, hand_of, hand_moved, with_drawn, marks_of, has_any, has_vpage, Does}
 use Rattle.nm_kswap.specs.Stages.{task_at, Going, to_stage, tier_stage, to_visit, to_demote, going_on, words_after, StageOn, StageLeft, TaskLeft}
-use Rattle.nm_kswap.specs.Knowing.{IsResting, AreHands, IsVisit, IsStageOf, IsRunning, HasWords, IsEndAt, IsAble, IsNewReclaiming, KnowsReclaiming, ReclaimingLeft, IsNewTask, GivesTask}
+use Rattle.nm_kswap.specs.Knowing.{IsResting, AreHands, IsVisit, IsStageOf, RunsWork, HasWords, IsEndAt, IsAble, IsNewReclaiming, KnowsReclaiming, ReclaimingLeft, IsNewTask, GivesTask}
 use Rattle.nm_kswap.proofs.Lists.{left-can}
 use Rattle.nm_kswap.proofs.Fitting.{going-fits}
 use Rattle.nm_kswap.proofs.Resting.{IsOverIn, may-ask, may-level, may-inspect, may-demote, over-kind, over-runs, going-rests}
@@ -38,31 +38,31 @@ use Rattle.nm_kswap.proofs.Resting.{IsOverIn, may-ask, may-level, may-inspect, m
 -- The task of a stage.
 
 -- by the data of the pieces alone
-abbrev pub NextIn : (View → Task WorkMade → Type 0) → (Ended WorkEnd → Sequence) → Sequence → Geometry → View → Task WorkMade → Type 0
-NextIn knows left was g now (Run work) = MayWork work g now × IsTaskRun (knows now (Run work)) (IsTask IsWork work_counts g (Run work)) left was
+abbrev pub NextIn : (View → Task ReclaimerWorkMade → Type 0) → (Ended ReclaimerWorkEnd → Sequence) → Sequence → Geometry → View → Task ReclaimerWorkMade → Type 0
+NextIn knows left was g now (Run work) = MayReclaimerWork work g now × IsTaskRun (knows now (Run work)) (IsTask IsReclaimerWork reclaimer_counts g (Run work)) left was
 NextIn knows left was g now Stop = IsStop (knows now Stop) was
 NextIn knows left was g now task = ⊥
 
-by-data : (is_new : ReclaimerPiece → Type 0) (knows : View → Task WorkMade → Type 0) (left : Ended WorkEnd → Sequence) (was : Sequence) (g : Geometry) (now : View) (task : Task ReclaimerPiece)
-    → IsNewTask is_new task → NextIn knows left was g now (task_data work_made task) → IsNextTask work_made is_new MayWork IsWork work_counts knows left was g now task
+by-data : (is_new : ReclaimerPiece → Type 0) (knows : View → Task ReclaimerWorkMade → Type 0) (left : Ended ReclaimerWorkEnd → Sequence) (was : Sequence) (g : Geometry) (now : View) (task : Task ReclaimerPiece)
+    → IsNewTask is_new task → NextIn knows left was g now (task_data reclaimer_work_made task) → IsNextTask reclaimer_work_made is_new MayReclaimerWork IsReclaimerWork reclaimer_counts knows left was g now task
 by-data is_new knows left was g now (Run piece) fresh h = record { is_new = fresh; may_begin = h.0; run = h.1 }
 by-data is_new knows left was g now (Put lane page) fresh h = absurd h
 by-data is_new knows left was g now (Take lane) fresh h = absurd h
 by-data is_new knows left was g now Stop fresh h = h
 
 -- the number of rounds is told by what comes after a piece
-does-some : (g : Geometry) (work : WorkMade) (after : WorkEnd → ℕ → Sequence) (notes : Notes) (outcome : Unit {0})
+does-some : (g : Geometry) (work : ReclaimerWorkMade) (after : ReclaimerWorkEnd → ℕ → Sequence) (notes : Notes) (outcome : Unit {0})
     → Does g work (λ end. Sometimes (after end)) notes outcome → Sometimes (λ rounds. Does g work (λ end. after end rounds)) notes outcome
 does-some g work after notes outcome h = record { tries = h.rest.tries; is = record { end = h.end; front = h.front; back = h.back; shown = h.shown; rest = h.rest.is; is = h.is } }
 
-task-can : (g : Geometry) (kept : Kept) (stage : Stage) (work : WorkMade) (notes : Notes) (end : Ended WorkEnd) → IsStageOf g stage → IsRunning stage → IsTask IsWork work_counts g (Run work) notes end → CanEnd (TaskLeft g kept stage end)
+task-can : (g : Geometry) (kept : Kept) (stage : Stage) (work : ReclaimerWorkMade) (notes : Notes) (end : Ended ReclaimerWorkEnd) → IsStageOf g stage → RunsWork stage → IsTask IsReclaimerWork reclaimer_counts g (Run work) notes end → CanEnd (TaskLeft g kept stage end)
 task-can g kept stage work notes (ended.Run end) there runs done = left-can g kept stage end there runs
 task-can g kept stage work notes (ended.Put full) there runs done = absurd done
 task-can g kept stage work notes (ended.Take page) there runs done = absurd done
 
 -- the piece of a stage runs
-runs-piece : (g : Geometry) (kept : Kept) (stage : Stage) (work : WorkMade) (now : View) (knows : View → Task WorkMade → Type 0) (was : Sequence)
-    → knows now (Run work) → IsStageOf g stage → IsRunning stage → MayWork work g now
+runs-piece : (g : Geometry) (kept : Kept) (stage : Stage) (work : ReclaimerWorkMade) (now : View) (knows : View → Task ReclaimerWorkMade → Type 0) (was : Sequence)
+    → knows now (Run work) → IsStageOf g stage → RunsWork stage → MayReclaimerWork work g now
     → ((notes : Notes) (outcome : Unit {0}) → Sometimes (λ rounds. Does g work (λ end. StageLeft g kept stage end rounds)) notes outcome → was notes outcome)
     → NextIn knows (TaskLeft g kept stage) was g now (Run work)
 runs-piece g kept stage work now knows was known there runs may fits = (
@@ -70,17 +70,17 @@ runs-piece g kept stage work now knows was known there runs may fits = (
   record {
     known = known;
     can = λ notes end done. task-can g kept stage work notes end there runs done;
-    fits = λ notes outcome f. fits notes outcome (does-some g work (StageLeft g kept stage) notes outcome (run-follows IsWork work_counts g work (TaskLeft g kept stage) notes outcome f));
+    fits = λ notes outcome f. fits notes outcome (does-some g work (StageLeft g kept stage) notes outcome (run-follows IsReclaimerWork reclaimer_counts g work (TaskLeft g kept stage) notes outcome f));
   },
 )
 
-next-at : (g : Geometry) (kept : Kept) (stage : Stage) (now : View) (knows : View → Task WorkMade → Type 0) (was : Sequence)
+next-at : (g : Geometry) (kept : Kept) (stage : Stage) (now : View) (knows : View → Task ReclaimerWorkMade → Type 0) (was : Sequence)
     → knows now (task_at g kept stage) → IsStageOf g stage → IsResting g kept.spent now
     → ((notes : Notes) (outcome : Unit {0}) → Sometimes (StageOn g kept stage) notes outcome → was notes outcome)
     → NextIn knows (TaskLeft g kept stage) was g now (task_at g kept stage)
 next-at g kept New now knows was known there rests fits = absurd there
 next-at g kept Asking now knows was known there rests fits =
-    runs-piece g kept Asking (made_ask g) now knows was known tt tt (may-ask g kept.spent now rests) (λ notes outcome s. fits notes outcome (record { tries = suc s.tries; is = s.is }))
+    runs-piece g kept Asking (made_asking g) now knows was known tt tt (may-ask g kept.spent now rests) (λ notes outcome s. fits notes outcome (record { tries = suc s.tries; is = s.is }))
 next-at g kept (Counting last tier) now knows was known there rests fits =
     runs-piece g kept (Counting last tier) (made_level g tier) now knows was known there tt (may-level g tier kept.spent now (omega (arith, there)) rests) fits
 next-at g kept (Inspecting visit) now knows was known there rests fits =
@@ -92,12 +92,12 @@ next-at g kept Over now knows was known there rests fits = record { known = know
 -- the task that the routine gives at its stage comes next
 pub gives-task : (is_new : ReclaimerPiece → Type 0) (r : Reclaiming) (g : Geometry) (kept : Kept) (stage : Stage) (task : Task ReclaimerPiece) (now : View) (was : Sequence)
     → r.geometry.now ≡ g → r.kept ≡ kept → r.stage ≡ stage → AreHands g kept.hands → IsStageOf g stage → HasWords stage r.taken
-    → task_data work_made task ≡ task_at g kept stage → IsNewTask is_new task → IsResting g kept.spent now
+    → task_data reclaimer_work_made task ≡ task_at g kept stage → IsNewTask is_new task → IsResting g kept.spent now
     → ((notes : Notes) (outcome : Unit {0}) → Sometimes (StageOn g kept stage) notes outcome → was notes outcome)
-    → IsNextTask work_made is_new MayWork IsWork work_counts (KnowsReclaiming r) (ReclaimingLeft r) was g now task
+    → IsNextTask reclaimer_work_made is_new MayReclaimerWork IsReclaimerWork reclaimer_counts (KnowsReclaiming r) (ReclaimingLeft r) was g now task
 gives-task is_new r g kept stage task now was geometry-is kept-is stage-is hands there words told fresh rests fits =
-    let L : Geometry → Kept → Stage → Type 0 = λ h k s. NextIn (KnowsReclaiming r) (TaskLeft h k s) was g now (task_data work_made task) in
-    let D : Task WorkMade → Type 0 = λ t. NextIn (KnowsReclaiming r) (TaskLeft g kept stage) was g now t in
+    let L : Geometry → Kept → Stage → Type 0 = λ h k s. NextIn (KnowsReclaiming r) (TaskLeft h k s) was g now (task_data reclaimer_work_made task) in
+    let D : Task ReclaimerWorkMade → Type 0 = λ t. NextIn (KnowsReclaiming r) (TaskLeft g kept stage) was g now t in
     let able : IsAble r = record {
       hands = subst (λ (h : Geometry). AreHands h r.kept.hands) (sym geometry-is) (subst (λ (k : Kept). AreHands g k.hands) (sym kept-is) hands);
       stage = subst (λ (h : Geometry). IsStageOf h r.stage) (sym geometry-is) (subst (λ (s : Stage). IsStageOf g s) (sym stage-is) there);
@@ -113,19 +113,19 @@ gives-task is_new r g kept stage task now was geometry-is kept-is stage-is hands
 
 -- A task is over.
 
-over-data : (ends : ReclaimerPiece → Geometry → Own → WorkEnd → Type 0) (g : Geometry) (now later : View) (task : Task ReclaimerPiece) (end : WorkEnd)
-    → IsTaskOver work_made IsWork WorkLeaves ends g now later task (ended.Run end) → IsOverIn (task_data work_made task) g now later end
+over-data : (ends : ReclaimerPiece → Geometry → Own → ReclaimerWorkEnd → Type 0) (g : Geometry) (now later : View) (task : Task ReclaimerPiece) (end : ReclaimerWorkEnd)
+    → IsTaskOver reclaimer_work_made IsReclaimerWork ReclaimerWorkLeaves ends g now later task (ended.Run end) → IsOverIn (task_data reclaimer_work_made task) g now later end
 over-data ends g now later (Run piece) end h = record { own = h.own; shown = h.shown; left = h.left }
 over-data ends g now later (Put lane page) end h = absurd h
 over-data ends g now later (Take lane) end h = absurd h
 over-data ends g now later Stop end h = absurd h
 
 -- the piece of the stage is over
-pub over-at : (ends : ReclaimerPiece → Geometry → Own → WorkEnd → Type 0) (r : Reclaiming) (now later : View) (task : Task ReclaimerPiece) (end : WorkEnd)
-    → KnowsReclaiming r now (task_data work_made task) → IsTaskOver work_made IsWork WorkLeaves ends r.geometry.now now later task (ended.Run end)
+pub over-at : (ends : ReclaimerPiece → Geometry → Own → ReclaimerWorkEnd → Type 0) (r : Reclaiming) (now later : View) (task : Task ReclaimerPiece) (end : ReclaimerWorkEnd)
+    → KnowsReclaiming r now (task_data reclaimer_work_made task) → IsTaskOver reclaimer_work_made IsReclaimerWork ReclaimerWorkLeaves ends r.geometry.now now later task (ended.Run end)
     → IsOverIn (task_at r.geometry.now r.kept r.stage) r.geometry.now now later end
 over-at ends r now later task end known over =
-    let D : Task WorkMade → Type 0 = λ t. IsOverIn t r.geometry.now now later end in
+    let D : Task ReclaimerWorkMade → Type 0 = λ t. IsOverIn t r.geometry.now now later end in
     subst D known.is (over-data ends r.geometry.now now later task end over)
 
 abbrev IsNotLane : Task ReclaimerPiece → Type 0
@@ -134,12 +134,12 @@ IsNotLane (Put lane page) = ⊥
 IsNotLane (Take lane) = ⊥
 IsNotLane Stop = Unit {0}
 
-abbrev pub IsRunEnd : Ended WorkEnd → Type 0
+abbrev pub IsRunEnd : Ended ReclaimerWorkEnd → Type 0
 IsRunEnd (ended.Run end) = Unit {0}
 IsRunEnd (ended.Put full) = ⊥
 IsRunEnd (ended.Take page) = ⊥
 
-no-put : (g : Geometry) (kept : Kept) (stage : Stage) (task : Task ReclaimerPiece) → task_data work_made task ≡ task_at g kept stage → IsNotLane task
+no-put : (g : Geometry) (kept : Kept) (stage : Stage) (task : Task ReclaimerPiece) → task_data reclaimer_work_made task ≡ task_at g kept stage → IsNotLane task
 no-put g kept stage (Run piece) is = tt
 no-put g kept stage Stop is = tt
 no-put g kept New (Put lane page) is = cc
@@ -156,8 +156,8 @@ no-put g kept (Demoting visit) (Take lane) is = cc
 no-put g kept Over (Take lane) is = cc
 
 -- it ended as a piece of work ends
-ends-run : (ends : ReclaimerPiece → Geometry → Own → WorkEnd → Type 0) (g : Geometry) (now later : View) (task : Task ReclaimerPiece) (end : Ended WorkEnd) → IsNotLane task
-    → IsTaskOver work_made IsWork WorkLeaves ends g now later task end → IsRunEnd end
+ends-run : (ends : ReclaimerPiece → Geometry → Own → ReclaimerWorkEnd → Type 0) (g : Geometry) (now later : View) (task : Task ReclaimerPiece) (end : Ended ReclaimerWorkEnd) → IsNotLane task
+    → IsTaskOver reclaimer_work_made IsReclaimerWork ReclaimerWorkLeaves ends g now later task end → IsRunEnd end
 ends-run ends g now later task (ended.Run end) piece h = tt
 ends-run ends g now later (Run p) (ended.Put full) piece h = absurd h
 ends-run ends g now later (Put lane page) (ended.Put full) piece h = absurd piece
@@ -168,13 +168,13 @@ ends-run ends g now later (Put lane b) (ended.Take page) piece h = absurd h
 ends-run ends g now later (Take lane) (ended.Take page) piece h = absurd piece
 ends-run ends g now later Stop (ended.Take page) piece h = absurd h
 
-pub runs-over : (ends : ReclaimerPiece → Geometry → Own → WorkEnd → Type 0) (r : Reclaiming) (now later : View) (task : Task ReclaimerPiece) (end : Ended WorkEnd)
-    → KnowsReclaiming r now (task_data work_made task) → IsTaskOver work_made IsWork WorkLeaves ends r.geometry.now now later task end → IsRunEnd end
+pub runs-over : (ends : ReclaimerPiece → Geometry → Own → ReclaimerWorkEnd → Type 0) (r : Reclaiming) (now later : View) (task : Task ReclaimerPiece) (end : Ended ReclaimerWorkEnd)
+    → KnowsReclaiming r now (task_data reclaimer_work_made task) → IsTaskOver reclaimer_work_made IsReclaimerWork ReclaimerWorkLeaves ends r.geometry.now now later task end → IsRunEnd end
 runs-over ends r now later task end known over = ends-run ends r.geometry.now now later task end (no-put r.geometry.now r.kept r.stage task known.is) over
 
 -- What may come next.
 
-pub moved-hands : (g : Geometry) (tier : ℕ) (kept : Kept) → IsGeometry g → AreHands g kept.hands → AreHands g (moved g tier kept).hands
+pub moved-hands : (g : Geometry) (tier : ℕ) (kept : Kept) → IsGeometry g → AreHands g kept.hands → AreHands g (hand_moved g tier kept).hands
 moved-hands g tier kept fine hands =
     let some : 1 ≤ page_count g = fine.ranges.3.1 in
     record {
@@ -200,8 +200,8 @@ pub record IsGoing (g : Geometry) (going : Going) : Type 0 where
   pub stage : IsStageOf g going.stage
 
 visit-by : (g : Geometry) (last : Bool) (tier level left : ℕ) (kept : Kept) (below some : Bool) → IsGeometry g → tier + 1 < length g.tiers → AreHands g kept.hands
-    → nat_lt level (marks_of g tier).high ≡ below → has_vpage g (hand_of tier kept) ≡ some → IsGoing g (to_visit g last tier level left (moved g tier kept))
-    → IsGoing g (if below then (if some then to_stage (Inspecting (record { last = last; tier = tier; level = level; page = hand_of tier kept; left = left })) (moved g tier kept) else to_visit g last tier level left (moved g tier kept)) else to_stage (tier_stage g last (tier + 1)) kept)
+    → nat_lt level (marks_of g tier).high ≡ below → has_vpage g (hand_of tier kept) ≡ some → IsGoing g (to_visit g last tier level left (hand_moved g tier kept))
+    → IsGoing g (if below then (if some then to_stage (Inspecting (record { last = last; tier = tier; level = level; page = hand_of tier kept; left = left })) (hand_moved g tier kept) else to_visit g last tier level left (hand_moved g tier kept)) else to_stage (tier_stage g last (tier + 1)) kept)
 visit-by g last tier level left kept true true fine there hands low some later =
     let few = fine.ranges.1.1 in
     record {
@@ -220,7 +220,7 @@ pub visit-going : (g : Geometry) (last : Bool) (tier level left : ℕ) (kept : K
 visit-going g last tier level zero kept fine there hands = record { hands = hands; stage = tier-there g last (tier + 1) }
 visit-going g last tier level (suc left) kept fine there hands =
     visit-by g last tier level left kept (nat_lt level (marks_of g tier).high) (has_vpage g (hand_of tier kept)) fine there hands refl refl
-    (visit-going g last tier level left (moved g tier kept) fine there (moved-hands g tier kept fine hands))
+    (visit-going g last tier level left (hand_moved g tier kept) fine there (moved-hands g tier kept fine hands))
 
 level-going : (g : Geometry) (last : Bool) (tier level : ℕ) (kept : Kept) (low : Bool) → IsGeometry g → tier + 1 < length g.tiers → AreHands g kept.hands
     → IsGoing g (if low then to_visit g last tier level (page_count g) kept else to_stage (tier_stage g last (tier + 1)) kept)
@@ -232,16 +232,16 @@ found-going g visit kept inspected.Elsewhere fine there hands = visit-going g vi
 found-going g visit kept inspected.InUse fine there hands = visit-going g visit.last visit.tier visit.level visit.left kept fine there.tier hands
 found-going g visit kept inspected.Idle fine there hands = record { hands = hands; stage = there }
 
-pub going-there : (g : Geometry) (kept : Kept) (stage : Stage) (end : WorkEnd) → IsGeometry g → IsStageOf g stage → IsRunning stage → AreHands g kept.hands → IsGoing g (going_on g kept stage end)
+pub going-there : (g : Geometry) (kept : Kept) (stage : Stage) (end : ReclaimerWorkEnd) → IsGeometry g → IsStageOf g stage → RunsWork stage → AreHands g kept.hands → IsGoing g (going_on g kept stage end)
 going-there g kept New end fine there runs hands = absurd runs
 going-there g kept Asking end fine there runs hands = record { hands = hands; stage = tier-there g _ 0 }
 going-there g kept (Counting last tier) end fine there runs hands = level-going g last tier (level_in end) kept (nat_le (level_in end) (marks_of g tier).low) fine there hands
 going-there g kept (Inspecting visit) end fine there runs hands = found-going g visit kept (inspected_in end) fine there hands
-going-there g kept (Demoting visit) end fine there runs hands = visit-going g visit.last visit.tier (visit.level + freed_by (demoted_in end)) visit.left (with_drawn (drawn_in end) kept) fine there.tier hands
+going-there g kept (Demoting visit) end fine there runs hands = visit-going g visit.last visit.tier (visit.level + frames_freed (demoted_in end)) visit.left (with_drawn (spent_in end) kept) fine there.tier hands
 going-there g kept Over end fine there runs hands = absurd runs
 
 -- the list for taken words is there after a piece
-pub going-words : (stage : Stage) (end : WorkEnd) (taken : Option (List (ℕ × ℕ))) → IsEndAt stage end → HasWords stage taken → HoldsWords (words_after stage end taken)
+pub going-words : (stage : Stage) (end : ReclaimerWorkEnd) (taken : Option (List (ℕ × ℕ))) → IsEndAt stage end → HasWords stage taken → HoldsWords (words_after stage end taken)
 going-words New end taken kind words = absurd kind
 going-words Asking end taken kind words = words
 going-words (Counting last tier) end taken kind words = words
@@ -254,7 +254,7 @@ going-words Over end taken kind words = absurd kind
 
 -- The steps of the routine.
 
-fresh-hands : (g : Geometry) → IsGeometry g → AreHands g fresh_kept.hands
+fresh-hands : (g : Geometry) → IsGeometry g → AreHands g kept_at_first.hands
 fresh-hands g fine =
     let some : 1 ≤ page_count g = fine.ranges.3.1 in
     let at : IsPage g 0 = omega (arith, some) in
@@ -266,54 +266,54 @@ opening-rests g number fine = record { geometry = fine; empty = record { ops = r
 -- the first task
 pub first-task : (is_new : ReclaimerPiece → Type 0) (old new : Reclaiming) (result : Task ReclaimerPiece) (number : ℕ)
     → IsNewReclaiming old → new.geometry.now ≡ old.geometry.now → new.kept ≡ old.kept → new.stage ≡ Asking → HasWords Asking new.taken
-    → task_data work_made result ≡ task_at old.geometry.now old.kept Asking → IsNewTask is_new result
+    → task_data reclaimer_work_made result ≡ task_at old.geometry.now old.kept Asking → IsNewTask is_new result
     → GivesTask is_new new result (IsReclaiming old.geometry.now) old.geometry.now (opening old.geometry.now number)
 first-task is_new old new result number fresh geometry kept stage words told made =
-    gives-task is_new new old.geometry.now fresh_kept Asking result (opening old.geometry.now number) (IsReclaiming old.geometry.now) geometry (kept ∙ fresh.fresh) stage
+    gives-task is_new new old.geometry.now kept_at_first Asking result (opening old.geometry.now number) (IsReclaiming old.geometry.now) geometry (kept ∙ fresh.fresh) stage
     (fresh-hands old.geometry.now fresh.geometry) tt words told made (opening-rests old.geometry.now number fresh.geometry) (λ notes outcome s. s)
 
 -- the task after one that is over
-pub next-task : (is_new : ReclaimerPiece → Type 0) (ends : ReclaimerPiece → Geometry → Own → WorkEnd → Type 0) (old mid new : Reclaiming) (stage : Stage) (task result : Task ReclaimerPiece) (given : Ended WorkEnd) (end : WorkEnd) (now later : View)
+pub next-task : (is_new : ReclaimerPiece → Type 0) (ends : ReclaimerPiece → Geometry → Own → ReclaimerWorkEnd → Type 0) (old mid new : Reclaiming) (stage : Stage) (task result : Task ReclaimerPiece) (given : Ended ReclaimerWorkEnd) (end : ReclaimerWorkEnd) (now later : View)
     → given ≡ ended.Run end
     → stage ≡ (going_on old.geometry.now old.kept old.stage end).stage → mid.kept ≡ (going_on old.geometry.now old.kept old.stage end).kept → mid.geometry.now ≡ old.geometry.now
     → new.geometry.now ≡ mid.geometry.now → new.kept ≡ mid.kept → new.stage ≡ stage → HasWords stage new.taken
-    → task_data work_made result ≡ task_at mid.geometry.now mid.kept stage → IsNewTask is_new result
-    → KnowsReclaiming old now (task_data work_made task) → IsTaskOver work_made IsWork WorkLeaves ends old.geometry.now now later task given
+    → task_data reclaimer_work_made result ≡ task_at mid.geometry.now mid.kept stage → IsNewTask is_new result
+    → KnowsReclaiming old now (task_data reclaimer_work_made task) → IsTaskOver reclaimer_work_made IsReclaimerWork ReclaimerWorkLeaves ends old.geometry.now now later task given
     → GivesTask is_new new result (ReclaimingLeft old given) old.geometry.now later
 next-task is_new ends old mid new stage task result given end now later so stage-is kept-is mid-is new-is same at words told made known over =
     let g : Geometry = old.geometry.now in
     let going : Going = going_on g old.kept old.stage end in
-    let O : Ended WorkEnd → Type 0 = λ e. IsTaskOver work_made IsWork WorkLeaves ends g now later task e in
+    let O : Ended ReclaimerWorkEnd → Type 0 = λ e. IsTaskOver reclaimer_work_made IsReclaimerWork ReclaimerWorkLeaves ends g now later task e in
     let piece = over-at ends old now later task end known (subst O so over) in
-    let runs : IsRunning old.stage = over-runs g old.kept old.stage now later end piece in
+    let runs : RunsWork old.stage = over-runs g old.kept old.stage now later end piece in
     let there : IsGoing g going = going-there g old.kept old.stage end known.resting.geometry known.able.stage runs known.able.hands in
     let W : Stage → Type 0 = λ s. HasWords s new.taken in
     let task-is : task_at mid.geometry.now mid.kept stage ≡ task_at g going.kept going.stage = λ i. task_at (mid-is i) (kept-is i) (stage-is i) in
-    let G : Ended WorkEnd → Type 0 = λ e. GivesTask is_new new result (ReclaimingLeft old e) g later in
+    let G : Ended ReclaimerWorkEnd → Type 0 = λ e. GivesTask is_new new result (ReclaimingLeft old e) g later in
     subst G (sym so) (gives-task is_new new g going.kept going.stage result later (ReclaimingLeft old (ended.Run end)) (new-is ∙ mid-is) (same ∙ kept-is) (at ∙ stage-is)
     there.hands there.stage (subst W stage-is words) (told ∙ task-is) made (going-rests g old.kept old.stage now later end piece known.resting)
     (λ notes outcome s. record { tries = s.tries; is = going-fits g old.kept old.stage end s.tries notes outcome runs s.is }))
 
 -- a task is over: what the routine may do then
 
-pub over-able : (ends : ReclaimerPiece → Geometry → Own → WorkEnd → Type 0) (old : Reclaiming) (task : Task ReclaimerPiece) (given : Ended WorkEnd) (end : WorkEnd) (now later : View) → given ≡ ended.Run end
-    → KnowsReclaiming old now (task_data work_made task) → IsTaskOver work_made IsWork WorkLeaves ends old.geometry.now now later task given → IsEndAt old.stage end
+pub over-able : (ends : ReclaimerPiece → Geometry → Own → ReclaimerWorkEnd → Type 0) (old : Reclaiming) (task : Task ReclaimerPiece) (given : Ended ReclaimerWorkEnd) (end : ReclaimerWorkEnd) (now later : View) → given ≡ ended.Run end
+    → KnowsReclaiming old now (task_data reclaimer_work_made task) → IsTaskOver reclaimer_work_made IsReclaimerWork ReclaimerWorkLeaves ends old.geometry.now now later task given → IsEndAt old.stage end
 over-able ends old task given end now later so known over =
-    let O : Ended WorkEnd → Type 0 = λ e. IsTaskOver work_made IsWork WorkLeaves ends old.geometry.now now later task e in
+    let O : Ended ReclaimerWorkEnd → Type 0 = λ e. IsTaskOver reclaimer_work_made IsReclaimerWork ReclaimerWorkLeaves ends old.geometry.now now later task e in
     over-kind old.geometry.now old.kept old.stage now later end (over-at ends old now later task end known (subst O so over))
 
-pub over-stage : (ends : ReclaimerPiece → Geometry → Own → WorkEnd → Type 0) (old mid : Reclaiming) (stage : Stage) (task : Task ReclaimerPiece) (given : Ended WorkEnd) (end : WorkEnd) (now later : View) → given ≡ ended.Run end
+pub over-stage : (ends : ReclaimerPiece → Geometry → Own → ReclaimerWorkEnd → Type 0) (old mid : Reclaiming) (stage : Stage) (task : Task ReclaimerPiece) (given : Ended ReclaimerWorkEnd) (end : ReclaimerWorkEnd) (now later : View) → given ≡ ended.Run end
     → stage ≡ (going_on old.geometry.now old.kept old.stage end).stage → mid.geometry.now ≡ old.geometry.now
-    → KnowsReclaiming old now (task_data work_made task) → IsTaskOver work_made IsWork WorkLeaves ends old.geometry.now now later task given → IsStageOf mid.geometry.now stage
+    → KnowsReclaiming old now (task_data reclaimer_work_made task) → IsTaskOver reclaimer_work_made IsReclaimerWork ReclaimerWorkLeaves ends old.geometry.now now later task given → IsStageOf mid.geometry.now stage
 over-stage ends old mid stage task given end now later so stage-is mid-is known over =
     let g : Geometry = old.geometry.now in
-    let O : Ended WorkEnd → Type 0 = λ e. IsTaskOver work_made IsWork WorkLeaves ends g now later task e in
+    let O : Ended ReclaimerWorkEnd → Type 0 = λ e. IsTaskOver reclaimer_work_made IsReclaimerWork ReclaimerWorkLeaves ends g now later task e in
     let piece = over-at ends old now later task end known (subst O so over) in
     let there = going-there g old.kept old.stage end known.resting.geometry known.able.stage (over-runs g old.kept old.stage now later end piece) known.able.hands in
     subst (λ (h : Geometry). IsStageOf h stage) (sym mid-is) (subst (IsStageOf g) (sym stage-is) there.stage)
 
-pub over-words : (ends : ReclaimerPiece → Geometry → Own → WorkEnd → Type 0) (old : Reclaiming) (taken : Option (List (ℕ × ℕ))) (task : Task ReclaimerPiece) (given : Ended WorkEnd) (end : WorkEnd) (now later : View) → given ≡ ended.Run end
+pub over-words : (ends : ReclaimerPiece → Geometry → Own → ReclaimerWorkEnd → Type 0) (old : Reclaiming) (taken : Option (List (ℕ × ℕ))) (task : Task ReclaimerPiece) (given : Ended ReclaimerWorkEnd) (end : ReclaimerWorkEnd) (now later : View) → given ≡ ended.Run end
     → taken ≡ words_after old.stage end old.taken
-    → KnowsReclaiming old now (task_data work_made task) → IsTaskOver work_made IsWork WorkLeaves ends old.geometry.now now later task given → HoldsWords taken
+    → KnowsReclaiming old now (task_data reclaimer_work_made task) → IsTaskOver reclaimer_work_made IsReclaimerWork ReclaimerWorkLeaves ends old.geometry.now now later task given → HoldsWords taken
 over-words ends old taken task given end now later so is known over =
     subst HoldsWords (sym is) (going-words old.stage end old.taken (over-able ends old task given end now later so known over) known.able.words)

@@ -5,7 +5,7 @@ use Rattle.nm_base.specs.Geometry.{Geometry, IsGeometry, page_count}
 use Rattle.nm_base.specs.Ranges.{IsPage}
 use Rattle.nm_kswap.specs.declared.stage.Kept.{Kept}
 use Rattle.nm_kswap.specs.declared.stage.Stage.TheVariants.{Inspecting}
-use Rattle.nm_kswap.specs.Reclaiming.{hand_of, moved, marks_of, has_vpage}
+use Rattle.nm_kswap.specs.Reclaiming.{hand_of, hand_moved, marks_of, has_vpage}
 use Rattle.nm_kswap.specs.Stages.{to_stage, tier_stage, to_visit}
 use Rattle.nm_kswap.specs.Knowing.{AreHands}
 use Rattle.nm_kswap.proofs.Giving.{moved-hands}
@@ -24,14 +24,14 @@ abbrev pub put_on : Geometry → ℕ → ℕ → Kept → Kept
 put_on g tier pages kept = record { hands = slice_set kept.hands tier ((hand_of tier kept + 1) % pages); spent = kept.spent }
 
 visits-suc : (g : Geometry) (last : Bool) (tier level left : ℕ) (kept : Kept) (some : Bool) → nat_lt level (marks_of g tier).high ≡ true → has_vpage g (hand_of tier kept) ≡ some
-    → to_visit g last tier level (suc left) kept ≡ (if some then to_stage (Inspecting (record { last = last; tier = tier; level = level; page = hand_of tier kept; left = left })) (moved g tier kept) else to_visit g last tier level left (moved g tier kept))
+    → to_visit g last tier level (suc left) kept ≡ (if some then to_stage (Inspecting (record { last = last; tier = tier; level = level; page = hand_of tier kept; left = left })) (hand_moved g tier kept) else to_visit g last tier level left (hand_moved g tier kept))
 visits-suc g last tier level left kept some low found = rw (low, found) refl
 
 visits-next : (g : Geometry) (last : Bool) (tier level left pages : ℕ) (kept : Kept) (some : Bool) → nat_lt level (marks_of g tier).high ≡ true → has_vpage g (hand_of tier kept) ≡ some → 0 < left → pages ≡ page_count g
     → to_visit g last tier level left kept ≡ (if some then to_stage (Inspecting (record { last = last; tier = tier; level = level; page = hand_of tier kept; left = left - 1 })) (put_on g tier pages kept) else to_visit g last tier level (left - 1) (put_on g tier pages kept))
 visits-next g last tier level left pages kept some low found more is =
     let one : suc (left - 1) ≡ left = omega (arith, more) in
-    let V : ℕ → Type 0 = λ n. to_visit g last tier level n kept ≡ (if some then to_stage (Inspecting (record { last = last; tier = tier; level = level; page = hand_of tier kept; left = left - 1 })) (moved g tier kept) else to_visit g last tier level (left - 1) (moved g tier kept)) in
+    let V : ℕ → Type 0 = λ n. to_visit g last tier level n kept ≡ (if some then to_stage (Inspecting (record { last = last; tier = tier; level = level; page = hand_of tier kept; left = left - 1 })) (hand_moved g tier kept) else to_visit g last tier level (left - 1) (hand_moved g tier kept)) in
     let P : ℕ → Type 0 = λ n. to_visit g last tier level left kept ≡ (if some then to_stage (Inspecting (record { last = last; tier = tier; level = level; page = hand_of tier kept; left = left - 1 })) (put_on g tier n kept) else to_visit g last tier level (left - 1) (put_on g tier n kept)) in
     subst P (sym is) (subst V one (visits-suc g last tier level (left - 1) kept some low found))
 

@@ -17,9 +17,9 @@ use Rattle.nm_kswap.specs.declared.stage.Visit.{Visit}
 use Rattle.nm_kswap.specs.declared.stage.Stage.{Stage}
 use Rattle.nm_kswap.specs.declared.stage.Stage.TheVariants.{New, Asking, Counting, Inspecting, Demoting, Over}
 use Rattle.nm_kswap.specs.declared.reclaiming.Reclaiming.{Reclaiming}
-use Rattle.nm_kswap.specs.Works.{ReclaimerPiece, WorkMade, WorkEnd, work_made, MayWork, IsWork}
-use Rattle.nm_kswap.specs.Ends.{work_counts}
-use Rattle.nm_kswap.specs.Reclaiming.{fresh_kept, marks_of}
+use Rattle.nm_kswap.specs.Works.{ReclaimerPiece, ReclaimerWorkMade, ReclaimerWorkEnd, reclaimer_work_made, MayReclaimerWork, IsReclaimerWork}
+use Rattle.nm_kswap.specs.Ends.{reclaimer_counts}
+use Rattle.nm_kswap.specs.Reclaiming.{kept_at_first, marks_of}
 use Rattle.nm_kswap.specs.Stages.{task_at, TaskLeft}
 
 -- between its tasks the view has nothing open, and so much was drawn
@@ -49,10 +49,10 @@ IsStageOf g (Demoting visit) = IsVisit g visit
 IsStageOf g Over = Unit {0}
 
 -- a stage that runs a piece of work
-abbrev pub IsRunning : Stage → Type 0
-IsRunning New = ⊥
-IsRunning Over = ⊥
-IsRunning stage = Unit {0}
+abbrev pub RunsWork : Stage → Type 0
+RunsWork New = ⊥
+RunsWork Over = ⊥
+RunsWork stage = Unit {0}
 
 -- the list for taken words is there, where no demotion has it
 abbrev pub HasWords : Stage → Option (List (ℕ × ℕ)) → Type 0
@@ -60,7 +60,7 @@ HasWords (Demoting visit) taken = Unit {0}
 HasWords stage taken = HoldsWords taken
 
 -- the piece of a stage can end so, by the kind of the end
-abbrev pub IsEndAt : Stage → WorkEnd → Type 0
+abbrev pub IsEndAt : Stage → ReclaimerWorkEnd → Type 0
 IsEndAt Asking (This all) = Unit {0}
 IsEndAt (Counting last tier) (Other (This (pools.Level n))) = Unit {0}
 IsEndAt (Inspecting visit) (Other (Other (This found))) = Unit {0}
@@ -77,17 +77,17 @@ pub record IsAble (r : Reclaiming) : Type 0 where
 pub record IsNewReclaiming (r : Reclaiming) : Type 0 where
   pub geometry : IsGeometry r.geometry.now
   pub start : r.stage ≡ New
-  pub fresh : r.kept ≡ fresh_kept
+  pub fresh : r.kept ≡ kept_at_first
   pub words : HoldsWords r.taken
 
 -- the task that runs is that of its stage, and began in this view
-pub record KnowsReclaiming (r : Reclaiming) (now : View) (task : Task WorkMade) : Type 0 where
+pub record KnowsReclaiming (r : Reclaiming) (now : View) (task : Task ReclaimerWorkMade) : Type 0 where
   pub is : task ≡ task_at r.geometry.now r.kept r.stage
   pub able : IsAble r
   pub resting : IsResting r.geometry.now r.kept.spent now
 
 -- what is left after the task that runs
-abbrev pub ReclaimingLeft : Reclaiming → Ended WorkEnd → Notes → Unit {0} → Type 0
+abbrev pub ReclaimingLeft : Reclaiming → Ended ReclaimerWorkEnd → Notes → Unit {0} → Type 0
 ReclaimingLeft r = TaskLeft r.geometry.now r.kept r.stage
 
 -- a task that runs a piece of work runs a new one
@@ -99,4 +99,4 @@ IsNewTask is_new Stop = Unit {0}
 
 -- this task comes next, where this was left
 abbrev pub GivesTask : (ReclaimerPiece → Type 0) → Reclaiming → Task ReclaimerPiece → (Notes → Unit {0} → Type 0) → Geometry → View → Type 0
-GivesTask is_new r task was g now = IsNextTask work_made is_new MayWork IsWork work_counts (KnowsReclaiming r) (ReclaimingLeft r) was g now task
+GivesTask is_new r task was g now = IsNextTask reclaimer_work_made is_new MayReclaimerWork IsReclaimerWork reclaimer_counts (KnowsReclaiming r) (ReclaimingLeft r) was g now task

@@ -7,7 +7,8 @@ use Rattle.nm_view.specs.Views.{View}
 use Rattle.nm_actor.specs.Turns.{Turns, turns_view}
 use Rattle.nm_worker.specs.declared.worker.Worker.{Worker}
 use Rattle.nm_worker.specs.Routines.{IsLeftEmpty}
-use Rattle.nm_routine_part.specs.Parts.{is_end, IsRoutinePart}
+use Rattle.nm_actor.specs.Actors.{gave_end}
+use Rattle.nm_routine_part.specs.Parts.{IsRoutinePart}
 use Rattle.nm_kswap.specs.declared.reclaiming.Reclaiming.{Reclaiming}
 use Rattle.nm_kswap.specs.declared.actor.ReclaimerActor.{ReclaimerActor}
 use Rattle.nm_kswap.specs.Works.{ReclaimerPiece}
@@ -39,5 +40,5 @@ reclaimer_geometry a = a.worker.routine.geometry.now
 pub record AgreesReclaimer (agrees : ReclaimerWorker → Turns → Option Turn → Type 0) (counted : ReclaimerWorker → Tally) (a : ReclaimerActor) (turns : Turns) (last : Option Turn) : Type 0 where
   pub geometry : IsGeometry (reclaimer_geometry a)
   pub worker : agrees a.worker turns last
-  pub part : IsReclaimerPart (reclaimer_geometry a) turns (is_end last) (counted a.worker)
-  pub empty : IsEmptyAtEnd (is_end last) (turns_view (reclaimer_geometry a) (reclaimer_number (reclaimer_geometry a)) turns)
+  pub part : IsReclaimerPart (reclaimer_geometry a) turns (gave_end last) (counted a.worker)
+  pub empty : IsEmptyAtEnd (gave_end last) (turns_view (reclaimer_geometry a) (reclaimer_number (reclaimer_geometry a)) turns)

@@ -10,8 +10,7 @@ use Rattle.nm_compose.specs.declared.act.Act.{Act}
 use Rattle.nm_compose.specs.declared.composite.Composite.{Composite}
 use Rattle.nm_compose.specs.declared.or.Or.{Or}
 use Rattle.nm_compose.specs.declared.or.Or.TheVariants.{This, Other}
-use Rattle.nm_ended.specs.declared.ask.AskEnded.{AskEnded}
-use Rattle.nm_ended.specs.Asking.{MayAsk, IsAsking}
+use Rattle.nm_ended.specs.Asking.{AskPart, MayAsk, IsAsking}
 use Rattle.nm_prepare.specs.Placing.{IsPlanPlaced}
 use Rattle.nm_pool.specs.Pool.{IsPool}
 use Rattle.nm_pool.specs.Given.{pool_made, MayBegin, Leaves}
@@ -38,9 +37,6 @@ use Rattle.nm_drawing.specs.Draws.{MayDraw, IsDrawingList, IsDrawnLeft}
 
 -- The pieces.
 
-abbrev pub AskPart : Type 0
-AskPart = Composite AskEnded Act
-
 abbrev pub DemotePart : Type 0
 DemotePart = Drawing DemoteWork
 
@@ -54,47 +50,47 @@ ReclaimerPiece = Or AskPart (Or PoolTask (Or InspectTask DemotePart))
 
 -- What they are made with; a demotion also with what was drawn before it.
 
-abbrev pub DemoteData : Type 0
-DemoteData = (Geometry × DemoteMade) × Spent
+abbrev pub DemoteWorkData : Type 0
+DemoteWorkData = (Geometry × DemoteMade) × Spent
 
-abbrev pub WorkMade : Type 0
-WorkMade = Or ℕ (Or PoolMade (Or InspectData DemoteData))
+abbrev pub ReclaimerWorkMade : Type 0
+ReclaimerWorkMade = Or ℕ (Or PoolMade (Or InspectData DemoteWorkData))
 
-abbrev pub work_made : ReclaimerPiece → WorkMade
-work_made = or_made (λ c. c.plan.cpus) (or_made made_of (or_made (λ t. inspect_data t.run.plan) (λ d. record { 0 = record { 0 = d.piece.run.plan.geometry.now; 1 = d.piece.run.plan.made }; 1 = d.begun })))
+abbrev pub reclaimer_work_made : ReclaimerPiece → ReclaimerWorkMade
+reclaimer_work_made = or_made (λ c. c.plan.cpus) (or_made made_of (or_made (λ t. inspect_data t.run.plan) (λ d. record { 0 = record { 0 = d.piece.run.plan.geometry.now; 1 = d.piece.run.plan.made }; 1 = d.begun })))
 
 -- all processors are asked, up to the first that has not ended
-abbrev pub made_ask : Geometry → WorkMade
-made_ask g = This g.cpus
+abbrev pub made_asking : Geometry → ReclaimerWorkMade
+made_asking g = This g.cpus
 
 -- the free frames of a tier are counted
-abbrev pub made_level : Geometry → ℕ → WorkMade
+abbrev pub made_level : Geometry → ℕ → ReclaimerWorkMade
 made_level g tier = Other (This (pool_made g (Level tier)))
 
 -- a page is inspected by the demotion of a tier
-abbrev pub made_inspect : Geometry → ℕ → ℕ → WorkMade
+abbrev pub made_inspect : Geometry → ℕ → ℕ → ReclaimerWorkMade
 made_inspect g page tier = Other (Other (This (record { 0 = g; 1 = record { page = page; tier = tier } })))
 
 -- a page is demoted, where so much was drawn
-abbrev pub made_demote : Geometry → ℕ → Spent → WorkMade
+abbrev pub made_demote : Geometry → ℕ → Spent → ReclaimerWorkMade
 made_demote g page spent = Other (Other (Other (record { 0 = record { 0 = g; 1 = record { page = page; spent = spent } }; 1 = spent })))
 
 -- How they end.
 
-abbrev pub WorkEnd : Type 0
-WorkEnd = Or Bool (Or PoolEnd (Or Inspected (Drawn DemoteOver)))
+abbrev pub ReclaimerWorkEnd : Type 0
+ReclaimerWorkEnd = Or Bool (Or PoolEnd (Or Inspected (Drawn DemoteOver)))
 
 -- a piece may begin
-abbrev pub MayWork : WorkMade → Geometry → View → Type 0
-MayWork = MayBeginOr (λ cpus g view. MayAsk cpus g view) (MayBeginOr MayBegin (MayBeginOr MayInspect
+abbrev pub MayReclaimerWork : ReclaimerWorkMade → Geometry → View → Type 0
+MayReclaimerWork = MayBeginOr (λ cpus g view. MayAsk cpus g view) (MayBeginOr MayBegin (MayBeginOr MayInspect
     (λ made g view. MayDraw (MayDemote made.0.0 made.0.1 g view) made.1 view)))
 
 -- a finished list of a piece, and the end that this shows
-abbrev pub IsWork : WorkMade → Geometry → Own → WorkEnd → Type 0
-IsWork = IsOr IsAsking (IsOr (λ made g own end. IsPool g made.job own end) (IsOr IsInspection
+abbrev pub IsReclaimerWork : ReclaimerWorkMade → Geometry → Own → ReclaimerWorkEnd → Type 0
+IsReclaimerWork = IsOr IsAsking (IsOr (λ made g own end. IsPool g made.job own end) (IsOr IsInspection
     (λ made g own told. IsDrawingList (λ over. IsDemotion made.0.1 g own over.end) made.1 own told)))
 
 -- what a piece leaves
-abbrev pub WorkLeaves : WorkMade → Geometry → View → WorkEnd → View → Type 0
-WorkLeaves = LeavesOr (λ cpus g view all left. left ≡ view) (LeavesOr (λ made g view end left. Leaves g made.job view end left) (LeavesOr (λ made g view outcome left. left ≡ view)
+abbrev pub ReclaimerWorkLeaves : ReclaimerWorkMade → Geometry → View → ReclaimerWorkEnd → View → Type 0
+ReclaimerWorkLeaves = LeavesOr (λ cpus g view all left. left ≡ view) (LeavesOr (λ made g view end left. Leaves g made.job view end left) (LeavesOr (λ made g view outcome left. left ≡ view)
     (λ made g view told left. IsDrawnLeft (λ over. IsDemoteLeft made.0.1 view over.end left) left told)))

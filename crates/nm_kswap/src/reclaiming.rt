@@ -8,8 +8,8 @@ ghost use Rattle.nm_view.specs.Views.{View};
 ghost use Rattle.nm_view.specs.Opening.{opening};
 ghost use Rattle.nm_transfer.specs.Stages.{HoldsWords};
 ghost use Rattle.nm_worker.specs.Routines.{task_data, HasTaskOver, IsTaskOver, IsDrawn};
-ghost use Rattle.nm_kswap.specs.Works.{work_made, IsWork, WorkLeaves};
-ghost use Rattle.nm_kswap.specs.Ends.{freed_by, demotion_counts, work_counts};
+ghost use Rattle.nm_kswap.specs.Works.{reclaimer_work_made, IsReclaimerWork, ReclaimerWorkLeaves};
+ghost use Rattle.nm_kswap.specs.Ends.{frames_freed, demotion_counts, reclaimer_counts};
 ghost use Rattle.nm_kswap.specs.Reclaiming.{marks_of, has_vpage, IsReclaiming};
 ghost use Rattle.nm_kswap.specs.Parts.{reclaimer_number};
 ghost use Rattle.nm_kswap.specs.Stages.{task_at, tier_stage, to_visit, going_on, words_after};
@@ -49,8 +49,8 @@ fn has_vpage(g: &Geometry, page: u32) -> bool
 }
 
 /// How many frames of its tier a demotion made free.
-fn freed_by(end: DemoteEnd) -> u32
-    ensures { result ≡ freed_by end }
+fn frames_freed(end: DemoteEnd) -> u32
+    ensures { result ≡ frames_freed end }
 {
     match end {
         DemoteEnd::Remapped | DemoteEnd::Copied => 1,
@@ -196,7 +196,7 @@ impl<'a> Reclaiming<'a> {
                 let Or::Other(told) = end else { unreachable!() };
                 self.kept.spent = told.spent;
                 let over = told.end;
-                let level = visit.level + freed_by(over.end);
+                let level = visit.level + frames_freed(over.end);
                 self.taken = Some(over.taken);
                 to_visit(g, &mut self.kept, visit.last, visit.tier, level, visit.left)
             }
@@ -211,7 +211,7 @@ impl<'a> Reclaiming<'a> {
         ensures kept { self.new.kept ≡ self.old.kept }
         ensures stage { self.new.stage ≡ stage }
         ensures words { HasWords stage self.new.taken }
-        ensures made { task_data work_made result ≡ task_at self.old.geometry.now self.old.kept stage }
+        ensures made { task_data reclaimer_work_made result ≡ task_at self.old.geometry.now self.old.kept stage }
         ensures new { IsNewTask ⟦<ReclaimerPiece<'a> as Part>⟧.is_new result }
     {
         let g = self.geometry;
@@ -235,7 +235,7 @@ impl<'a> Routine<ReclaimerPiece<'a>> for Reclaiming<'a> {
     type Made = Geometry;
 
     ghost use Rattle.std.specs.Prelude.{◌≡◌};
-    ghost use Rattle.nm_kswap.specs.Ends.{work_counts};
+    ghost use Rattle.nm_kswap.specs.Ends.{reclaimer_counts};
     ghost use Rattle.nm_kswap.specs.Reclaiming.{IsReclaiming};
     ghost use Rattle.nm_kswap.specs.Knowing.{IsNewReclaiming, KnowsReclaiming, ReclaimingLeft};
     ghost use Rattle.nm_kswap.specs.Parts.{reclaimer_number};
@@ -250,7 +250,7 @@ impl<'a> Routine<ReclaimerPiece<'a>> for Reclaiming<'a> {
 
     ghost shape = { IsReclaiming };
 
-    ghost counts = { work_counts };
+    ghost counts = { reclaimer_counts };
 
     ghost knows = { KnowsReclaiming };
 
@@ -270,10 +270,10 @@ impl<'a> Routine<ReclaimerPiece<'a>> for Reclaiming<'a> {
         end: Ended<ReclaimerEnd>,
         _spent: Spent,
     ) -> Task<ReclaimerPiece<'a>>
-        requires { HasTaskOver work_made IsWork WorkLeaves ⟦<ReclaimerPiece<'a> as Part>⟧.ended (KnowsReclaiming self.old) self.old.geometry.now _task.now end _spent }
+        requires { HasTaskOver reclaimer_work_made IsReclaimerWork ReclaimerWorkLeaves ⟦<ReclaimerPiece<'a> as Part>⟧.ended (KnowsReclaiming self.old) self.old.geometry.now _task.now end _spent }
         ensures made { self.new.geometry.now ≡ self.old.geometry.now }
-        ensures next { (now later : View) → KnowsReclaiming self.old now (task_data work_made _task.now)
-            → IsTaskOver work_made IsWork WorkLeaves ⟦<ReclaimerPiece<'a> as Part>⟧.ended self.old.geometry.now now later _task.now end → IsDrawn _spent later
+        ensures next { (now later : View) → KnowsReclaiming self.old now (task_data reclaimer_work_made _task.now)
+            → IsTaskOver reclaimer_work_made IsReclaimerWork ReclaimerWorkLeaves ⟦<ReclaimerPiece<'a> as Part>⟧.ended self.old.geometry.now now later _task.now end → IsDrawn _spent later
             → GivesTask ⟦<ReclaimerPiece<'a> as Part>⟧.is_new self.new result (ReclaimingLeft self.old end) self.old.geometry.now later }
     {
         let Ended::Run(end) = end else { unreachable!() };
@@ -282,7 +282,7 @@ impl<'a> Routine<ReclaimerPiece<'a>> for Reclaiming<'a> {
     }
 
     fn counts(end: &ReclaimerEnd) -> Tally
-        ensures { result ≡ work_counts end.now }
+        ensures { result ≡ reclaimer_counts end.now }
     {
         let Or::Other(end) = end else {
             return Tally::default();

@@ -2,22 +2,19 @@
 
 ghost use Rattle.std.specs.Prelude.{◌≡◌, ◌≢◌, ◌<◌, [], length};
 ghost use Rattle.nm_vpages.specs.VPages.{vpages_of};
-ghost use Rattle.nm_kswap.specs.Works.{work_made, made_ask, made_level, made_inspect, made_demote};
+ghost use Rattle.nm_kswap.specs.Works.{reclaimer_work_made, made_asking, made_level, made_inspect, made_demote};
 
 use crate::task::{DemoteWork, InspectTask};
 use nm_base::Geometry;
-use nm_compose::{Act, Composite, Or};
+use nm_compose::{Composite, Or};
 use nm_demote::{Demote, DemoteOver};
 use nm_drawing::{Drawing, Drawn};
-use nm_ended::AskEnded;
+use nm_ended::{AskEnded, AskPart};
 use nm_event::Spent;
 use nm_inspect::{Inspect, Inspected};
 use nm_part::Part;
 use nm_pool::{PoolEnd, PoolTask};
 use nm_transfer::TakenWords;
-
-/// The question to all processors, as a part.
-pub type AskPart = Composite<AskEnded, Act>;
 
 /// The demotion of a page, as a part that tells what it has drawn.
 pub type DemotePart<'a> = Drawing<DemoteWork<'a>>;
@@ -31,7 +28,7 @@ pub type ReclaimerEnd = Or<bool, Or<PoolEnd, Or<Inspected, Drawn<DemoteOver>>>>;
 
 /// The question to the processors of a geometry. Where it begins the view has no open operation.
 pub(crate) fn ask_work<'a>(g: &Geometry) -> ReclaimerPiece<'a>
-    ensures made { work_made result ≡ made_ask g.now }
+    ensures made { reclaimer_work_made result ≡ made_asking g.now }
     ensures new { ⟦<ReclaimerPiece<'a> as Part>⟧.is_new result }
 {
     Or::This(Composite::new(AskEnded::new(g)))
@@ -40,7 +37,7 @@ pub(crate) fn ask_work<'a>(g: &Geometry) -> ReclaimerPiece<'a>
 /// The count of a tier's free frames. Condition: the tier exists. Where it begins the view holds no turn.
 pub(crate) fn level_work<'a>(g: &Geometry, tier: u32) -> ReclaimerPiece<'a>
     requires { tier < length g.now.tiers }
-    ensures made { work_made result ≡ made_level g.now tier }
+    ensures made { reclaimer_work_made result ≡ made_level g.now tier }
     ensures new { ⟦<ReclaimerPiece<'a> as Part>⟧.is_new result }
 {
     Or::Other(Or::This(PoolTask::level(g, tier)))
@@ -50,7 +47,7 @@ pub(crate) fn level_work<'a>(g: &Geometry, tier: u32) -> ReclaimerPiece<'a>
 /// operation on the page.
 pub(crate) fn inspect_work<'a>(g: &'a Geometry, page: u32, tier: u32) -> ReclaimerPiece<'a>
     requires { vpages_of g.now page ≢ [] }
-    ensures made { work_made result ≡ made_inspect g.now page tier }
+    ensures made { reclaimer_work_made result ≡ made_inspect g.now page tier }
     ensures new { ⟦<ReclaimerPiece<'a> as Part>⟧.is_new result }
 {
     let run = Composite::new(Inspect::new(g, page, tier));
@@ -65,7 +62,7 @@ pub(crate) fn demote_work<'a>(
     spent: Spent,
     taken: TakenWords,
 ) -> ReclaimerPiece<'a>
-    ensures made { work_made result ≡ made_demote g.now page spent }
+    ensures made { reclaimer_work_made result ≡ made_demote g.now page spent }
     ensures new { ⟦<ReclaimerPiece<'a> as Part>⟧.is_new result }
 {
     let plan = Demote::new(g, page, spent, taken);

@@ -22,8 +22,8 @@ abbrev pub locked_task_made : LockedTask → LockedMade
 locked_task_made t = (t.geometry.now, t.made)
 
 -- it has no work: it was not begun yet, or its work is over
-abbrev pub IsIdle : LockedTask → Type 0
-IsIdle t = HoldsWords t.taken
+abbrev pub IsIdleMove : LockedTask → Type 0
+IsIdleMove t = HoldsWords t.taken
 
 -- In these, what the move inside tells of itself, as a part, is given: that it is new, what it was made with, what it awaits.
 

@@ -1,7 +1,7 @@
 //! The locked move as a part of an actor's work.
 
 ghost use Rattle.std.specs.Prelude.{◌≡◌, IfOk};
-ghost use Rattle.nm_locked_task.specs.Tasks.{locked_task_made, IsIdle, IsNewMove};
+ghost use Rattle.nm_locked_task.specs.Tasks.{locked_task_made, IsIdleMove, IsNewMove};
 
 use nm_base::Geometry;
 use nm_compose::Composite;
@@ -25,7 +25,7 @@ impl<'a> LockedTask<'a> {
     /// A task for locked moves of this geometry, which has no work yet. The only error is want of memory.
     pub fn new(alloc: Global, g: &'a Geometry) -> Result<LockedTask<'a>, AllocError>
         ensures geometry { IfOk result (λ t. t.geometry.now ≡ g.now) }
-        ensures idle { IfOk result IsIdle }
+        ensures idle { IfOk result IsIdleMove }
     {
         Ok(LockedTask {
             geometry: g,
@@ -43,7 +43,7 @@ impl<'a> LockedTask<'a> {
     /// work yet, or its earlier work is over. Where its first step is given the page is there, the view has no open operation
     /// and holds no turn, and `spent` is what the view has made.
     pub fn begin(&mut self, spent: Spent, page: u32, count: u32)
-        requires { IsIdle self.old }
+        requires { IsIdleMove self.old }
         ensures geometry { self.new.geometry.now ≡ self.old.geometry.now }
         ensures made { locked_task_made self.new ≡ (self.old.geometry.now, record { page = page; count = count; spent = spent }) }
         ensures new { IsNewMove ⟦<Composite<Locked<'a>, LockedPiece<'a>> as Part>⟧.is_new ⟦<Composite<Locked<'a>, LockedPiece<'a>> as Part>⟧.made (locked_task_made self.new) self.new.run }
@@ -65,7 +65,7 @@ impl<'a> Part for LockedTask<'a> {
     ghost use Rattle.nm_locked.specs.Chosen.{MayChoose};
     ghost use Rattle.nm_locked.specs.Moves.{IsLockedInMove};
     ghost use Rattle.nm_locked.specs.Leaving.{IsLockedLeft};
-    ghost use Rattle.nm_locked_task.specs.Tasks.{locked_task_made, IsIdle, IsNewMove, AwaitsMove};
+    ghost use Rattle.nm_locked_task.specs.Tasks.{locked_task_made, IsIdleMove, IsNewMove, AwaitsMove};
 
     ghost made = { locked_task_made };
 
@@ -79,7 +79,7 @@ impl<'a> Part for LockedTask<'a> {
 
     ghost awaits = { λ task. AwaitsMove ⟦<Composite<Locked<'a>, LockedPiece<'a>> as Part>⟧.awaits ⟦<Composite<Locked<'a>, LockedPiece<'a>> as Part>⟧.made (locked_task_made task) task.run };
 
-    ghost ended = { λ task g own outcome. IsIdle task };
+    ghost ended = { λ task g own outcome. IsIdleMove task };
 
     fn first(&mut self) -> Step<LockedEnd> {
         Step::Do(self.start())

@@ -8,7 +8,7 @@ use Rattle.nm_base.specs.Geometry.{Geometry}
 use Rattle.nm_view.specs.Lists.{first}
 use Rattle.nm_vpages.specs.VPages.{AreBelow}
 use Rattle.nm_looks.specs.declared.seen.Seen.{Seen}
-use Rattle.nm_looks.specs.Seeing.{is_mapped_word, is_inside, is_outside, is_hot_word, is_accessed_word, where_so, seen_with_word, seen_of}
+use Rattle.nm_looks.specs.Seeing.{is_mapped_word, is_in_tier, is_outside, is_hot_word, is_accessed_word, where_so, seen_with_word, seen_of}
 
 -- a test that holds exactly where both of two hold
 pub both-test : (r a b : Bool) → (IsTrue r ↔ (IsTrue a × IsTrue b)) → r ≡ (a && b)
@@ -51,7 +51,7 @@ seen-push g tier told v w seen is =
     ap (seen_with_word g tier v w) is
     ∙ same-seen _ _ _ _ _ _ _ _ _ _
     (where-push (λ p. is_mapped_word p.1) told v w) (where-push (λ p. is_outside g tier p.1) told v w)
-    (any-push (λ p. is_inside g tier p.1) told v w) (any-push (λ p. is_hot_word p.1) told v w) (any-push (λ p. is_accessed_word p.1) told v w)
+    (any-push (λ p. is_in_tier g tier p.1) told v w) (any-push (λ p. is_hot_word p.1) told v w) (any-push (λ p. is_accessed_word p.1) told v w)
 
 below-go : (v : ℕ) (p : ℕ × ℕ) (test : ℕ × ℕ → Bool) (t : Bool) (told : List (ℕ × ℕ)) → p.0 < v → AreBelow v (map first (filter test told)) → AreBelow v (map first (cond t (p ∷ filter test told) (filter test told)))
 below-go v p test true told low h = All-cons (λ u. u < v) p.0 (map first (filter test told)) low h

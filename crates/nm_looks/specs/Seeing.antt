@@ -23,8 +23,8 @@ abbrev pub is_mapped_word : ℕ → Bool
 is_mapped_word word = not (word == 0)
 
 -- it maps a frame of this tier, or of another
-abbrev pub is_inside : Geometry → ℕ → ℕ → Bool
-is_inside g tier word = is_mapped_word word && (tier_of g (frame_of word) == tier)
+abbrev pub is_in_tier : Geometry → ℕ → ℕ → Bool
+is_in_tier g tier word = is_mapped_word word && (tier_of g (frame_of word) == tier)
 
 abbrev pub is_outside : Geometry → ℕ → ℕ → Bool
 is_outside g tier word = is_mapped_word word && not (tier_of g (frame_of word) == tier)
@@ -52,7 +52,7 @@ abbrev pub seen_with_word : Geometry → ℕ → ℕ → ℕ → Seen → Seen
 seen_with_word g tier v word seen = record {
   mapped = where_so (is_mapped_word word) v seen.mapped;
   outside = where_so (is_outside g tier word) v seen.outside;
-  inside = seen.inside || is_inside g tier word;
+  inside = seen.inside || is_in_tier g tier word;
   hot = seen.hot || is_hot_word word;
   accessed = seen.accessed || is_accessed_word word;
 }
@@ -67,7 +67,7 @@ abbrev pub seen_of : Geometry → ℕ → List (ℕ × ℕ) → Seen
 seen_of g tier told = record {
   mapped = map first (filter (λ p. is_mapped_word p.1) told);
   outside = map first (filter (λ p. is_outside g tier p.1) told);
-  inside = list_any (λ p. is_inside g tier p.1) told;
+  inside = list_any (λ p. is_in_tier g tier p.1) told;
   hot = list_any (λ p. is_hot_word p.1) told;
   accessed = list_any (λ p. is_accessed_word p.1) told;
 }

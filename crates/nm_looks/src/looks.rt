@@ -4,7 +4,7 @@ ghost use Rattle.std.specs.Prelude.{◌≡◌, ◌≢◌, ◌<◌, [], Some, Non
 ghost use Rattle.nm_base.specs.PageWord.{frame_of};
 ghost use Rattle.nm_base.specs.Ranges.{IsFrame};
 ghost use Rattle.nm_vpages.specs.VPages.{most_vpages, AreBelow};
-ghost use Rattle.nm_looks.specs.Seeing.{tier_looks_made, look_at, nothing_seen, is_inside, is_outside, seen_with_word};
+ghost use Rattle.nm_looks.specs.Seeing.{tier_looks_made, look_at, nothing_seen, is_in_tier, is_outside, seen_with_word};
 ghost use Rattle.nm_looks.specs.Looking.{IsNewLooks};
 
 use crate::seen::{Seen, is_accessed_word, is_hot_word, push_where};
@@ -65,9 +65,9 @@ impl<'a> Looks<'a> {
     }
 
     /// Whether a word maps a frame of the tier that is asked for.
-    fn is_inside(&self, word: u64) -> bool
+    fn is_in_tier(&self, word: u64) -> bool
         requires { word ≢ 0 → IsFrame self.now.geometry.now (frame_of word) }
-        ensures { result ≡ is_inside self.now.geometry.now self.now.made.tier word }
+        ensures { result ≡ is_in_tier self.now.geometry.now self.now.made.tier word }
     {
         word != 0 && self.geometry.tier_of(frame_of(word)) == self.made.tier
     }
@@ -88,7 +88,7 @@ impl<'a> Looks<'a> {
         requires frame { word ≢ 0 → IsFrame self.old.geometry.now (frame_of word) }
         ensures { self.new ≡ record self.old { seen = seen_with_word self.old.geometry.now self.old.made.tier vpage word self.old.seen } }
     {
-        let inside = self.is_inside(word);
+        let inside = self.is_in_tier(word);
         let outside = self.is_outside(word);
         push_where(&mut self.seen.mapped, vpage, word != 0);
         push_where(&mut self.seen.outside, vpage, outside);

@@ -4,29 +4,29 @@ use Rattle.nm_action.specs.declared.turn.Turn.{Turn}
 use Rattle.nm_action.specs.declared.turn.Turn.TheVariants as turn
 use Rattle.nm_actor.specs.Turns.{Turns, turns_view}
 use Rattle.nm_worker.proofs.Ending.{known-at-end}
-use Rattle.nm_routine_part.specs.Parts.{is_end}
+use Rattle.nm_actor.specs.Actors.{gave_end}
 use Rattle.nm_routine_part.proofs.Parts.{part-of-routine}
-use Rattle.nm_migrator_work.specs.Works.{work_made, IsNewWork, MayWork, IsWork, AwaitsWork}
+use Rattle.nm_migrator_work.specs.Works.{migrator_work_made, IsNewMigratorWork, MayMigratorWork, IsMigratorWork, AwaitsMigratorWork}
 use Rattle.nm_migrator.specs.declared.actor.MigratorActor.{MigratorActor}
-use Rattle.nm_migrator.specs.Ends.{work_counts}
+use Rattle.nm_migrator.specs.Ends.{migrator_counts}
 use Rattle.nm_migrator.specs.Migrating.{IsMigrating}
 use Rattle.nm_migrator.specs.Stages.{migrating_left, IsMigratingAt}
 use Rattle.nm_migrator.specs.Parts.{MigratorWorker, IsMigratorPart, IsEmptyAtEnd, AgreesWorker, worker_counted, IsNewMigratorWorker, IsNewMigrator, AgreesMigrator}
 use Rattle.nm_worker.proofs.Starting.{acts-first}
 use Rattle.nm_migrator.proofs.Ending.{some-migrating, no-migrating}
 
-part-by : (w : MigratorWorker) (turns : Turns) (last : Option Turn) → AgreesWorker w turns last → IsMigratorPart w.routine.geometry.now w.routine.retry turns (is_end last) (worker_counted w)
+part-by : (w : MigratorWorker) (turns : Turns) (last : Option Turn) → AgreesWorker w turns last → IsMigratorPart w.routine.geometry.now w.routine.retry turns (gave_end last) (worker_counted w)
 part-by w turns last h =
-    part-of-routine work_made IsNewWork MayWork IsWork AwaitsWork work_counts (IsMigratingAt w.routine) (migrating_left w.routine) (IsMigrating w.routine.geometry.now w.routine.retry) w.routine.geometry.now w.routine.geometry.now.cpus w.action w.task w.events w.ends w.spent turns last
+    part-of-routine migrator_work_made IsNewMigratorWork MayMigratorWork IsMigratorWork AwaitsMigratorWork migrator_counts (IsMigratingAt w.routine) (migrating_left w.routine) (IsMigrating w.routine.geometry.now w.routine.retry) w.routine.geometry.now w.routine.geometry.now.cpus w.action w.task w.events w.ends w.spent turns last
     (some-migrating w.routine.geometry.now w.routine.retry) h
 
-empty-by : (w : MigratorWorker) (turns : Turns) (last : Option Turn) → AgreesWorker w turns last → IsEmptyAtEnd (is_end last) (turns_view w.routine.geometry.now w.routine.geometry.now.cpus turns)
+empty-by : (w : MigratorWorker) (turns : Turns) (last : Option Turn) → AgreesWorker w turns last → IsEmptyAtEnd (gave_end last) (turns_view w.routine.geometry.now w.routine.geometry.now.cpus turns)
 empty-by w turns None h = tt
 empty-by w turns (Some (turn.Do action)) h = tt
 empty-by w turns (Some (turn.Put lane page)) h = tt
 empty-by w turns (Some (turn.Take lane)) h = tt
 empty-by w turns (Some turn.End) h =
-    (known-at-end work_made IsNewWork MayWork IsWork AwaitsWork work_counts (IsMigratingAt w.routine) (migrating_left w.routine) (IsMigrating w.routine.geometry.now w.routine.retry) w.routine.geometry.now w.routine.geometry.now.cpus w.action w.task w.events w.ends w.spent turns h).resting.empty
+    (known-at-end migrator_work_made IsNewMigratorWork MayMigratorWork IsMigratorWork AwaitsMigratorWork migrator_counts (IsMigratingAt w.routine) (migrating_left w.routine) (IsMigrating w.routine.geometry.now w.routine.retry) w.routine.geometry.now w.routine.geometry.now.cpus w.action w.task w.events w.ends w.spent turns h).resting.empty
 
 -- the actor agrees with what its worker agrees with
 pub agrees-by : (a : MigratorActor) (turns : Turns) (last : Option Turn) → AgreesWorker a.worker turns last → AgreesMigrator a turns last
@@ -43,5 +43,5 @@ new-by a new = record { worker = new; part = part-by a.worker [] None (opens-by 
 pub migrator-acts : (a : MigratorActor) → ¬ AgreesMigrator a [] (Some turn.End)
 migrator-acts a h =
     let w = a.worker in
-    acts-first work_made IsNewWork MayWork IsWork AwaitsWork work_counts (IsMigratingAt w.routine) (migrating_left w.routine) (IsMigrating w.routine.geometry.now w.routine.retry) w.routine.geometry.now w.routine.geometry.now.cpus w.action w.task w.events w.ends w.spent
+    acts-first migrator_work_made IsNewMigratorWork MayMigratorWork IsMigratorWork AwaitsMigratorWork migrator_counts (IsMigratingAt w.routine) (migrating_left w.routine) (IsMigrating w.routine.geometry.now w.routine.retry) w.routine.geometry.now w.routine.geometry.now.cpus w.action w.task w.events w.ends w.spent
     (no-migrating w.routine.geometry.now w.routine.retry) h.worker

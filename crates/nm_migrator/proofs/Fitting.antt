@@ -12,10 +12,10 @@ use Rattle.nm_worker.specs.Notes.{Notes}
 use Rattle.nm_migrator_work.specs.Works.{made_mark, made_batch}
 use Rattle.nm_migrator.specs.declared.migrating.Migrating.{Migrating}
 use Rattle.nm_migrator.specs.declared.migrating.MigratingStage.TheVariants.{TakingCandidate, Judging, TakingPending, PuttingTwice, Planning, Batching, PuttingAgain, Moving, Asking, TakingLast, Unmarking}
-use Rattle.nm_migrator.specs.Ends.{reply_in, batch_in}
+use Rattle.nm_migrator.specs.Ends.{mark_reply_in, batch_in}
 use Rattle.nm_migrator.specs.Planned.{Plan, no_plan, is_mapped, is_among, most_taken, is_moved_locked, first_or, planned_by, planned, aborts_with, again_of, batched}
-use Rattle.nm_migrator.specs.Migrating.{Sequence, Does, Puts, AfterHeat, Unmarks, AfterLast, Moves, AfterBatch, Batches, Plans, TakesPending, AfterCandidate}
-use Rattle.nm_migrator.specs.Stages.{kept_of, plan_of, next_of, comes_at, CandidateLeft, LastLeft, JudgedLeft, CandidatesLeft, PendingLeft, TakenLeft, TakesLeft, MoreLeft, PageLeft, PlansLeft, PlannedLeft, BatchesLeft, BatchedLeft, AgainLeft, MovesLeft, UnmarksLeft}
+use Rattle.nm_migrator.specs.Migrating.{Sequence, Does, Puts, AfterHeat, Unmarks, AfterLast, MovesLocked, AfterBatch, Batches, Plans, TakesPending, AfterCandidate}
+use Rattle.nm_migrator.specs.Stages.{migrator_kept, migrator_plan, next_of, comes_at, CandidateLeft, LastLeft, JudgedLeft, CandidatesLeft, PendingLeft, TakenLeft, TakesLeft, MoreLeft, PageLeft, PlansLeft, PlannedLeft, BatchesLeft, BatchedLeft, AgainLeft, MovesLeft, UnmarksLeft}
 
 -- every list of the one is a list of the other
 abbrev pub Fits : (ℕ → Sequence) → (ℕ → Sequence) → Type 0
@@ -31,25 +31,25 @@ module _ (m : Migrating) where
   pub candidate-judged : (page : ℕ) → is_mapped m.geometry.now page ≡ true → Fits (comes_at m (Judging page)) (CandidateLeft m (Some page))
   candidate-judged page is notes outcome s = record {
     tries = s.tries;
-    is = either-yes (is_mapped m.geometry.now page) (AfterCandidate m.geometry.now (next_of m s.tries) (kept_of m) (Some page)) (comes_at m TakingCandidate s.tries) notes outcome is s.is;
+    is = either-yes (is_mapped m.geometry.now page) (AfterCandidate m.geometry.now (next_of m s.tries) (migrator_kept m) (Some page)) (comes_at m TakingCandidate s.tries) notes outcome is s.is;
   }
 
   pub candidate-dropped : (page : ℕ) → is_mapped m.geometry.now page ≡ false → Fits (comes_at m TakingCandidate) (CandidateLeft m (Some page))
   candidate-dropped page is notes outcome s = record {
     tries = s.tries;
-    is = either-other (is_mapped m.geometry.now page) (AfterCandidate m.geometry.now (next_of m s.tries) (kept_of m) (Some page)) (comes_at m TakingCandidate s.tries) notes outcome is s.is;
+    is = either-other (is_mapped m.geometry.now page) (AfterCandidate m.geometry.now (next_of m s.tries) (migrator_kept m) (Some page)) (comes_at m TakingCandidate s.tries) notes outcome is s.is;
   }
 
   pub last-judged : (page : ℕ) → is_mapped m.geometry.now page ≡ true → Fits (comes_at m (Judging page)) (LastLeft m (Some page))
   last-judged page is notes outcome s = record {
     tries = s.tries;
-    is = either-yes (is_mapped m.geometry.now page) (AfterLast m.geometry.now (next_of m s.tries) (kept_of m) (Some page)) (comes_at m TakingLast s.tries) notes outcome is s.is;
+    is = either-yes (is_mapped m.geometry.now page) (AfterLast m.geometry.now (next_of m s.tries) (migrator_kept m) (Some page)) (comes_at m TakingLast s.tries) notes outcome is s.is;
   }
 
   pub last-dropped : (page : ℕ) → is_mapped m.geometry.now page ≡ false → Fits (comes_at m TakingLast) (LastLeft m (Some page))
   last-dropped page is notes outcome s = record {
     tries = s.tries;
-    is = either-other (is_mapped m.geometry.now page) (AfterLast m.geometry.now (next_of m s.tries) (kept_of m) (Some page)) (comes_at m TakingLast s.tries) notes outcome is s.is;
+    is = either-other (is_mapped m.geometry.now page) (AfterLast m.geometry.now (next_of m s.tries) (migrator_kept m) (Some page)) (comes_at m TakingLast s.tries) notes outcome is s.is;
   }
 
   -- the last candidate was taken
@@ -60,9 +60,9 @@ module _ (m : Migrating) where
 
   -- a hot candidate is marked as pending
   pub heats-fit : (page : ℕ) (items : List ℕ) → items ≡ slice_set m.aborts.items page 0
-      → Fits (λ n. Does m.geometry.now (made_mark page 1 2) (λ end. AfterHeat (next_of m n) (record { aborts = items; spent = m.spent }) page (reply_in end))) (JudgedLeft m page true)
+      → Fits (λ n. Does m.geometry.now (made_mark page 1 2) (λ end. AfterHeat (next_of m n) (record { aborts = items; spent = m.spent }) page (mark_reply_in end))) (JudgedLeft m page true)
   heats-fit page items is notes outcome s =
-      let P : List ℕ → Type 0 = λ l. Sometimes (λ n. Does m.geometry.now (made_mark page 1 2) (λ end. AfterHeat (next_of m n) (record { aborts = l; spent = m.spent }) page (reply_in end))) notes outcome in
+      let P : List ℕ → Type 0 = λ l. Sometimes (λ n. Does m.geometry.now (made_mark page 1 2) (λ end. AfterHeat (next_of m n) (record { aborts = l; spent = m.spent }) page (mark_reply_in end))) notes outcome in
       subst P is s
 
   -- Pending pages.
@@ -115,9 +115,9 @@ module _ (m : Migrating) where
   pub taken-asks : drop 0 m.taken ≡ [] → Fits (comes_at m Asking) (TakenLeft m m.taken)
   taken-asks none notes outcome s = record { tries = s.tries; is = subst (λ (l : List ℕ). TakenLeft m l s.tries notes outcome) (sym none) s.is }
 
-  taken-plans-by : (taken rest : List ℕ) (page n : ℕ) (notes : Notes) (outcome : Unit {0}) → taken ≡ page ∷ rest → Plans m.geometry.now m.retry (next_of m n) (kept_of m) taken no_plan notes outcome → TakenLeft m taken n notes outcome
+  taken-plans-by : (taken rest : List ℕ) (page n : ℕ) (notes : Notes) (outcome : Unit {0}) → taken ≡ page ∷ rest → Plans m.geometry.now m.retry (next_of m n) (migrator_kept m) taken no_plan notes outcome → TakenLeft m taken n notes outcome
   taken-plans-by taken rest page n notes outcome is h =
-      let P : List ℕ → Type 0 = λ l. Plans m.geometry.now m.retry (next_of m n) (kept_of m) l no_plan notes outcome in
+      let P : List ℕ → Type 0 = λ l. Plans m.geometry.now m.retry (next_of m n) (migrator_kept m) l no_plan notes outcome in
       subst (λ (l : List ℕ). TakenLeft m l n notes outcome) (sym is) (subst P is h)
 
   pub taken-plans : (page : ℕ) → drop 0 m.taken ≡ page ∷ drop 1 m.taken → Fits (PlansLeft (record m { pieces = []; moves = [] }) 0 no_plan) (TakenLeft m m.taken)
@@ -131,23 +131,23 @@ module _ (m : Migrating) where
       let P : Plan → Type 0 = λ q. Sometimes (PlansLeft m 0 q) notes outcome in
       taken-plans page next notes outcome (subst P (plan-none pieces moves is are) s)
 
-  pub plans-one : (index page : ℕ) → drop index m.taken ≡ page ∷ drop (index + 1) m.taken → Fits (comes_at m (Planning index page)) (PlansLeft m index (plan_of m))
+  pub plans-one : (index page : ℕ) → drop index m.taken ≡ page ∷ drop (index + 1) m.taken → Fits (comes_at m (Planning index page)) (PlansLeft m index (migrator_plan m))
   plans-one index page is notes outcome s = record {
     tries = s.tries;
-    is = subst (λ (l : List ℕ). Plans m.geometry.now m.retry (next_of m s.tries) (kept_of m) l (plan_of m) notes outcome) (sym is) s.is;
+    is = subst (λ (l : List ℕ). Plans m.geometry.now m.retry (next_of m s.tries) (migrator_kept m) l (migrator_plan m) notes outcome) (sym is) s.is;
   }
 
-  pub plans-all : (index : ℕ) → drop index m.taken ≡ [] → Fits (BatchesLeft m) (PlansLeft m index (plan_of m))
+  pub plans-all : (index : ℕ) → drop index m.taken ≡ [] → Fits (BatchesLeft m) (PlansLeft m index (migrator_plan m))
   plans-all index none notes outcome s = record {
     tries = s.tries;
-    is = subst (λ (l : List ℕ). Plans m.geometry.now m.retry (next_of m s.tries) (kept_of m) l (plan_of m) notes outcome) (sym none) s.is;
+    is = subst (λ (l : List ℕ). Plans m.geometry.now m.retry (next_of m s.tries) (migrator_kept m) l (migrator_plan m) notes outcome) (sym none) s.is;
   }
 
-  planned-by : (index page : ℕ) (mapped : List ℕ) (plan : Plan) (test : Bool) → is_moved_locked m.retry (slice_index m.aborts.items page) (length mapped) ≡ test → plan ≡ planned_by test m.geometry.now page mapped (plan_of m)
+  planned-by : (index page : ℕ) (mapped : List ℕ) (plan : Plan) (test : Bool) → is_moved_locked m.retry (slice_index m.aborts.items page) (length mapped) ≡ test → plan ≡ planned_by test m.geometry.now page mapped (migrator_plan m)
       → Fits (PlansLeft m (index + 1) plan) (PlannedLeft m index page mapped)
   planned-by index page mapped plan test is same notes outcome s =
       let P : Plan → Type 0 = λ q. Sometimes (PlansLeft m (index + 1) q) notes outcome in
-      let e : plan ≡ planned m.geometry.now m.retry m.aborts.items page mapped (plan_of m) = same ∙ sym (ap (λ (b : Bool). planned_by b m.geometry.now page mapped (plan_of m)) is) in
+      let e : plan ≡ planned m.geometry.now m.retry m.aborts.items page mapped (migrator_plan m) = same ∙ sym (ap (λ (b : Bool). planned_by b m.geometry.now page mapped (migrator_plan m)) is) in
       subst P e s
 
   pub planned-moves : (index page : ℕ) (mapped : List ℕ) (moves : List (ℕ × ℕ)) → is_moved_locked m.retry (slice_index m.aborts.items page) (length mapped) ≡ true → moves ≡ m.moves ++ (page, length mapped) ∷ []
@@ -161,19 +161,19 @@ module _ (m : Migrating) where
   -- The batch.
 
   batches-by : (pieces rest : List (ℕ × ℕ)) (p : ℕ × ℕ) (n : ℕ) (notes : Notes) (outcome : Unit {0}) → pieces ≡ p ∷ rest
-      → Does m.geometry.now (made_batch m.geometry.now pieces m.spent) (λ end. AfterBatch m.geometry.now (next_of m n) m.moves (again_of pieces (batch_in end).end) (batched pieces (batch_in end) (kept_of m))) notes outcome
-      → Batches m.geometry.now (next_of m n) (kept_of m) m.moves pieces notes outcome
+      → Does m.geometry.now (made_batch m.geometry.now pieces m.spent) (λ end. AfterBatch m.geometry.now (next_of m n) m.moves (again_of pieces (batch_in end).end) (batched pieces (batch_in end) (migrator_kept m))) notes outcome
+      → Batches m.geometry.now (next_of m n) (migrator_kept m) m.moves pieces notes outcome
   batches-by pieces rest p n notes outcome is h =
-      let P : List (ℕ × ℕ) → Type 0 = λ l. Does m.geometry.now (made_batch m.geometry.now l m.spent) (λ end. AfterBatch m.geometry.now (next_of m n) m.moves (again_of l (batch_in end).end) (batched l (batch_in end) (kept_of m))) notes outcome in
-      subst (λ (l : List (ℕ × ℕ)). Batches m.geometry.now (next_of m n) (kept_of m) m.moves l notes outcome) (sym is) (subst P is h)
+      let P : List (ℕ × ℕ) → Type 0 = λ l. Does m.geometry.now (made_batch m.geometry.now l m.spent) (λ end. AfterBatch m.geometry.now (next_of m n) m.moves (again_of l (batch_in end).end) (batched l (batch_in end) (migrator_kept m))) notes outcome in
+      subst (λ (l : List (ℕ × ℕ)). Batches m.geometry.now (next_of m n) (migrator_kept m) m.moves l notes outcome) (sym is) (subst P is h)
 
   pub batches-some : (p : ℕ × ℕ) → drop 0 m.pieces ≡ p ∷ drop 1 m.pieces → Fits (comes_at m Batching) (BatchesLeft m)
   batches-some p is notes outcome s = record { tries = s.tries; is = batches-by m.pieces (drop 1 m.pieces) p s.tries notes outcome is s.is }
 
-  pub batches-none : drop 0 m.pieces ≡ [] → Fits (MovesLeft m 0 (kept_of m)) (BatchesLeft m)
+  pub batches-none : drop 0 m.pieces ≡ [] → Fits (MovesLeft m 0 (migrator_kept m)) (BatchesLeft m)
   batches-none none notes outcome s = record {
     tries = s.tries;
-    is = subst (λ (l : List (ℕ × ℕ)). Batches m.geometry.now (next_of m s.tries) (kept_of m) m.moves l notes outcome) (sym none) s.is;
+    is = subst (λ (l : List (ℕ × ℕ)). Batches m.geometry.now (next_of m s.tries) (migrator_kept m) m.moves l notes outcome) (sym none) s.is;
   }
 
   pub again-starts : (told : Drawn (List TxnEnd)) (items again : List ℕ) → items ≡ aborts_with m.pieces told.end m.aborts.items → again ≡ again_of m.pieces told.end
@@ -186,27 +186,27 @@ module _ (m : Migrating) where
   pub again-one : (index page : ℕ) → drop index m.again ≡ page ∷ drop (index + 1) m.again → Fits (comes_at m (PuttingAgain index page)) (AgainLeft m index)
   again-one index page is notes outcome s = record {
     tries = s.tries;
-    is = subst (λ (l : List ℕ). AfterBatch m.geometry.now (next_of m s.tries) m.moves l (kept_of m) notes outcome) (sym is) s.is;
+    is = subst (λ (l : List ℕ). AfterBatch m.geometry.now (next_of m s.tries) m.moves l (migrator_kept m) notes outcome) (sym is) s.is;
   }
 
-  pub again-all : (index : ℕ) → drop index m.again ≡ [] → Fits (MovesLeft m 0 (kept_of m)) (AgainLeft m index)
+  pub again-all : (index : ℕ) → drop index m.again ≡ [] → Fits (MovesLeft m 0 (migrator_kept m)) (AgainLeft m index)
   again-all index none notes outcome s = record {
     tries = s.tries;
-    is = subst (λ (l : List ℕ). AfterBatch m.geometry.now (next_of m s.tries) m.moves l (kept_of m) notes outcome) (sym none) s.is;
+    is = subst (λ (l : List ℕ). AfterBatch m.geometry.now (next_of m s.tries) m.moves l (migrator_kept m) notes outcome) (sym none) s.is;
   }
 
   -- The locked moves.
 
-  pub moves-one : (index page count : ℕ) → drop index m.moves ≡ (page, count) ∷ drop (index + 1) m.moves → Fits (comes_at m (Moving index page count)) (MovesLeft m index (kept_of m))
+  pub moves-one : (index page count : ℕ) → drop index m.moves ≡ (page, count) ∷ drop (index + 1) m.moves → Fits (comes_at m (Moving index page count)) (MovesLeft m index (migrator_kept m))
   moves-one index page count is notes outcome s = record {
     tries = s.tries;
-    is = subst (λ (l : List (ℕ × ℕ)). Moves m.geometry.now (next_of m s.tries) l (kept_of m) notes outcome) (sym is) s.is;
+    is = subst (λ (l : List (ℕ × ℕ)). MovesLocked m.geometry.now (next_of m s.tries) l (migrator_kept m) notes outcome) (sym is) s.is;
   }
 
-  pub moves-all : (index : ℕ) → drop index m.moves ≡ [] → Fits (comes_at m TakingCandidate) (MovesLeft m index (kept_of m))
+  pub moves-all : (index : ℕ) → drop index m.moves ≡ [] → Fits (comes_at m TakingCandidate) (MovesLeft m index (migrator_kept m))
   moves-all index none notes outcome s = record {
     tries = suc s.tries;
-    is = subst (λ (l : List (ℕ × ℕ)). Moves m.geometry.now (next_of m (suc s.tries)) l (kept_of m) notes outcome) (sym none) s.is;
+    is = subst (λ (l : List (ℕ × ℕ)). MovesLocked m.geometry.now (next_of m (suc s.tries)) l (migrator_kept m) notes outcome) (sym none) s.is;
   }
 
   -- The end.

@@ -8,20 +8,20 @@ use Rattle.nm_worker.specs.declared.routine.Task.{Task}
 use Rattle.nm_worker.specs.declared.routine.Task.TheVariants.{Run, Put, Take, Stop}
 use Rattle.nm_worker.specs.Notes.{Notes, IsTask}
 use Rattle.nm_worker.specs.Routines.{task_data, IsTaskRun, IsNextTask}
-use Rattle.nm_migrator_work.specs.Works.{MigratorPiece, WorkMade, work_made, IsWork, MayWork}
+use Rattle.nm_migrator_work.specs.Works.{MigratorPiece, MigratorWorkMade, migrator_work_made, IsMigratorWork, MayMigratorWork}
 use Rattle.nm_migrator_work.proofs.Beginning.{may-mark, may-looks, may-cool, may-batch, may-move, may-ask, mapped-is-page}
 use Rattle.nm_migrator.specs.declared.migrating.Migrating.{Migrating}
 use Rattle.nm_migrator.specs.declared.migrating.MigratingStage.{MigratingStage}
 use Rattle.nm_migrator.specs.declared.migrating.MigratingStage.TheVariants.{New, TakingCandidate, Judging, Heating, PuttingHot, Cooling, PuttingBack, Spilling, TakingPending, PuttingTwice, Planning, Batching, PuttingAgain, Moving, PuttingMoved, Asking, TakingLast, Unmarking, Over}
-use Rattle.nm_migrator.specs.Ends.{work_counts}
+use Rattle.nm_migrator.specs.Ends.{migrator_counts}
 use Rattle.nm_migrator.specs.Migrating.{Sequence}
 use Rattle.nm_migrator.specs.Stages.{stage_task, comes_at, migrating_left, KnownAt, IsResting, IsMigratingAt, IsNewTask, Gives}
 use Rattle.nm_migrator.proofs.Ending.{HasTask, can-left}
 use Rattle.nm_migrator.proofs.Coming.{comes}
 
 -- the piece of work of a task may begin
-abbrev pub MayTask : Geometry → View → Task WorkMade → Type 0
-MayTask g view (Run work) = MayWork work g view
+abbrev pub MayTask : Geometry → View → Task MigratorWorkMade → Type 0
+MayTask g view (Run work) = MayMigratorWork work g view
 MayTask g view Stop = ⊥
 MayTask g view task = Unit {0}
 
@@ -52,26 +52,26 @@ may-task m (Unmarking page) view k has r = may-mark m.geometry.now page 0 view k
 may-task m Over view k has r = absurd has
 
 -- what is owed of a task
-record Owed (m : Migrating) (view : View) (was : Sequence) (task : Task WorkMade) : Type 0 where
+record Owed (m : Migrating) (view : View) (was : Sequence) (task : Task MigratorWorkMade) : Type 0 where
   pub may : MayTask m.geometry.now view task
-  pub run : IsTaskRun (IsMigratingAt m view task) (IsTask IsWork work_counts m.geometry.now task) (migrating_left m) was
+  pub run : IsTaskRun (IsMigratingAt m view task) (IsTask IsMigratorWork migrator_counts m.geometry.now task) (migrating_left m) was
 
-given : (is_new : MigratorPiece → Type 0) (m : Migrating) (view : View) (was : Sequence) (task : Task MigratorPiece) (want : Task WorkMade)
-    → task_data work_made task ≡ want → IsNewTask is_new task → Owed m view was want
-    → IsNextTask work_made is_new MayWork IsWork work_counts (IsMigratingAt m) (migrating_left m) was m.geometry.now view task
+given : (is_new : MigratorPiece → Type 0) (m : Migrating) (view : View) (was : Sequence) (task : Task MigratorPiece) (want : Task MigratorWorkMade)
+    → task_data migrator_work_made task ≡ want → IsNewTask is_new task → Owed m view was want
+    → IsNextTask migrator_work_made is_new MayMigratorWork IsMigratorWork migrator_counts (IsMigratingAt m) (migrating_left m) was m.geometry.now view task
 given is_new m view was (Run piece) want plain fresh owed =
-    let o : Owed m view was (Run (work_made piece)) = subst (λ (t : Task WorkMade). Owed m view was t) (sym plain) owed in
+    let o : Owed m view was (Run (migrator_work_made piece)) = subst (λ (t : Task MigratorWorkMade). Owed m view was t) (sym plain) owed in
     record { is_new = fresh; may_begin = o.may; run = o.run }
 given is_new m view was (Put lane page) want plain fresh owed =
-    let o : Owed m view was (Put lane page) = subst (λ (t : Task WorkMade). Owed m view was t) (sym plain) owed in o.run
+    let o : Owed m view was (Put lane page) = subst (λ (t : Task MigratorWorkMade). Owed m view was t) (sym plain) owed in o.run
 given is_new m view was (Take lane) want plain fresh owed =
-    let o : Owed m view was (Take lane) = subst (λ (t : Task WorkMade). Owed m view was t) (sym plain) owed in o.run
+    let o : Owed m view was (Take lane) = subst (λ (t : Task MigratorWorkMade). Owed m view was t) (sym plain) owed in o.run
 given is_new m view was Stop want plain fresh owed =
-    let o : Owed m view was Stop = subst (λ (t : Task WorkMade). Owed m view was t) (sym plain) owed in absurd o.may
+    let o : Owed m view was Stop = subst (λ (t : Task MigratorWorkMade). Owed m view was t) (sym plain) owed in absurd o.may
 
 -- the task of the stage that was come to is given
 pub gives : (is_new : MigratorPiece → Type 0) (m : Migrating) (task : Task MigratorPiece) (was : ℕ → Sequence)
-    → task_data work_made task ≡ stage_task m m.stage → IsNewTask is_new task → KnownAt m m.stage → HasTask m.stage
+    → task_data migrator_work_made task ≡ stage_task m m.stage → IsNewTask is_new task → KnownAt m m.stage → HasTask m.stage
     → ((notes : Notes) (outcome : Unit {0}) → Sometimes (comes_at m m.stage) notes outcome → Sometimes was notes outcome)
     → Gives is_new m.geometry.now m.spent m task was
 gives is_new m task was plain fresh known has fits = λ view rest. given is_new m view (Sometimes was) task (stage_task m m.stage) plain fresh (record {
@@ -85,15 +85,15 @@ gives is_new m task was plain fresh known has fits = λ view rest. given is_new 
 
 -- the migrator gives End
 ended : (is_new : MigratorPiece → Type 0) (m : Migrating) (view : View) (was : Sequence) (task : Task MigratorPiece)
-    → task_data work_made task ≡ Stop → IsMigratingAt m view Stop → was [] tt
-    → IsNextTask work_made is_new MayWork IsWork work_counts (IsMigratingAt m) (migrating_left m) was m.geometry.now view task
+    → task_data migrator_work_made task ≡ Stop → IsMigratingAt m view Stop → was [] tt
+    → IsNextTask migrator_work_made is_new MayMigratorWork IsMigratorWork migrator_counts (IsMigratingAt m) (migrating_left m) was m.geometry.now view task
 ended is_new m view was (Run piece) plain known h = cc
 ended is_new m view was (Put lane page) plain known h = cc
 ended is_new m view was (Take lane) plain known h = cc
 ended is_new m view was Stop plain known h = record { known = known; ended = h }
 
 pub gives-over : (is_new : MigratorPiece → Type 0) (m : Migrating) (task : Task MigratorPiece) (was : ℕ → Sequence)
-    → m.stage ≡ Over → task_data work_made task ≡ stage_task m Over → KnownAt m Over → Sometimes was [] tt
+    → m.stage ≡ Over → task_data migrator_work_made task ≡ stage_task m Over → KnownAt m Over → Sometimes was [] tt
     → Gives is_new m.geometry.now m.spent m task was
 gives-over is_new m task was at plain known h = λ view rest. ended is_new m view (Sometimes was) task plain (record {
   is = ap (stage_task m) (sym at);
@@ -103,7 +103,7 @@ gives-over is_new m task was at plain known h = λ view rest. ended is_new m vie
 
 -- The stage that was come to from an old one.
 pub gives-stage : (is_new : MigratorPiece → Type 0) (old new : Migrating) (stage : MigratingStage) (task : Task MigratorPiece) (was : ℕ → Sequence)
-    → new ≡ record old { stage = stage } → task_data work_made task ≡ stage_task old stage → IsNewTask is_new task → KnownAt old stage → HasTask stage
+    → new ≡ record old { stage = stage } → task_data migrator_work_made task ≡ stage_task old stage → IsNewTask is_new task → KnownAt old stage → HasTask stage
     → ((notes : Notes) (outcome : Unit {0}) → Sometimes (comes_at old stage) notes outcome → Sometimes was notes outcome)
     → Gives is_new old.geometry.now old.spent new task was
 gives-stage is_new old new stage task was is plain fresh known has fits =
@@ -112,8 +112,8 @@ gives-stage is_new old new stage task was is plain fresh known has fits =
 -- what was left may be more
 pub gives-more : (is_new : MigratorPiece → Type 0) (g : Geometry) (m : Migrating) (view : View) (task : Task MigratorPiece) (was wider : Sequence)
     → ((notes : Notes) (outcome : Unit {0}) → was notes outcome → wider notes outcome)
-    → IsNextTask work_made is_new MayWork IsWork work_counts (IsMigratingAt m) (migrating_left m) was g view task
-    → IsNextTask work_made is_new MayWork IsWork work_counts (IsMigratingAt m) (migrating_left m) wider g view task
+    → IsNextTask migrator_work_made is_new MayMigratorWork IsMigratorWork migrator_counts (IsMigratingAt m) (migrating_left m) was g view task
+    → IsNextTask migrator_work_made is_new MayMigratorWork IsMigratorWork migrator_counts (IsMigratingAt m) (migrating_left m) wider g view task
 gives-more is_new g m view (Run piece) was wider more h = record { is_new = h.is_new; may_begin = h.may_begin; run = record { known = h.run.known; can = h.run.can; fits = λ notes outcome f. more notes outcome (h.run.fits notes outcome f) } }
 gives-more is_new g m view (Put lane page) was wider more h = record { known = h.known; can = h.can; fits = λ notes outcome f. more notes outcome (h.fits notes outcome f) }
 gives-more is_new g m view (Take lane) was wider more h = record { known = h.known; can = h.can; fits = λ notes outcome f. more notes outcome (h.fits notes outcome f) }

@@ -9,11 +9,11 @@ use Rattle.nm_worker.specs.Notes.{Notes, IsWorkDone, IsPut, IsTake}
 use Rattle.nm_action.specs.declared.turn.Turn.TheVariants as turn
 use Rattle.nm_worker.specs.Notes.{put_heard, take_heard}
 use Rattle.nm_worker.proofs.Routing.{some-work}
-use Rattle.nm_migrator_work.specs.Works.{WorkMade, WorkEnd, IsWork}
+use Rattle.nm_migrator_work.specs.Works.{MigratorWorkMade, MigratorWorkEnd, IsMigratorWork}
 use Rattle.nm_migrator_work.proofs.Listing.{some-migrator-work}
-use Rattle.nm_migrator.specs.Ends.{work_counts}
+use Rattle.nm_migrator.specs.Ends.{migrator_counts}
 use Rattle.nm_migrator.specs.Planned.{is_mapped}
-use Rattle.nm_migrator.specs.Migrating.{Sequence, Does, PutsTry, Puts, Taken, TakesTry, Takes}
+use Rattle.nm_migrator.specs.Migrating.{Sequence, Does, PutsTry, Puts, Taken, TakesMappedTry, TakesMapped}
 use Rattle.nm_migrator.specs.Stages.{PutLeft}
 
 -- a number of tries that comes after a first list can be chosen before it
@@ -54,24 +54,24 @@ can-put-left page full after can = can-either full (Puts page after) after (can-
 -- Takes.
 
 take-mapped : (g : Geometry) (lane : Lane) (after : Option ℕ → Sequence) (page : ℕ) (test : Bool) (back : Notes) (outcome : Unit {0})
-    → Either test (after (Some page)) (Takes g lane after) back outcome → (n : ℕ) × Either test (after (Some page)) (TakesTry g lane after n) back outcome
+    → Either test (after (Some page)) (TakesMapped g lane after) back outcome → (n : ℕ) × Either test (after (Some page)) (TakesMappedTry g lane after n) back outcome
 take-mapped g lane after page true back outcome h = (0, h)
 take-mapped g lane after page false back outcome s = (s.tries, s.is)
 
 take-again : (g : Geometry) (lane : Lane) (after : Option ℕ → Sequence) (page : Option ℕ) (back : Notes) (outcome : Unit {0})
-    → Taken g (Takes g lane after) after page back outcome → (n : ℕ) × Taken g (TakesTry g lane after n) after page back outcome
+    → Taken g (TakesMapped g lane after) after page back outcome → (n : ℕ) × Taken g (TakesMappedTry g lane after n) after page back outcome
 take-again g lane after None back outcome h = (0, h)
 take-again g lane after (Some page) back outcome h = take-mapped g lane after page (is_mapped g page) back outcome h
 
 pub takes-once : (g : Geometry) (lane : Lane) (after : Option ℕ → Sequence) (notes : Notes) (outcome : Unit {0})
-    → Follows (IsTake lane) (λ page. Taken g (Takes g lane after) after page) notes outcome → Takes g lane after notes outcome
+    → Follows (IsTake lane) (λ page. Taken g (TakesMapped g lane after) after page) notes outcome → TakesMapped g lane after notes outcome
 takes-once g lane after notes outcome f =
     let again = take-again g lane after f.end f.back outcome f.rest in
     record { tries = suc again.0; is = record { end = f.end; front = f.front; back = f.back; shown = f.shown; rest = again.1; is = f.is } }
 
-pub can-takes : (g : Geometry) (lane : Lane) (after : Option ℕ → Sequence) → CanEnd (after None) → CanEnd (Takes g lane after)
+pub can-takes : (g : Geometry) (lane : Lane) (after : Option ℕ → Sequence) → CanEnd (after None) → CanEnd (TakesMapped g lane after)
 can-takes g lane after can =
-    let c = can-follow (IsTake lane) (λ page. Taken g (TakesTry g lane after zero) after page) (none-taken lane) can in
+    let c = can-follow (IsTake lane) (λ page. Taken g (TakesMappedTry g lane after zero) after page) (none-taken lane) can in
     record { rest = c.rest; outcome = c.outcome; shown = record { tries = suc zero; is = c.shown } }
 
 pub can-taken : (g : Geometry) (again : Sequence) (after : Option ℕ → Sequence) (page : Option ℕ) → CanEnd again → ((page : Option ℕ) → CanEnd (after page)) → CanEnd (Taken g again after page)
@@ -80,7 +80,7 @@ can-taken g again after (Some page) can each = can-either (is_mapped g page) (af
 
 -- Works.
 
-pub can-does : (g : Geometry) (work : WorkMade) (after : WorkEnd → Sequence) → ((end : WorkEnd) → CanEnd (after end)) → CanEnd (Does g work after)
+pub can-does : (g : Geometry) (work : MigratorWorkMade) (after : MigratorWorkEnd → Sequence) → ((end : MigratorWorkEnd) → CanEnd (after end)) → CanEnd (Does g work after)
 can-does g work after each =
-    let some = some-work IsWork work_counts work g (some-migrator-work work g) in
-    can-follow (IsWorkDone IsWork work_counts work g) after some (each some.outcome)
+    let some = some-work IsMigratorWork migrator_counts work g (some-migrator-work work g) in
+    can-follow (IsWorkDone IsMigratorWork migrator_counts work g) after some (each some.outcome)

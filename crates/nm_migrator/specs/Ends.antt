@@ -18,7 +18,7 @@ use Rattle.nm_drawing.specs.declared.drawing.Drawn.{Drawn}
 use Rattle.nm_worker.specs.declared.routine.Ended.{Ended}
 use Rattle.nm_worker.specs.declared.routine.Ended.TheVariants as ended
 use Rattle.nm_migrator_work.specs.declared.work.MigratorWork.TheVariants.{Mark, Looks, Cool, Batch, Move, Ask}
-use Rattle.nm_migrator_work.specs.Works.{WorkEnd}
+use Rattle.nm_migrator_work.specs.Works.{MigratorWorkEnd}
 
 -- What is told.
 
@@ -26,57 +26,57 @@ abbrev pub nothing_drawn : Spent
 nothing_drawn = record { bumps = 0; raises = 0 }
 
 -- the reply to a Mark
-abbrev pub reply_in : WorkEnd → Reply
-reply_in (Mark reply) = reply
-reply_in end = replies.Busy 0
+abbrev pub mark_reply_in : MigratorWorkEnd → Reply
+mark_reply_in (Mark reply) = reply
+mark_reply_in end = replies.Busy 0
 
 -- what Looks have seen
-abbrev pub seen_in : WorkEnd → Seen
-seen_in (Looks seen) = seen
-seen_in end = nothing_seen
+abbrev pub looks_in : MigratorWorkEnd → Seen
+looks_in (Looks seen) = seen
+looks_in end = nothing_seen
 
 -- how a candidate was cooled
-abbrev pub cooled_in : WorkEnd → Cooled
+abbrev pub cooled_in : MigratorWorkEnd → Cooled
 cooled_in (Cool end) = end
 cooled_in end = cooled.Cold
 
 -- how the pieces of a batch ended, in order, and what was drawn then
-abbrev pub batch_in : WorkEnd → Drawn (List TxnEnd)
+abbrev pub batch_in : MigratorWorkEnd → Drawn (List TxnEnd)
 batch_in (Batch told) = told
 batch_in end = record { end = []; spent = nothing_drawn }
 
 -- how a locked move ended, and what was drawn then
-abbrev pub move_in : WorkEnd → LockedEnd
+abbrev pub move_in : MigratorWorkEnd → LockedEnd
 move_in (Move told) = told.end.end
 move_in end = moves.Gone
 
-abbrev pub drawn_in : WorkEnd → Spent
+abbrev pub drawn_in : MigratorWorkEnd → Spent
 drawn_in (Move told) = told.spent
 drawn_in end = nothing_drawn
 
 -- whether all processors have ended
-abbrev pub all_ended_in : WorkEnd → Bool
+abbrev pub all_ended_in : MigratorWorkEnd → Bool
 all_ended_in (Ask all) = all
 all_ended_in end = false
 
 -- the list for taken words that a locked move gives back
-abbrev pub words_in : WorkEnd → Option (List (ℕ × ℕ))
+abbrev pub words_in : MigratorWorkEnd → Option (List (ℕ × ℕ))
 words_in (Move told) = Some told.end.taken
 words_in end = None
 
 -- The ends of tasks.
 
-abbrev pub work_in : Ended WorkEnd → WorkEnd
+abbrev pub work_in : Ended MigratorWorkEnd → MigratorWorkEnd
 work_in (ended.Run end) = end
 work_in end = Ask false
 
-abbrev pub full_in : Ended WorkEnd → Bool
+abbrev pub full_in : Ended MigratorWorkEnd → Bool
 full_in (ended.Put full) = full
 full_in end = false
 
-abbrev pub page_in : Ended WorkEnd → Option ℕ
-page_in (ended.Take page) = page
-page_in end = None
+abbrev pub taken_page_in : Ended MigratorWorkEnd → Option ℕ
+taken_page_in (ended.Take page) = page
+taken_page_in end = None
 
 -- What is counted.
 
@@ -103,7 +103,7 @@ move_counts moves.Worn = record zero_tally { worn = 1 }
 move_counts moves.Busy = zero_tally
 
 -- the end of a piece of work: the ends of a batch are counted when the batch is over
-abbrev pub work_counts : WorkEnd → Tally
-work_counts (Batch told) = pieces_counts zero_tally told.end
-work_counts (Move told) = move_counts told.end.end
-work_counts end = zero_tally
+abbrev pub migrator_counts : MigratorWorkEnd → Tally
+migrator_counts (Batch told) = pieces_counts zero_tally told.end
+migrator_counts (Move told) = move_counts told.end.end
+migrator_counts end = zero_tally

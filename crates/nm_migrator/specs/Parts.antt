@@ -10,9 +10,10 @@ use Rattle.nm_view.specs.Opening.{opening}
 use Rattle.nm_action.specs.Tally.{sum_of}
 use Rattle.nm_worker.specs.Routines.{IsLeftEmpty, IsNextTask}
 use Rattle.nm_worker.specs.Workers.{FollowsRoutine, IsNewWorker}
-use Rattle.nm_routine_part.specs.Parts.{is_end, IsRoutinePart}
-use Rattle.nm_migrator_work.specs.Works.{MigratorPiece, work_made, IsNewWork, MayWork, IsWork, AwaitsWork}
-use Rattle.nm_migrator.specs.Ends.{work_counts}
+use Rattle.nm_actor.specs.Actors.{gave_end}
+use Rattle.nm_routine_part.specs.Parts.{IsRoutinePart}
+use Rattle.nm_migrator_work.specs.Works.{MigratorPiece, migrator_work_made, IsNewMigratorWork, MayMigratorWork, IsMigratorWork, AwaitsMigratorWork}
+use Rattle.nm_migrator.specs.Ends.{migrator_counts}
 use Rattle.nm_migrator.specs.declared.migrating.Migrating.{Migrating}
 use Rattle.nm_migrator.specs.declared.actor.MigratorActor.{MigratorActor}
 use Rattle.nm_migrator.specs.Migrating.{IsMigrating}
@@ -40,7 +41,7 @@ migrator_made a = migrating_made a.worker.routine
 
 -- the worker inside agrees with these turns
 abbrev pub AgreesWorker : MigratorWorker → Turns → Option Turn → Type 0
-AgreesWorker w = FollowsRoutine work_made IsNewWork MayWork IsWork AwaitsWork work_counts (IsMigratingAt w.routine) (migrating_left w.routine) (IsMigrating w.routine.geometry.now w.routine.retry) w.routine.geometry.now w.routine.geometry.now.cpus w.action w.task w.events w.ends w.spent
+AgreesWorker w = FollowsRoutine migrator_work_made IsNewMigratorWork MayMigratorWork IsMigratorWork AwaitsMigratorWork migrator_counts (IsMigratingAt w.routine) (migrating_left w.routine) (IsMigrating w.routine.geometry.now w.routine.retry) w.routine.geometry.now w.routine.geometry.now.cpus w.action w.task w.events w.ends w.spent
 
 -- what it has counted
 abbrev pub worker_counted : MigratorWorker → Tally
@@ -48,15 +49,15 @@ worker_counted w = sum_of w.events.tally w.ends
 
 -- it has given no turn
 abbrev pub IsNewMigratorWorker : MigratorWorker → Type 0
-IsNewMigratorWorker w = IsNewWorker (IsNextTask work_made IsNewWork MayWork IsWork work_counts (IsMigratingAt w.routine) (migrating_left w.routine) (IsMigrating w.routine.geometry.now w.routine.retry) w.routine.geometry.now (opening w.routine.geometry.now w.routine.geometry.now.cpus) w.task)
+IsNewMigratorWorker w = IsNewWorker (IsNextTask migrator_work_made IsNewMigratorWork MayMigratorWork IsMigratorWork migrator_counts (IsMigratingAt w.routine) (migrating_left w.routine) (IsMigrating w.routine.geometry.now w.routine.retry) w.routine.geometry.now (opening w.routine.geometry.now w.routine.geometry.now.cpus) w.task)
     w.routine.geometry.now w.routine.geometry.now.cpus w.events w.ends w.spent
 
 -- the actor agrees with these turns, the last of which awaits its answer: they are a migrator's part, and the tally is what it
 -- has counted
 pub record AgreesMigrator (a : MigratorActor) (turns : Turns) (last : Option Turn) : Type 0 where
   pub worker : AgreesWorker a.worker turns last
-  pub part : IsMigratorPart (migrator_made a).0 (migrator_made a).1 turns (is_end last) (worker_counted a.worker)
-  pub empty : IsEmptyAtEnd (is_end last) (turns_view (migrator_made a).0 (migrator_number (migrator_made a).0) turns)
+  pub part : IsMigratorPart (migrator_made a).0 (migrator_made a).1 turns (gave_end last) (worker_counted a.worker)
+  pub empty : IsEmptyAtEnd (gave_end last) (turns_view (migrator_made a).0 (migrator_number (migrator_made a).0) turns)
 
 -- the actor has given no turn
 pub record IsNewMigrator (a : MigratorActor) : Type 0 where

@@ -12,15 +12,15 @@ use Rattle.nm_migrator.specs.Ends.{nothing_drawn}
 
 -- how often the transactions of each page were aborted since the page was last marked as pending, by page; and what the actor
 -- has drawn
-pub record Kept : Type 0 where
+pub record MigratorKept : Type 0 where
   pub aborts : List ℕ
   pub spent : Spent
 
-abbrev pub nothing_kept : Geometry → Kept
+abbrev pub nothing_kept : Geometry → MigratorKept
 nothing_kept g = record { aborts = replicate (page_count g) 0; spent = nothing_drawn }
 
 -- a page is marked as pending: its count of aborts is 0 again
-abbrev pub unaborted : ℕ → Kept → Kept
+abbrev pub unaborted : ℕ → MigratorKept → MigratorKept
 unaborted page kept = record kept { aborts = slice_set kept.aborts page 0 }
 
 -- one abort more of a page; a count that has reached 2^32 - 1, the greatest retry, stays there
@@ -113,7 +113,7 @@ aborts_with (p ∷ ps) [] aborts = aborts
 aborts_with (p ∷ ps) (end ∷ ends) aborts = aborts_with ps ends (aborts_after p.0 end aborts)
 
 -- what is kept after a batch
-abbrev pub batched : List (ℕ × ℕ) → Drawn (List TxnEnd) → Kept → Kept
+abbrev pub batched : List (ℕ × ℕ) → Drawn (List TxnEnd) → MigratorKept → MigratorKept
 batched pieces told kept = record { aborts = aborts_with pieces told.end kept.aborts; spent = told.spent }
 
 -- After a locked move.
@@ -122,5 +122,5 @@ abbrev pub is_busy_move : LockedEnd → Bool
 is_busy_move moves.Busy = true
 is_busy_move end = false
 
-abbrev pub moved : Spent → Kept → Kept
-moved spent kept = record kept { spent = spent }
+abbrev pub kept_drawn : Spent → MigratorKept → MigratorKept
+kept_drawn spent kept = record kept { spent = spent }

@@ -3,7 +3,7 @@
 ghost use Rattle.std.specs.Prelude.{◌≡◌};
 ghost use Rattle.nm_tally.specs.Counts.{zero_tally};
 ghost use Rattle.nm_migrator.specs.Planned.{is_busy_move};
-ghost use Rattle.nm_migrator.specs.Ends.{reply_in, seen_in, cooled_in, batch_in, move_in, drawn_in, all_ended_in, words_in, work_in, full_in, page_in, piece_counts, pieces_counts, move_counts, work_counts};
+ghost use Rattle.nm_migrator.specs.Ends.{mark_reply_in, looks_in, cooled_in, batch_in, move_in, drawn_in, all_ended_in, words_in, work_in, full_in, taken_page_in, piece_counts, pieces_counts, move_counts, migrator_counts};
 
 use nm_batch::PieceList;
 use nm_cool::Cooled;
@@ -37,8 +37,8 @@ pub(crate) fn full_in(end: &Ended<MigratorEnd>) -> bool
 }
 
 /// The page that was taken from a lane.
-pub(crate) fn page_in(end: &Ended<MigratorEnd>) -> Option<u32>
-    ensures { result ≡ page_in end.now }
+pub(crate) fn taken_page_in(end: &Ended<MigratorEnd>) -> Option<u32>
+    ensures { result ≡ taken_page_in end.now }
 {
     match end {
         Ended::Take(page) => *page,
@@ -47,8 +47,8 @@ pub(crate) fn page_in(end: &Ended<MigratorEnd>) -> Option<u32>
 }
 
 /// The reply to a Mark.
-pub(crate) fn reply_in(end: MigratorEnd) -> Reply
-    ensures { result ≡ reply_in end }
+pub(crate) fn mark_reply_in(end: MigratorEnd) -> Reply
+    ensures { result ≡ mark_reply_in end }
 {
     match end {
         MigratorWork::Mark(reply) => reply,
@@ -57,8 +57,8 @@ pub(crate) fn reply_in(end: MigratorEnd) -> Reply
 }
 
 /// What Looks have seen.
-pub(crate) fn seen_in(end: MigratorEnd) -> Seen
-    ensures { result ≡ seen_in end }
+pub(crate) fn looks_in(end: MigratorEnd) -> Seen
+    ensures { result ≡ looks_in end }
 {
     match end {
         MigratorWork::Looks(seen) => seen,
@@ -189,8 +189,8 @@ fn move_counts(end: LockedEnd) -> Tally
 }
 
 /// What the end of a piece of work counts.
-pub(crate) fn work_counts(end: &MigratorEnd) -> Tally
-    ensures { result ≡ work_counts end.now }
+pub(crate) fn migrator_counts(end: &MigratorEnd) -> Tally
+    ensures { result ≡ migrator_counts end.now }
 {
     match end {
         MigratorWork::Batch(told) => pieces_counts(&told.end),

@@ -5,15 +5,15 @@ ghost use Rattle.nm_transfer.specs.Stages.{HoldsWords};
 ghost use Rattle.nm_worker.specs.Routines.{task_data, IsNextTask, IsTaskOver, IsDrawn, HasTaskOver};
 ghost use Rattle.nm_view.specs.Views.{View};
 ghost use Rattle.nm_view.specs.Opening.{opening};
-ghost use Rattle.nm_migrator_work.specs.Works.{work_made, IsNewWork, MayWork, IsWork, WorkLeaves, WorkEnded};
+ghost use Rattle.nm_migrator_work.specs.Works.{migrator_work_made, IsNewMigratorWork, MayMigratorWork, IsMigratorWork, MigratorWorkLeaves, MigratorWorkEnded};
 ghost use Rattle.nm_migrator.specs.declared.migrating.MigratingStage.{MigratingStage};
-ghost use Rattle.nm_migrator.specs.Ends.{work_counts};
+ghost use Rattle.nm_migrator.specs.Ends.{migrator_counts};
 ghost use Rattle.nm_migrator.specs.Migrating.{IsMigrating};
-ghost use Rattle.nm_migrator.specs.Stages.{migrating_made, migrating_left, stage_task, IsNewTask, MayGo, IsNewMigrating, IsMigratingAt};
+ghost use Rattle.nm_migrator.specs.Stages.{migrating_made, migrating_left, stage_task, IsNewTask, MayComeTo, IsNewMigrating, IsMigratingAt};
 
 use crate::ends::{
-    all_ended_in, batch_in, cooled_in, drawn_in, full_in, is_busy_in, page_in, reply_in, seen_in,
-    words_in, work_counts, work_in,
+    all_ended_in, batch_in, cooled_in, drawn_in, full_in, is_busy_in, looks_in, mark_reply_in,
+    migrator_counts, taken_page_in, words_in, work_in,
 };
 use crate::lists::copied;
 use nm_base::Geometry;
@@ -129,10 +129,10 @@ impl<'a> Migrating<'a> {
 
     /// Comes to a stage, and gives its task.
     pub(crate) fn go(&mut self, stage: MigratingStage) -> Task<MigratorPiece<'a>>
-        requires { MayGo self.old stage }
+        requires { MayComeTo self.old stage }
         ensures stage { self.new ≡ record self.old { stage = stage } }
-        ensures made { task_data work_made result ≡ stage_task self.old stage }
-        ensures new { IsNewTask IsNewWork result }
+        ensures made { task_data migrator_work_made result ≡ stage_task self.old stage }
+        ensures new { IsNewTask IsNewMigratorWork result }
     {
         self.stage = stage;
         let g = self.geometry;
@@ -168,8 +168,8 @@ impl<'a> Migrating<'a> {
     pub(crate) fn go_move(&mut self, index: usize, page: u32, count: u32) -> Task<MigratorPiece<'a>>
         requires { HoldsWords self.old.words }
         ensures stage { self.new ≡ record self.old { stage = MigratingStage.Moving index page count; words = None } }
-        ensures made { task_data work_made result ≡ stage_task self.old (MigratingStage.Moving index page count) }
-        ensures new { IsNewTask IsNewWork result }
+        ensures made { task_data migrator_work_made result ≡ stage_task self.old (MigratingStage.Moving index page count) }
+        ensures new { IsNewTask IsNewMigratorWork result }
     {
         let Some(words) = self.words.take() else {
             unreachable!()
@@ -185,7 +185,7 @@ impl<'a> Routine<MigratorPiece<'a>> for Migrating<'a> {
 
     ghost use Rattle.nm_migrator.specs.Stages.{migrating_made, IsNewMigrating, IsMigratingAt, migrating_left};
     ghost use Rattle.nm_migrator.specs.Migrating.{IsMigrating};
-    ghost use Rattle.nm_migrator.specs.Ends.{work_counts};
+    ghost use Rattle.nm_migrator.specs.Ends.{migrator_counts};
 
     ghost made = { migrating_made };
 
@@ -197,7 +197,7 @@ impl<'a> Routine<MigratorPiece<'a>> for Migrating<'a> {
 
     ghost shape = { λ made. IsMigrating made.0 made.1 };
 
-    ghost counts = { work_counts };
+    ghost counts = { migrator_counts };
 
     ghost knows = { IsMigratingAt };
 
@@ -206,7 +206,7 @@ impl<'a> Routine<MigratorPiece<'a>> for Migrating<'a> {
     fn begin(&mut self) -> Task<MigratorPiece<'a>>
         requires { IsNewMigrating self.old }
         ensures made { migrating_made self.new ≡ migrating_made self.old }
-        ensures next { IsNextTask work_made IsNewWork MayWork IsWork work_counts (IsMigratingAt self.new) (migrating_left self.new) (IsMigrating self.old.geometry.now self.old.retry)
+        ensures next { IsNextTask migrator_work_made IsNewMigratorWork MayMigratorWork IsMigratorWork migrator_counts (IsMigratingAt self.new) (migrating_left self.new) (IsMigrating self.old.geometry.now self.old.retry)
             self.old.geometry.now (opening self.old.geometry.now self.old.geometry.now.cpus) result }
     {
         self.go(MigratingStage::TakingCandidate)
@@ -218,26 +218,26 @@ impl<'a> Routine<MigratorPiece<'a>> for Migrating<'a> {
         end: Ended<MigratorEnd>,
         _spent: Spent,
     ) -> Task<MigratorPiece<'a>>
-        requires { HasTaskOver work_made IsWork WorkLeaves WorkEnded (IsMigratingAt self.old) self.old.geometry.now _task.now end _spent }
+        requires { HasTaskOver migrator_work_made IsMigratorWork MigratorWorkLeaves MigratorWorkEnded (IsMigratingAt self.old) self.old.geometry.now _task.now end _spent }
         ensures made { migrating_made self.new ≡ migrating_made self.old }
-        ensures next { (now later : View) → IsMigratingAt self.old now (task_data work_made _task.now)
-            → IsTaskOver work_made IsWork WorkLeaves WorkEnded self.old.geometry.now now later _task.now end → IsDrawn _spent later
-            → IsNextTask work_made IsNewWork MayWork IsWork work_counts (IsMigratingAt self.new) (migrating_left self.new) (migrating_left self.old end) self.old.geometry.now later result }
+        ensures next { (now later : View) → IsMigratingAt self.old now (task_data migrator_work_made _task.now)
+            → IsTaskOver migrator_work_made IsMigratorWork MigratorWorkLeaves MigratorWorkEnded self.old.geometry.now now later _task.now end → IsDrawn _spent later
+            → IsNextTask migrator_work_made IsNewMigratorWork MayMigratorWork IsMigratorWork migrator_counts (IsMigratingAt self.new) (migrating_left self.new) (migrating_left self.old end) self.old.geometry.now later result }
     {
         match self.stage {
             MigratingStage::New => unreachable!(),
             MigratingStage::Over => unreachable!(),
-            MigratingStage::TakingCandidate => self.candidate(page_in(&end)),
-            MigratingStage::Judging(page) => self.judged(page, seen_in(work_in(end)).hot),
-            MigratingStage::Heating(page) => self.heated(page, reply_in(work_in(end))),
+            MigratingStage::TakingCandidate => self.candidate(taken_page_in(&end)),
+            MigratingStage::Judging(page) => self.judged(page, looks_in(work_in(end)).hot),
+            MigratingStage::Heating(page) => self.heated(page, mark_reply_in(work_in(end))),
             MigratingStage::PuttingHot(page) => self.put_hot(page, full_in(&end)),
             MigratingStage::Cooling(page) => self.cooled(page, cooled_in(work_in(end))),
             MigratingStage::PuttingBack(page) => self.put_back(page, full_in(&end)),
             MigratingStage::Spilling(_) => self.begin_pending(),
-            MigratingStage::TakingPending => self.pending(page_in(&end)),
+            MigratingStage::TakingPending => self.pending(taken_page_in(&end)),
             MigratingStage::PuttingTwice(page) => self.put_twice(page, full_in(&end)),
             MigratingStage::Planning { index, page } => {
-                self.planned(index, page, seen_in(work_in(end)).mapped)
+                self.planned(index, page, looks_in(work_in(end)).mapped)
             }
             MigratingStage::Batching => self.batched(batch_in(work_in(end))),
             MigratingStage::PuttingAgain { index, page } => {
@@ -253,14 +253,14 @@ impl<'a> Routine<MigratorPiece<'a>> for Migrating<'a> {
                 self.put_moved(index, page, full_in(&end))
             }
             MigratingStage::Asking => self.asked(all_ended_in(work_in(end))),
-            MigratingStage::TakingLast => self.last(page_in(&end)),
+            MigratingStage::TakingLast => self.last(taken_page_in(&end)),
             MigratingStage::Unmarking(page) => self.unmark_from(page + 1),
         }
     }
 
     fn counts(end: &MigratorEnd) -> Tally
-        ensures { result ≡ work_counts end.now }
+        ensures { result ≡ migrator_counts end.now }
     {
-        work_counts(end)
+        migrator_counts(end)
     }
 }

@@ -4,9 +4,9 @@ ghost use Rattle.std.specs.Prelude.{◌≡◌, ◌+◌, ◌<◌, ◌≤◌, [], 
 ghost use Rattle.nm_base.specs.Geometry.{page_count};
 ghost use Rattle.nm_transfer.specs.Stages.{HoldsWords};
 ghost use Rattle.nm_vpages.specs.VPages.{most_vpages};
-ghost use Rattle.nm_migrator_work.specs.Works.{IsNewWork};
+ghost use Rattle.nm_migrator_work.specs.Works.{IsNewMigratorWork};
 ghost use Rattle.nm_migrator.specs.Planned.{most_taken};
-ghost use Rattle.nm_migrator.specs.Stages.{kept_of, plan_of, migrating_made, CandidateLeft, LastLeft, JudgedLeft, HeatedLeft, CooledLeft, BackLeft, PutLeft, CandidatesLeft, PendingLeft, TakenLeft, TakesLeft, PageLeft, PlansLeft, PlannedLeft, BatchesLeft, BatchedLeft, AgainLeft, MovesLeft, MovedLeft, AskedLeft, UnmarksLeft, HasCounts, IsKept, IsCandidate, HasTaken, IsTaking, HasPlan, IsPlanning, HasPlanned, IsBatching, HasMoves, HasAgain, IsPuttingAgain, IsPuttingMoved, IsMove, Gives};
+ghost use Rattle.nm_migrator.specs.Stages.{migrator_kept, migrator_plan, migrating_made, CandidateLeft, LastLeft, JudgedLeft, HeatedLeft, CooledLeft, BackLeft, PutLeft, CandidatesLeft, PendingLeft, TakenLeft, TakesLeft, PageLeft, PlansLeft, PlannedLeft, BatchesLeft, BatchedLeft, AgainLeft, MovesLeft, MovedLeft, AskedLeft, UnmarksLeft, HasAborts, IsMigratorKept, IsCandidate, HasTakenPages, IsTakingPages, HasPlan, IsPlanning, HasPlanned, IsBatching, HasMoves, HasAgain, IsPuttingAgain, IsPuttingMoved, IsMove, Gives};
 
 use crate::lists::{
     aborts_of, again_of, clear_aborts, count_aborts_in, first_or, is_among, is_mapped,
@@ -30,9 +30,9 @@ impl<'a> Migrating<'a> {
     /// After a candidate was taken: it is judged. Where there was none, pending pages are taken; one to which no virtual page
     /// is mapped is dropped.
     pub(crate) fn candidate(&mut self, page: Option<u32>) -> Task<MigratorPiece<'a>>
-        requires { IsKept self.old }
+        requires { IsMigratorKept self.old }
         ensures made { migrating_made self.new ≡ migrating_made self.old }
-        ensures next { Gives IsNewWork self.old.geometry.now self.old.spent self.new result (CandidateLeft self.old page) }
+        ensures next { Gives IsNewMigratorWork self.old.geometry.now self.old.spent self.new result (CandidateLeft self.old page) }
     {
         match page {
             None => self.begin_pending(),
@@ -48,9 +48,9 @@ impl<'a> Migrating<'a> {
 
     /// After a candidate was taken once more: it is judged. Where there was none, no page is a candidate any more.
     pub(crate) fn last(&mut self, page: Option<u32>) -> Task<MigratorPiece<'a>>
-        requires { IsKept self.old }
+        requires { IsMigratorKept self.old }
         ensures made { migrating_made self.new ≡ migrating_made self.old }
-        ensures next { Gives IsNewWork self.old.geometry.now self.old.spent self.new result (LastLeft self.old page) }
+        ensures next { Gives IsNewMigratorWork self.old.geometry.now self.old.spent self.new result (LastLeft self.old page) }
     {
         match page {
             None => self.unmark_from(0),
@@ -68,7 +68,7 @@ impl<'a> Migrating<'a> {
     pub(crate) fn judged(&mut self, page: u32, hot: bool) -> Task<MigratorPiece<'a>>
         requires { IsCandidate self.old page }
         ensures made { migrating_made self.new ≡ migrating_made self.old }
-        ensures next { Gives IsNewWork self.old.geometry.now self.old.spent self.new result (JudgedLeft self.old page hot) }
+        ensures next { Gives IsNewMigratorWork self.old.geometry.now self.old.spent self.new result (JudgedLeft self.old page hot) }
     {
         if hot {
             clear_aborts(&mut self.aborts, page);
@@ -82,7 +82,7 @@ impl<'a> Migrating<'a> {
     pub(crate) fn heated(&mut self, page: u32, reply: Reply) -> Task<MigratorPiece<'a>>
         requires { IsCandidate self.old page }
         ensures made { migrating_made self.new ≡ migrating_made self.old }
-        ensures next { Gives IsNewWork self.old.geometry.now self.old.spent self.new result (HeatedLeft self.old page reply) }
+        ensures next { Gives IsNewMigratorWork self.old.geometry.now self.old.spent self.new result (HeatedLeft self.old page reply) }
     {
         match reply {
             Reply::Done => self.go(MigratingStage::PuttingHot(page)),
@@ -96,7 +96,7 @@ impl<'a> Migrating<'a> {
     pub(crate) fn put_hot(&mut self, page: u32, full: bool) -> Task<MigratorPiece<'a>>
         requires { IsCandidate self.old page }
         ensures made { migrating_made self.new ≡ migrating_made self.old }
-        ensures next { Gives IsNewWork self.old.geometry.now self.old.spent self.new result (λ n. PutLeft page full (CandidatesLeft self.old n)) }
+        ensures next { Gives IsNewMigratorWork self.old.geometry.now self.old.spent self.new result (λ n. PutLeft page full (CandidatesLeft self.old n)) }
     {
         if full {
             self.go(MigratingStage::PuttingHot(page))
@@ -109,7 +109,7 @@ impl<'a> Migrating<'a> {
     pub(crate) fn cooled(&mut self, page: u32, end: Cooled) -> Task<MigratorPiece<'a>>
         requires { IsCandidate self.old page }
         ensures made { migrating_made self.new ≡ migrating_made self.old }
-        ensures next { Gives IsNewWork self.old.geometry.now self.old.spent self.new result (CooledLeft self.old page end) }
+        ensures next { Gives IsNewMigratorWork self.old.geometry.now self.old.spent self.new result (CooledLeft self.old page end) }
     {
         match end {
             Cooled::Busy => self.go(MigratingStage::PuttingBack(page)),
@@ -121,7 +121,7 @@ impl<'a> Migrating<'a> {
     pub(crate) fn put_back(&mut self, page: u32, full: bool) -> Task<MigratorPiece<'a>>
         requires { IsCandidate self.old page }
         ensures made { migrating_made self.new ≡ migrating_made self.old }
-        ensures next { Gives IsNewWork self.old.geometry.now self.old.spent self.new result (BackLeft self.old page full) }
+        ensures next { Gives IsNewMigratorWork self.old.geometry.now self.old.spent self.new result (BackLeft self.old page full) }
     {
         if full {
             self.go(MigratingStage::Spilling(page))
@@ -132,9 +132,9 @@ impl<'a> Migrating<'a> {
 
     /// Begins to take pending pages.
     pub(crate) fn begin_pending(&mut self) -> Task<MigratorPiece<'a>>
-        requires { IsKept self.old }
+        requires { IsMigratorKept self.old }
         ensures made { migrating_made self.new ≡ migrating_made self.old }
-        ensures next { Gives IsNewWork self.old.geometry.now self.old.spent self.new result (PendingLeft self.old) }
+        ensures next { Gives IsNewMigratorWork self.old.geometry.now self.old.spent self.new result (PendingLeft self.old) }
     {
         self.taken = PieceList::new();
         self.take_pending()
@@ -142,9 +142,9 @@ impl<'a> Migrating<'a> {
 
     /// Takes a pending page, where fewer than eight were taken.
     fn take_pending(&mut self) -> Task<MigratorPiece<'a>>
-        requires { HasTaken self.old }
+        requires { HasTakenPages self.old }
         ensures made { migrating_made self.new ≡ migrating_made self.old }
-        ensures next { Gives IsNewWork self.old.geometry.now self.old.spent self.new result (TakesLeft self.old) }
+        ensures next { Gives IsNewMigratorWork self.old.geometry.now self.old.spent self.new result (TakesLeft self.old) }
     {
         if self.taken.len() < MOST_TAKEN {
             self.go(MigratingStage::TakingPending)
@@ -156,9 +156,9 @@ impl<'a> Migrating<'a> {
     /// After a pending page was taken: the next is taken. Where there was none, that was all; a page that was taken already is
     /// put back; one to which no virtual page is mapped is dropped.
     pub(crate) fn pending(&mut self, page: Option<u32>) -> Task<MigratorPiece<'a>>
-        requires { IsTaking self.old }
+        requires { IsTakingPages self.old }
         ensures made { migrating_made self.new ≡ migrating_made self.old }
-        ensures next { Gives IsNewWork self.old.geometry.now self.old.spent self.new result (PageLeft self.old page) }
+        ensures next { Gives IsNewMigratorWork self.old.geometry.now self.old.spent self.new result (PageLeft self.old page) }
     {
         match page {
             None => self.all_taken(),
@@ -178,9 +178,9 @@ impl<'a> Migrating<'a> {
     /// After all pending pages were taken: they are looked at. Where there is none, the processors are asked whether they have
     /// ended.
     fn all_taken(&mut self) -> Task<MigratorPiece<'a>>
-        requires { HasTaken self.old }
+        requires { HasTakenPages self.old }
         ensures made { migrating_made self.new ≡ migrating_made self.old }
-        ensures next { Gives IsNewWork self.old.geometry.now self.old.spent self.new result (TakenLeft self.old self.old.taken) }
+        ensures next { Gives IsNewMigratorWork self.old.geometry.now self.old.spent self.new result (TakenLeft self.old self.old.taken) }
     {
         match self.taken.get(0) {
             None => self.go(MigratingStage::Asking),
@@ -194,9 +194,9 @@ impl<'a> Migrating<'a> {
 
     /// After a page was put back that was taken already: again while the lane is full.
     pub(crate) fn put_twice(&mut self, page: u32, full: bool) -> Task<MigratorPiece<'a>>
-        requires { HasTaken self.old }
+        requires { HasTakenPages self.old }
         ensures made { migrating_made self.new ≡ migrating_made self.old }
-        ensures next { Gives IsNewWork self.old.geometry.now self.old.spent self.new result (λ n. PutLeft page full (TakenLeft self.old self.old.taken n)) }
+        ensures next { Gives IsNewMigratorWork self.old.geometry.now self.old.spent self.new result (λ n. PutLeft page full (TakenLeft self.old self.old.taken n)) }
     {
         if full {
             self.go(MigratingStage::PuttingTwice(page))
@@ -209,7 +209,7 @@ impl<'a> Migrating<'a> {
     fn plan_from(&mut self, index: usize) -> Task<MigratorPiece<'a>>
         requires { HasPlan self.old index }
         ensures made { migrating_made self.new ≡ migrating_made self.old }
-        ensures next { Gives IsNewWork self.old.geometry.now self.old.spent self.new result (PlansLeft self.old index (plan_of self.old)) }
+        ensures next { Gives IsNewMigratorWork self.old.geometry.now self.old.spent self.new result (PlansLeft self.old index (migrator_plan self.old)) }
     {
         match self.taken.get(index) {
             Some(page) => self.go(MigratingStage::Planning { index, page }),
@@ -226,7 +226,7 @@ impl<'a> Migrating<'a> {
     ) -> Task<MigratorPiece<'a>>
         requires { IsPlanning self.old index page }
         ensures made { migrating_made self.new ≡ migrating_made self.old }
-        ensures next { Gives IsNewWork self.old.geometry.now self.old.spent self.new result (PlannedLeft self.old index page mapped) }
+        ensures next { Gives IsNewMigratorWork self.old.geometry.now self.old.spent self.new result (PlannedLeft self.old index page mapped) }
     {
         let count = mapped.len();
         let aborts = aborts_of(&self.aborts, page);
@@ -244,7 +244,7 @@ impl<'a> Migrating<'a> {
     fn batch(&mut self) -> Task<MigratorPiece<'a>>
         requires { HasPlanned self.old }
         ensures made { migrating_made self.new ≡ migrating_made self.old }
-        ensures next { Gives IsNewWork self.old.geometry.now self.old.spent self.new result (BatchesLeft self.old) }
+        ensures next { Gives IsNewMigratorWork self.old.geometry.now self.old.spent self.new result (BatchesLeft self.old) }
     {
         match self.pieces.get(0) {
             Some(_) => self.go(MigratingStage::Batching),
@@ -257,7 +257,7 @@ impl<'a> Migrating<'a> {
     pub(crate) fn batched(&mut self, told: Drawn<PieceList<TxnEnd>>) -> Task<MigratorPiece<'a>>
         requires { IsBatching self.old }
         ensures made { migrating_made self.new ≡ migrating_made self.old }
-        ensures next { Gives IsNewWork self.old.geometry.now told.spent self.new result (BatchedLeft self.old told) }
+        ensures next { Gives IsNewMigratorWork self.old.geometry.now told.spent self.new result (BatchedLeft self.old told) }
     {
         count_aborts_in(&mut self.aborts, &self.pieces, &told.end);
         self.again = again_of(&self.pieces, &told.end);
@@ -269,7 +269,7 @@ impl<'a> Migrating<'a> {
     fn again_from(&mut self, index: usize) -> Task<MigratorPiece<'a>>
         requires { HasAgain self.old }
         ensures made { migrating_made self.new ≡ migrating_made self.old }
-        ensures next { Gives IsNewWork self.old.geometry.now self.old.spent self.new result (AgainLeft self.old index) }
+        ensures next { Gives IsNewMigratorWork self.old.geometry.now self.old.spent self.new result (AgainLeft self.old index) }
     {
         match self.again.get(index) {
             Some(page) => self.go(MigratingStage::PuttingAgain { index, page }),
@@ -286,7 +286,7 @@ impl<'a> Migrating<'a> {
     ) -> Task<MigratorPiece<'a>>
         requires { IsPuttingAgain self.old index }
         ensures made { migrating_made self.new ≡ migrating_made self.old }
-        ensures next { Gives IsNewWork self.old.geometry.now self.old.spent self.new result (λ n. PutLeft page full (AgainLeft self.old (index + 1) n)) }
+        ensures next { Gives IsNewMigratorWork self.old.geometry.now self.old.spent self.new result (λ n. PutLeft page full (AgainLeft self.old (index + 1) n)) }
     {
         if full {
             self.go(MigratingStage::PuttingAgain { index, page })
@@ -299,7 +299,7 @@ impl<'a> Migrating<'a> {
     fn move_from(&mut self, index: usize) -> Task<MigratorPiece<'a>>
         requires { HasMoves self.old }
         ensures made { migrating_made self.new ≡ migrating_made self.old }
-        ensures next { Gives IsNewWork self.old.geometry.now self.old.spent self.new result (MovesLeft self.old index (kept_of self.old)) }
+        ensures next { Gives IsNewMigratorWork self.old.geometry.now self.old.spent self.new result (MovesLeft self.old index (migrator_kept self.old)) }
     {
         match self.moves.get(index) {
             Some((page, count)) => self.go_move(index, page, count),
@@ -317,13 +317,13 @@ impl<'a> Migrating<'a> {
         spent: Spent,
         words: Option<TakenWords>,
     ) -> Task<MigratorPiece<'a>>
-        requires has { HasCounts self.old.geometry.now self.old.aborts.items }
+        requires has { HasAborts self.old.geometry.now self.old.aborts.items }
         requires moves { All (IsMove self.old.geometry.now) self.old.moves }
         requires few { length self.old.moves ≤ most_taken }
         requires index { index < most_taken }
         requires words { HoldsWords words }
         ensures made { migrating_made self.new ≡ migrating_made self.old }
-        ensures next { Gives IsNewWork self.old.geometry.now spent self.new result (MovedLeft self.old index page busy spent) }
+        ensures next { Gives IsNewMigratorWork self.old.geometry.now spent self.new result (MovedLeft self.old index page busy spent) }
     {
         self.spent = spent;
         self.words = words;
@@ -343,7 +343,7 @@ impl<'a> Migrating<'a> {
     ) -> Task<MigratorPiece<'a>>
         requires { IsPuttingMoved self.old index }
         ensures made { migrating_made self.new ≡ migrating_made self.old }
-        ensures next { Gives IsNewWork self.old.geometry.now self.old.spent self.new result (λ n. PutLeft page full (MovesLeft self.old (index + 1) (kept_of self.old) n)) }
+        ensures next { Gives IsNewMigratorWork self.old.geometry.now self.old.spent self.new result (λ n. PutLeft page full (MovesLeft self.old (index + 1) (migrator_kept self.old) n)) }
     {
         if full {
             self.go(MigratingStage::PuttingMoved { index, page })
@@ -354,9 +354,9 @@ impl<'a> Migrating<'a> {
 
     /// After the processors were asked: where all have ended, a candidate is taken once more.
     pub(crate) fn asked(&mut self, all: bool) -> Task<MigratorPiece<'a>>
-        requires { IsKept self.old }
+        requires { IsMigratorKept self.old }
         ensures made { migrating_made self.new ≡ migrating_made self.old }
-        ensures next { Gives IsNewWork self.old.geometry.now self.old.spent self.new result (AskedLeft self.old all) }
+        ensures next { Gives IsNewMigratorWork self.old.geometry.now self.old.spent self.new result (AskedLeft self.old all) }
     {
         if all {
             self.go(MigratingStage::TakingLast)
@@ -367,9 +367,9 @@ impl<'a> Migrating<'a> {
 
     /// Makes this page no candidate any more; where there is none, the migrator ends.
     pub(crate) fn unmark_from(&mut self, page: u32) -> Task<MigratorPiece<'a>>
-        requires { IsKept self.old }
+        requires { IsMigratorKept self.old }
         ensures made { migrating_made self.new ≡ migrating_made self.old }
-        ensures next { Gives IsNewWork self.old.geometry.now self.old.spent self.new result (UnmarksLeft self.old page) }
+        ensures next { Gives IsNewMigratorWork self.old.geometry.now self.old.spent self.new result (UnmarksLeft self.old page) }
     {
         if page < self.geometry.pages() {
             self.go(MigratingStage::Unmarking(page))

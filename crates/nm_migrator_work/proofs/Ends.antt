@@ -10,9 +10,9 @@ use Rattle.nm_txn.specs.declared.end.TxnEnd.{TxnEnd}
 use Rattle.nm_locked.specs.declared.locked.LockedOver.{LockedOver}
 use Rattle.nm_drawing.specs.declared.drawing.Drawn.{Drawn}
 use Rattle.nm_migrator_work.specs.declared.work.MigratorWork.TheVariants as works
-use Rattle.nm_migrator_work.specs.Works.{WorkEnd, WorkLeaves, made_mark, made_looks, made_cool, made_batch, made_move, made_ask}
+use Rattle.nm_migrator_work.specs.Works.{MigratorWorkEnd, MigratorWorkLeaves, made_mark, made_looks, made_cool, made_batch, made_move, made_ask}
 
-pub mark-kind : (g : Geometry) (page from to : ℕ) (now later : View) (end : WorkEnd) → WorkLeaves (made_mark page from to) g now end later → (x : Reply) × (end ≡ works.Mark x)
+pub mark-kind : (g : Geometry) (page from to : ℕ) (now later : View) (end : MigratorWorkEnd) → MigratorWorkLeaves (made_mark page from to) g now end later → (x : Reply) × (end ≡ works.Mark x)
 mark-kind g page from to now later (works.Mark x) h = (x, refl)
 mark-kind g page from to now later (works.Looks x) h = absurd h
 mark-kind g page from to now later (works.Cool x) h = absurd h
@@ -20,7 +20,7 @@ mark-kind g page from to now later (works.Batch x) h = absurd h
 mark-kind g page from to now later (works.Move x) h = absurd h
 mark-kind g page from to now later (works.Ask x) h = absurd h
 
-pub looks-kind : (g : Geometry) (page : ℕ) (now later : View) (end : WorkEnd) → WorkLeaves (made_looks g page) g now end later → (x : Seen) × (end ≡ works.Looks x)
+pub looks-kind : (g : Geometry) (page : ℕ) (now later : View) (end : MigratorWorkEnd) → MigratorWorkLeaves (made_looks g page) g now end later → (x : Seen) × (end ≡ works.Looks x)
 looks-kind g page now later (works.Mark x) h = absurd h
 looks-kind g page now later (works.Looks x) h = (x, refl)
 looks-kind g page now later (works.Cool x) h = absurd h
@@ -28,7 +28,7 @@ looks-kind g page now later (works.Batch x) h = absurd h
 looks-kind g page now later (works.Move x) h = absurd h
 looks-kind g page now later (works.Ask x) h = absurd h
 
-pub cool-kind : (g : Geometry) (page : ℕ) (now later : View) (end : WorkEnd) → WorkLeaves (made_cool g page) g now end later → (x : Cooled) × (end ≡ works.Cool x)
+pub cool-kind : (g : Geometry) (page : ℕ) (now later : View) (end : MigratorWorkEnd) → MigratorWorkLeaves (made_cool g page) g now end later → (x : Cooled) × (end ≡ works.Cool x)
 cool-kind g page now later (works.Mark x) h = absurd h
 cool-kind g page now later (works.Looks x) h = absurd h
 cool-kind g page now later (works.Cool x) h = (x, refl)
@@ -36,7 +36,7 @@ cool-kind g page now later (works.Batch x) h = absurd h
 cool-kind g page now later (works.Move x) h = absurd h
 cool-kind g page now later (works.Ask x) h = absurd h
 
-pub batch-kind : (g : Geometry) (pieces : List (ℕ × ℕ)) (begun : Spent) (now later : View) (end : WorkEnd) → WorkLeaves (made_batch g pieces begun) g now end later → (x : Drawn (List TxnEnd)) × (end ≡ works.Batch x)
+pub batch-kind : (g : Geometry) (pieces : List (ℕ × ℕ)) (begun : Spent) (now later : View) (end : MigratorWorkEnd) → MigratorWorkLeaves (made_batch g pieces begun) g now end later → (x : Drawn (List TxnEnd)) × (end ≡ works.Batch x)
 batch-kind g pieces begun now later (works.Mark x) h = absurd h
 batch-kind g pieces begun now later (works.Looks x) h = absurd h
 batch-kind g pieces begun now later (works.Cool x) h = absurd h
@@ -44,7 +44,7 @@ batch-kind g pieces begun now later (works.Batch x) h = (x, refl)
 batch-kind g pieces begun now later (works.Move x) h = absurd h
 batch-kind g pieces begun now later (works.Ask x) h = absurd h
 
-pub move-kind : (g : Geometry) (page count : ℕ) (begun : Spent) (now later : View) (end : WorkEnd) → WorkLeaves (made_move g page count begun) g now end later → (x : Drawn LockedOver) × (end ≡ works.Move x)
+pub move-kind : (g : Geometry) (page count : ℕ) (begun : Spent) (now later : View) (end : MigratorWorkEnd) → MigratorWorkLeaves (made_move g page count begun) g now end later → (x : Drawn LockedOver) × (end ≡ works.Move x)
 move-kind g page count begun now later (works.Mark x) h = absurd h
 move-kind g page count begun now later (works.Looks x) h = absurd h
 move-kind g page count begun now later (works.Cool x) h = absurd h
@@ -52,7 +52,7 @@ move-kind g page count begun now later (works.Batch x) h = absurd h
 move-kind g page count begun now later (works.Move x) h = (x, refl)
 move-kind g page count begun now later (works.Ask x) h = absurd h
 
-pub ask-kind : (g : Geometry) (now later : View) (end : WorkEnd) → WorkLeaves (made_ask g) g now end later → (x : Bool) × (end ≡ works.Ask x)
+pub ask-kind : (g : Geometry) (now later : View) (end : MigratorWorkEnd) → MigratorWorkLeaves (made_ask g) g now end later → (x : Bool) × (end ≡ works.Ask x)
 ask-kind g now later (works.Mark x) h = absurd h
 ask-kind g now later (works.Looks x) h = absurd h
 ask-kind g now later (works.Cool x) h = absurd h

@@ -31,7 +31,7 @@ use Rattle.nm_ended.proofs.Asking.{some-asking}
 use Rattle.nm_drawing.specs.declared.drawing.Drawn.{Drawn}
 use Rattle.nm_drawing.specs.Draws.{IsDrawingList, drawn_over}
 use Rattle.nm_migrator_work.specs.declared.work.MigratorWork.TheVariants as works
-use Rattle.nm_migrator_work.specs.Works.{WorkMade, IsWork, made_ask}
+use Rattle.nm_migrator_work.specs.Works.{MigratorWorkMade, IsMigratorWork, made_ask}
 
 -- A page whose lock is held.
 
@@ -76,7 +76,7 @@ with-words : (pattern : Own → LockedEnd → Type 0) → CanEnd pattern → Can
 with-words pattern can = record { rest = can.rest; outcome = record { end = can.outcome; taken = [] }; shown = can.shown }
 
 -- every work has a finished list
-pub some-migrator-work : (work : WorkMade) (g : Geometry) → CanEnd (IsWork work g)
+pub some-migrator-work : (work : MigratorWorkMade) (g : Geometry) → CanEnd (IsMigratorWork work g)
 some-migrator-work (works.Mark action) g = let can = some-act action g in record { rest = can.rest; outcome = works.Mark can.outcome; shown = can.shown }
 some-migrator-work (works.Looks made) g = let can = some-looks made g in record { rest = can.rest; outcome = works.Looks can.outcome; shown = can.shown }
 some-migrator-work (works.Cool made) g = let can = some-cooling made g in record { rest = can.rest; outcome = works.Cool can.outcome; shown = can.shown }
@@ -98,5 +98,5 @@ all-asked g cpu (suc more) =
     )
 
 -- there is a list in which all have ended
-pub all-ended : (g : Geometry) → (own : Own) × (IsWork (made_ask g) g own (works.Ask true))
+pub all-ended : (g : Geometry) → (own : Own) × (IsMigratorWork (made_ask g) g own (works.Ask true))
 all-ended g = all-asked g 0 g.cpus

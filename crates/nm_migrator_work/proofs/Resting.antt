@@ -24,7 +24,7 @@ use Rattle.nm_locked.specs.Leaving.{IsLockedLeft}
 use Rattle.nm_drawing.specs.declared.drawing.Drawn.{Drawn}
 use Rattle.nm_worker.specs.Routines.{IsDrawn, IsLeftEmpty}
 use Rattle.nm_migrator_work.specs.declared.work.MigratorWork.TheVariants as works
-use Rattle.nm_migrator_work.specs.Works.{WorkEnd, WorkLeaves, made_mark, made_looks, made_cool, made_batch, made_move, made_ask}
+use Rattle.nm_migrator_work.specs.Works.{MigratorWorkEnd, MigratorWorkLeaves, made_mark, made_looks, made_cool, made_batch, made_move, made_ask}
 
 -- the view is empty, and so much is drawn
 abbrev pub RestsWith : Spent → View → Type 0
@@ -47,8 +47,8 @@ left-empty page now later scan bumps raises is rests =
     let R : View → Type 0 = λ v. IsLeftEmpty v in
     subst R (sym is) (record { ops = rests.ops; owned = spoiled-none page now.owned rests.owned; turn = rests.turn })
 
-pub mark-rests : (g : Geometry) (page from to : ℕ) (now later : View) (end : WorkEnd) (spent : Spent)
-    → IsLeftEmpty now → IsDrawn spent now → WorkLeaves (made_mark page from to) g now end later → RestsWith spent later
+pub mark-rests : (g : Geometry) (page from to : ℕ) (now later : View) (end : MigratorWorkEnd) (spent : Spent)
+    → IsLeftEmpty now → IsDrawn spent now → MigratorWorkLeaves (made_mark page from to) g now end later → RestsWith spent later
 mark-rests g page from to now later (works.Mark reply) spent rests drawn h = same-rests now later spent h.is rests drawn
 mark-rests g page from to now later (works.Looks x) spent rests drawn h = absurd h
 mark-rests g page from to now later (works.Cool x) spent rests drawn h = absurd h
@@ -59,8 +59,8 @@ mark-rests g page from to now later (works.Ask x) spent rests drawn h = absurd h
 looks-same : (page : ℕ) (told : List (ℕ × ℕ)) (ops : List Op) → ops ≡ [] → edit page_of page (visited visits.Look told) ops ≡ []
 looks-same page told ops none = rw none refl
 
-pub looks-rests : (g : Geometry) (page : ℕ) (now later : View) (end : WorkEnd) (spent : Spent)
-    → IsLeftEmpty now → IsDrawn spent now → WorkLeaves (made_looks g page) g now end later → RestsWith spent later
+pub looks-rests : (g : Geometry) (page : ℕ) (now later : View) (end : MigratorWorkEnd) (spent : Spent)
+    → IsLeftEmpty now → IsDrawn spent now → MigratorWorkLeaves (made_looks g page) g now end later → RestsWith spent later
 looks-rests g page now later (works.Looks seen) spent rests drawn h =
     let R : View → Type 0 = λ v. RestsWith spent v in
     subst R (sym h.is) (record { ops = looks-same page h.told now.ops rests.ops; owned = rests.owned; turn = rests.turn }, record { bumps = drawn.bumps; raises = drawn.raises })
@@ -77,8 +77,8 @@ cooled-rests g page now later cooled.Cold spent rests drawn h =
     let R : View → Type 0 = λ v. RestsWith spent v in
     subst R (sym h) (record { ops = rests.ops; owned = spoiled-none page now.owned rests.owned; turn = rests.turn }, record { bumps = drawn.bumps; raises = drawn.raises })
 
-pub cool-rests : (g : Geometry) (page : ℕ) (now later : View) (end : WorkEnd) (spent : Spent)
-    → IsLeftEmpty now → IsDrawn spent now → WorkLeaves (made_cool g page) g now end later → RestsWith spent later
+pub cool-rests : (g : Geometry) (page : ℕ) (now later : View) (end : MigratorWorkEnd) (spent : Spent)
+    → IsLeftEmpty now → IsDrawn spent now → MigratorWorkLeaves (made_cool g page) g now end later → RestsWith spent later
 cool-rests g page now later (works.Cool end) spent rests drawn h = cooled-rests g page now later end spent rests drawn h
 cool-rests g page now later (works.Mark x) spent rests drawn h = absurd h
 cool-rests g page now later (works.Looks x) spent rests drawn h = absurd h
@@ -86,8 +86,8 @@ cool-rests g page now later (works.Batch x) spent rests drawn h = absurd h
 cool-rests g page now later (works.Move x) spent rests drawn h = absurd h
 cool-rests g page now later (works.Ask x) spent rests drawn h = absurd h
 
-pub ask-rests : (g : Geometry) (now later : View) (end : WorkEnd) (spent : Spent)
-    → IsLeftEmpty now → IsDrawn spent now → WorkLeaves (made_ask g) g now end later → RestsWith spent later
+pub ask-rests : (g : Geometry) (now later : View) (end : MigratorWorkEnd) (spent : Spent)
+    → IsLeftEmpty now → IsDrawn spent now → MigratorWorkLeaves (made_ask g) g now end later → RestsWith spent later
 ask-rests g now later (works.Ask all) spent rests drawn h = same-rests now later spent h rests drawn
 ask-rests g now later (works.Mark x) spent rests drawn h = absurd h
 ask-rests g now later (works.Looks x) spent rests drawn h = absurd h
@@ -96,7 +96,7 @@ ask-rests g now later (works.Batch x) spent rests drawn h = absurd h
 ask-rests g now later (works.Move x) spent rests drawn h = absurd h
 
 pub batch-rests : (g : Geometry) (pieces : List (ℕ × ℕ)) (begun : Spent) (now later : View) (told : Drawn (List TxnEnd))
-    → IsLeftEmpty now → WorkLeaves (made_batch g pieces begun) g now (works.Batch told) later → IsLeftEmpty later × IsDrawn told.spent later × (length told.end ≡ length pieces)
+    → IsLeftEmpty now → MigratorWorkLeaves (made_batch g pieces begun) g now (works.Batch told) later → IsLeftEmpty later × IsDrawn told.spent later × (length told.end ≡ length pieces)
 batch-rests g pieces begun now later told rests h =
     let R : View → Type 0 = λ v. IsLeftEmpty v in
     (subst R (sym h.left.is) (record { ops = rests.ops; owned = spoiled-each-none h.left.pages now.owned rests.owned; turn = rests.turn }), h.drawn, h.left.count)
@@ -112,5 +112,5 @@ moved-rests made now later ends.Worn rests h = closed-rests made.page now later 
 moved-rests made now later ends.Busy rests h = let R : View → Type 0 = λ v. IsLeftEmpty v in subst R (sym h) rests
 
 pub move-rests : (g : Geometry) (page count : ℕ) (begun : Spent) (now later : View) (told : Drawn LockedOver)
-    → IsLeftEmpty now → WorkLeaves (made_move g page count begun) g now (works.Move told) later → IsLeftEmpty later × IsDrawn told.spent later
+    → IsLeftEmpty now → MigratorWorkLeaves (made_move g page count begun) g now (works.Move told) later → IsLeftEmpty later × IsDrawn told.spent later
 move-rests g page count begun now later told rests h = (moved-rests (record { page = page; count = count; spent = begun }) now later told.end.end rests h.left, h.drawn)

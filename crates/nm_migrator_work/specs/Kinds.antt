@@ -44,14 +44,14 @@ MayBy mark looks cool batch locked ask (Move m) g view = locked m g view
 MayBy mark looks cool batch locked ask (Ask m) g view = ask m g view
 
 -- a finished list of it, and the end that this shows, which is of its kind
-abbrev pub IsBy : {M1 M2 M3 M4 M5 M6 X1 X2 X3 X4 X5 X6 : Type 0} → (M1 → Geometry → Own → X1 → Type 0) → (M2 → Geometry → Own → X2 → Type 0) → (M3 → Geometry → Own → X3 → Type 0) → (M4 → Geometry → Own → X4 → Type 0) → (M5 → Geometry → Own → X5 → Type 0) → (M6 → Geometry → Own → X6 → Type 0) → MigratorWork M1 M2 M3 M4 M5 M6 → Geometry → Own → MigratorWork X1 X2 X3 X4 X5 X6 → Type 0
-IsBy mark looks cool batch locked ask (Mark m) g own (Mark x) = mark m g own x
-IsBy mark looks cool batch locked ask (Looks m) g own (Looks x) = looks m g own x
-IsBy mark looks cool batch locked ask (Cool m) g own (Cool x) = cool m g own x
-IsBy mark looks cool batch locked ask (Batch m) g own (Batch x) = batch m g own x
-IsBy mark looks cool batch locked ask (Move m) g own (Move x) = locked m g own x
-IsBy mark looks cool batch locked ask (Ask m) g own (Ask x) = ask m g own x
-IsBy mark looks cool batch locked ask m g own x = ⊥
+abbrev pub IsListBy : {M1 M2 M3 M4 M5 M6 X1 X2 X3 X4 X5 X6 : Type 0} → (M1 → Geometry → Own → X1 → Type 0) → (M2 → Geometry → Own → X2 → Type 0) → (M3 → Geometry → Own → X3 → Type 0) → (M4 → Geometry → Own → X4 → Type 0) → (M5 → Geometry → Own → X5 → Type 0) → (M6 → Geometry → Own → X6 → Type 0) → MigratorWork M1 M2 M3 M4 M5 M6 → Geometry → Own → MigratorWork X1 X2 X3 X4 X5 X6 → Type 0
+IsListBy mark looks cool batch locked ask (Mark m) g own (Mark x) = mark m g own x
+IsListBy mark looks cool batch locked ask (Looks m) g own (Looks x) = looks m g own x
+IsListBy mark looks cool batch locked ask (Cool m) g own (Cool x) = cool m g own x
+IsListBy mark looks cool batch locked ask (Batch m) g own (Batch x) = batch m g own x
+IsListBy mark looks cool batch locked ask (Move m) g own (Move x) = locked m g own x
+IsListBy mark looks cool batch locked ask (Ask m) g own (Ask x) = ask m g own x
+IsListBy mark looks cool batch locked ask m g own x = ⊥
 
 -- what it leaves
 abbrev pub LeavesBy : {M1 M2 M3 M4 M5 M6 X1 X2 X3 X4 X5 X6 : Type 0} → (M1 → Geometry → View → X1 → View → Type 0) → (M2 → Geometry → View → X2 → View → Type 0) → (M3 → Geometry → View → X3 → View → Type 0) → (M4 → Geometry → View → X4 → View → Type 0) → (M5 → Geometry → View → X5 → View → Type 0) → (M6 → Geometry → View → X6 → View → Type 0) → MigratorWork M1 M2 M3 M4 M5 M6 → Geometry → View → MigratorWork X1 X2 X3 X4 X5 X6 → View → Type 0

@@ -25,8 +25,7 @@ use Rattle.nm_locked.specs.declared.locked.LockedOver.{LockedOver}
 use Rattle.nm_locked.specs.Chosen.{MayChoose}
 use Rattle.nm_locked.specs.Moves.{IsLockedInMove}
 use Rattle.nm_locked.specs.Leaving.{IsLockedLeft}
-use Rattle.nm_ended.specs.declared.ask.AskEnded.{AskEnded}
-use Rattle.nm_ended.specs.Asking.{MayAsk, IsAsking, ask_left, ask_stages}
+use Rattle.nm_ended.specs.Asking.{AskPart, MayAsk, IsAsking, ask_left, ask_stages}
 use Rattle.nm_compose.specs.Composites.{HasFirst, IsRunning}
 use Rattle.nm_compose.specs.Stages.{IsPieceAt}
 use Rattle.nm_migrator_work.specs.declared.parts.CoolWork.{CoolWork}
@@ -37,60 +36,57 @@ use Rattle.nm_drawing.specs.declared.drawing.Drawn.{Drawn}
 use Rattle.nm_drawing.specs.Draws.{MayDraw, IsDrawingList, IsDrawnLeft}
 use Rattle.nm_migrator_work.specs.declared.work.MigratorWork.{MigratorWork}
 use Rattle.nm_migrator_work.specs.declared.work.MigratorWork.TheVariants as works
-use Rattle.nm_migrator_work.specs.Kinds.{made_by, IsNewBy, MayBy, IsBy, LeavesBy, AwaitsBy, EndedBy}
+use Rattle.nm_migrator_work.specs.Kinds.{made_by, IsNewBy, MayBy, IsListBy, LeavesBy, AwaitsBy, EndedBy}
 
 -- The pieces.
-
-abbrev pub AskPart : Type 0
-AskPart = Composite AskEnded Act
 
 abbrev pub MigratorPiece : Type 0
 MigratorPiece = MigratorWork Act LooksPart CoolWork BatchWork MoveWork AskPart
 
 -- What they are made with; those that draw, also with what was drawn before.
 
-abbrev pub WorkMade : Type 0
-WorkMade = MigratorWork Action LooksData CoolData BatchData MoveData ℕ
+abbrev pub MigratorWorkMade : Type 0
+MigratorWorkMade = MigratorWork Action LooksData CoolData BatchData MoveData ℕ
 
-abbrev pub work_made : MigratorPiece → WorkMade
-work_made = made_by (λ p. p.action) looks_part_data cool_work_made batch_work_made move_work_made (λ c. c.plan.cpus)
+abbrev pub migrator_work_made : MigratorPiece → MigratorWorkMade
+migrator_work_made = made_by (λ p. p.action) looks_part_data cool_work_made batch_work_made move_work_made (λ c. c.plan.cpus)
 
 -- they have given no action
 
 abbrev pub IsNewAskPart : AskPart → Type 0
 IsNewAskPart c = HasFirst (λ (a : Act). a.action) (λ a. Unit {0}) (λ action g view. MayAct g view action) IsAct (IsPieceAt ask_stages c.plan.cpus c.plan.cpu) (ask_left c.plan.cpus c.plan.cpu) (λ cpus g view. MayAsk cpus g view) IsAsking c.plan.cpus c.piece
 
-abbrev pub IsNewWork : MigratorPiece → Type 0
-IsNewWork = IsNewBy (λ p. Unit {0}) IsNewLooksPart IsNewCoolWork IsNewBatchWork IsNewMoveWork IsNewAskPart
+abbrev pub IsNewMigratorWork : MigratorPiece → Type 0
+IsNewMigratorWork = IsNewBy (λ p. Unit {0}) IsNewLooksPart IsNewCoolWork IsNewBatchWork IsNewMoveWork IsNewAskPart
 
 -- the Mark of a page
-abbrev pub made_mark : ℕ → ℕ → ℕ → WorkMade
+abbrev pub made_mark : ℕ → ℕ → ℕ → MigratorWorkMade
 made_mark page from to = works.Mark (action.Mark page from to)
 
 -- the Looks at the virtual pages of a page, which ask for tier 0
-abbrev pub made_looks : Geometry → ℕ → WorkMade
+abbrev pub made_looks : Geometry → ℕ → MigratorWorkMade
 made_looks g page = works.Looks (page_looks g page 0)
 
 -- the cooling of a page
-abbrev pub made_cool : Geometry → ℕ → WorkMade
+abbrev pub made_cool : Geometry → ℕ → MigratorWorkMade
 made_cool g page = works.Cool (record { 0 = g; 1 = page })
 
 -- the batch of these pieces, where so much was drawn
-abbrev pub made_batch : Geometry → List (ℕ × ℕ) → Spent → WorkMade
+abbrev pub made_batch : Geometry → List (ℕ × ℕ) → Spent → MigratorWorkMade
 made_batch g pieces spent = works.Batch (record { 0 = record { 0 = g; 1 = record { pieces = pieces; spent = spent } }; 1 = spent })
 
 -- the locked move of a page of which so many virtual pages are to have words, where so much was drawn
-abbrev pub made_move : Geometry → ℕ → ℕ → Spent → WorkMade
+abbrev pub made_move : Geometry → ℕ → ℕ → Spent → MigratorWorkMade
 made_move g page count spent = works.Move (record { 0 = record { 0 = g; 1 = record { page = page; count = count; spent = spent } }; 1 = spent })
 
 -- the question to all processors
-abbrev pub made_ask : Geometry → WorkMade
+abbrev pub made_ask : Geometry → MigratorWorkMade
 made_ask g = works.Ask g.cpus
 
 -- How they end.
 
-abbrev pub WorkEnd : Type 0
-WorkEnd = MigratorWork Reply Seen Cooled (Drawn (List TxnEnd)) (Drawn LockedOver) Bool
+abbrev pub MigratorWorkEnd : Type 0
+MigratorWorkEnd = MigratorWork Reply Seen Cooled (Drawn (List TxnEnd)) (Drawn LockedOver) Bool
 
 -- A batch that draws.
 
@@ -115,16 +111,16 @@ abbrev pub MoveWorkLeaves : MoveData → Geometry → View → Drawn LockedOver 
 MoveWorkLeaves made g view told left = IsDrawnLeft (λ over. IsLockedLeft made.0.1 view over.end left) left told
 
 -- a work may begin
-abbrev pub MayWork : WorkMade → Geometry → View → Type 0
-MayWork = MayBy (λ action g view. MayAct g view action) MayLooks MayCool MayBatchWork MayMoveWork (λ cpus g view. MayAsk cpus g view)
+abbrev pub MayMigratorWork : MigratorWorkMade → Geometry → View → Type 0
+MayMigratorWork = MayBy (λ action g view. MayAct g view action) MayLooks MayCool MayBatchWork MayMoveWork (λ cpus g view. MayAsk cpus g view)
 
 -- a finished list of a work, and the end that this shows
-abbrev pub IsWork : WorkMade → Geometry → Own → WorkEnd → Type 0
-IsWork = IsBy IsAct IsLooks IsCooling IsBatchWork IsMoveWork IsAsking
+abbrev pub IsMigratorWork : MigratorWorkMade → Geometry → Own → MigratorWorkEnd → Type 0
+IsMigratorWork = IsListBy IsAct IsLooks IsCooling IsBatchWork IsMoveWork IsAsking
 
 -- what a work leaves
-abbrev pub WorkLeaves : WorkMade → Geometry → View → WorkEnd → View → Type 0
-WorkLeaves = LeavesBy (λ action g view reply left. IsActed g view action reply left) (λ made g view seen left. HasLooked made view seen left) (λ made g view end left. IsCooledLeft made view end left)
+abbrev pub MigratorWorkLeaves : MigratorWorkMade → Geometry → View → MigratorWorkEnd → View → Type 0
+MigratorWorkLeaves = LeavesBy (λ action g view reply left. IsActed g view action reply left) (λ made g view seen left. HasLooked made view seen left) (λ made g view end left. IsCooledLeft made view end left)
     BatchWorkLeaves MoveWorkLeaves (λ cpus g view all left. left ≡ view)
 
 -- it awaits the answer to an action
@@ -132,9 +128,9 @@ WorkLeaves = LeavesBy (λ action g view reply left. IsActed g view action reply 
 abbrev pub AskAwaits : AskPart → Geometry → View → Own → Action → Type 0
 AskAwaits c = IsRunning IsAct (ActAwaits c.piece) (IsPieceAt ask_stages c.plan.cpus c.plan.cpu) (ask_left c.plan.cpus c.plan.cpu) (IsAsking c.plan.cpus) c.piece.action
 
-abbrev pub AwaitsWork : MigratorPiece → Geometry → View → Own → Action → Type 0
-AwaitsWork = AwaitsBy ActAwaits LooksAwaits AwaitsCoolWork AwaitsBatchWork AwaitsMoveWork AskAwaits
+abbrev pub AwaitsMigratorWork : MigratorPiece → Geometry → View → Own → Action → Type 0
+AwaitsMigratorWork = AwaitsBy ActAwaits LooksAwaits AwaitsCoolWork AwaitsBatchWork AwaitsMoveWork AskAwaits
 
 -- it is over: there is nothing more that it can be asked for
-abbrev pub WorkEnded : MigratorPiece → Geometry → Own → WorkEnd → Type 0
-WorkEnded = EndedBy (λ p g own reply. NothingTold g own reply) (λ c g own seen. Unit {0}) (λ w g own end. Unit {0}) (λ w g own end. Unit {0}) (λ w g own end. Unit {0}) (λ c g own all. Unit {0})
+abbrev pub MigratorWorkEnded : MigratorPiece → Geometry → Own → MigratorWorkEnd → Type 0
+MigratorWorkEnded = EndedBy (λ p g own reply. NothingTold g own reply) (λ c g own seen. Unit {0}) (λ w g own end. Unit {0}) (λ w g own end. Unit {0}) (λ w g own end. Unit {0}) (λ c g own all. Unit {0})

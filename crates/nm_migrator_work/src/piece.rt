@@ -2,7 +2,7 @@
 
 ghost use Rattle.std.specs.Prelude.{◌≡◌, ◌≢◌, []};
 ghost use Rattle.nm_vpages.specs.VPages.{vpages_of};
-ghost use Rattle.nm_migrator_work.specs.Works.{work_made, made_mark, made_looks, made_cool, made_batch, made_move, made_ask, IsNewWork};
+ghost use Rattle.nm_migrator_work.specs.Works.{migrator_work_made, made_mark, made_looks, made_cool, made_batch, made_move, made_ask, IsNewMigratorWork};
 
 use crate::parts::{BatchWork, CoolWork, MoveWork};
 use crate::work::MigratorWork;
@@ -11,7 +11,7 @@ use nm_batch::PieceList;
 use nm_compose::{Act, Composite};
 use nm_cool::Cooled;
 use nm_drawing::Drawn;
-use nm_ended::AskEnded;
+use nm_ended::{AskEnded, AskPart};
 use nm_event::{Action, Reply, Spent};
 use nm_locked::LockedOver;
 use nm_looks::{Looks, LooksPart, Seen};
@@ -21,9 +21,6 @@ use nm_vpages::VPageSet;
 
 /// The tier that Looks of the migrator ask for.
 const FASTEST: u32 = 0;
-
-/// The question to the processors whether they have ended, as a part.
-pub type AskPart = Composite<AskEnded, Act>;
 
 /// A piece of the migrator's work.
 pub type MigratorPiece<'a> = MigratorWork<
@@ -49,8 +46,8 @@ pub type MigratorEnd = MigratorWork<
 
 /// The Mark of a page. Where it begins the page is there, and the mark makes a step that needs no operation.
 pub fn mark_work<'a>(page: u32, from: u64, to: u64) -> MigratorPiece<'a>
-    ensures made { work_made result ≡ made_mark page from to }
-    ensures new { IsNewWork result }
+    ensures made { migrator_work_made result ≡ made_mark page from to }
+    ensures new { IsNewMigratorWork result }
 {
     MigratorWork::Mark(Act::new(Action::Mark { page, from, to }))
 }
@@ -58,8 +55,8 @@ pub fn mark_work<'a>(page: u32, from: u64, to: u64) -> MigratorPiece<'a>
 /// The Looks at the virtual pages of a page. Condition: there is one.
 pub fn looks_work<'a>(g: &'a Geometry, page: u32) -> MigratorPiece<'a>
     requires { vpages_of g.now page ≢ [] }
-    ensures made { work_made result ≡ made_looks g.now page }
-    ensures new { IsNewWork result }
+    ensures made { migrator_work_made result ≡ made_looks g.now page }
+    ensures new { IsNewMigratorWork result }
 {
     let plan = Looks::new(g, page, FASTEST, VPageSet::of_page(g, page));
     MigratorWork::Looks(Composite::new(plan))
@@ -67,8 +64,8 @@ pub fn looks_work<'a>(g: &'a Geometry, page: u32) -> MigratorPiece<'a>
 
 /// The cooling of a candidate. Where it begins the page is there, has a virtual page, and may be locked.
 pub fn cool_work<'a>(g: &'a Geometry, page: u32) -> MigratorPiece<'a>
-    ensures made { work_made result ≡ made_cool g.now page }
-    ensures new { IsNewWork result }
+    ensures made { migrator_work_made result ≡ made_cool g.now page }
+    ensures new { IsNewMigratorWork result }
 {
     MigratorWork::Cool(CoolWork::new(g, page))
 }
@@ -82,8 +79,8 @@ pub fn batch_work<'a>(
     spent: Spent,
 ) -> MigratorPiece<'a>
     requires { pieces ≢ [] }
-    ensures made { work_made result ≡ made_batch g.now pieces spent }
-    ensures new { IsNewWork result }
+    ensures made { migrator_work_made result ≡ made_batch g.now pieces spent }
+    ensures new { IsNewMigratorWork result }
 {
     MigratorWork::Batch(BatchWork::new(g, pieces, spent))
 }
@@ -98,16 +95,16 @@ pub fn move_work<'a>(
     spent: Spent,
     taken: TakenWords,
 ) -> MigratorPiece<'a>
-    ensures made { work_made result ≡ made_move g.now page count spent }
-    ensures new { IsNewWork result }
+    ensures made { migrator_work_made result ≡ made_move g.now page count spent }
+    ensures new { IsNewMigratorWork result }
 {
     MigratorWork::Move(MoveWork::new(g, page, count, spent, taken))
 }
 
 /// The question to the processors of a geometry. Where it begins the view has no open operation.
 pub fn ask_work<'a>(g: &Geometry) -> MigratorPiece<'a>
-    ensures made { work_made result ≡ made_ask g.now }
-    ensures new { IsNewWork result }
+    ensures made { migrator_work_made result ≡ made_ask g.now }
+    ensures new { IsNewMigratorWork result }
 {
     MigratorWork::Ask(Composite::new(AskEnded::new(g)))
 }

@@ -36,7 +36,7 @@ impl<M: Part, L: Part, C: Part, B: Part, V: Part, A: Part> Part for MigratorWork
 
     type Made = MigratorWork<M::Made, L::Made, C::Made, B::Made, V::Made, A::Made>;
 
-    ghost use Rattle.nm_migrator_work.specs.Kinds.{made_by, IsNewBy, MayBy, IsBy, LeavesBy, AwaitsBy, EndedBy};
+    ghost use Rattle.nm_migrator_work.specs.Kinds.{made_by, IsNewBy, MayBy, IsListBy, LeavesBy, AwaitsBy, EndedBy};
 
     ghost made = { made_by M.made L.made C.made B.made V.made A.made };
 
@@ -44,7 +44,7 @@ impl<M: Part, L: Part, C: Part, B: Part, V: Part, A: Part> Part for MigratorWork
 
     ghost may_begin = { MayBy M.may_begin L.may_begin C.may_begin B.may_begin V.may_begin A.may_begin };
 
-    ghost shape = { IsBy M.shape L.shape C.shape B.shape V.shape A.shape };
+    ghost shape = { IsListBy M.shape L.shape C.shape B.shape V.shape A.shape };
 
     ghost leaves = { LeavesBy M.leaves L.leaves C.leaves B.leaves V.leaves A.leaves };
 

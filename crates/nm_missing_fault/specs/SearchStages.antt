@@ -8,7 +8,6 @@ use Rattle.nm_part.specs.Patterns.{Sometimes}
 use Rattle.nm_compose.specs.Choices.{or_made, IsNewOr, MayBeginOr, IsOr, LeavesOr}
 use Rattle.nm_compose.specs.Composites.{HasFirst}
 use Rattle.nm_compose.specs.Stages.{IsPieceAt}
-use Rattle.nm_compose.specs.declared.composite.Composite.{Composite}
 use Rattle.nm_compose.specs.declared.or.Or.{Or}
 use Rattle.nm_compose.specs.declared.or.Or.TheVariants.{This, Other}
 use Rattle.nm_pool.specs.declared.job.PoolEnd.{PoolEnd}
@@ -19,12 +18,11 @@ use Rattle.nm_pool.specs.Given as given
 use Rattle.nm_pool.specs.Given.{pool_made}
 use Rattle.nm_pool.specs.Stages.{made_of, IsNewPool}
 use Rattle.nm_reclaim.specs.Swept.{IsSwept}
-use Rattle.nm_obtain.specs.declared.obtain.Obtain.{Obtain}
 use Rattle.nm_obtain.specs.declared.obtain.ObtainMade.{ObtainMade}
 use Rattle.nm_obtain.specs.declared.obtain.Obtained.{Obtained}
 use Rattle.nm_obtain.specs.Obtains.{IsObtain}
 use Rattle.nm_obtain.specs.Obtaining.{MayObtain, IsObtained}
-use Rattle.nm_obtain.specs.Searching.{ObtainPiece, obtain_parts, IsNewObtainPiece, MayObtainPiece, IsObtainPiece, IsPoolTask, obtain_made, obtain_left, obtain_stages}
+use Rattle.nm_obtain.specs.Searching.{ObtainPart, obtain_parts, IsNewObtainPiece, MayObtainPiece, IsObtainPiece, IsPoolTask, obtain_made, obtain_left, obtain_stages}
 use Rattle.nm_missing_fault.specs.declared.search.SearchMade.{SearchMade}
 use Rattle.nm_missing_fault.specs.declared.search.SearchStage.{SearchStage}
 use Rattle.nm_missing_fault.specs.declared.search.SearchStage.TheVariants.{New, TakingAboveLow, Obtaining, TakingLast}
@@ -32,9 +30,6 @@ use Rattle.nm_missing_fault.specs.Searching.{low_mark, frame_found, FoundOr, See
 use Rattle.nm_missing_fault.specs.Found.{MaySearch}
 
 -- Pieces: a task on the free frames, or a frame of a tier is sought.
-
-abbrev pub ObtainPart : Type 0
-ObtainPart = Composite Obtain ObtainPiece
 
 abbrev pub SearchPiece : Type 0
 SearchPiece = Or PoolTask ObtainPart

@@ -17,7 +17,8 @@ use Rattle.nm_missing_fault.specs.declared.search.SearchMade.{SearchMade}
 use Rattle.nm_missing_fault.specs.declared.search.SearchTask.{SearchTask}
 use Rattle.nm_missing_fault.specs.Searching.{IsSearch}
 use Rattle.nm_missing_fault.specs.Found.{MaySearch}
-use Rattle.nm_missing_fault.specs.SearchStages.{ObtainPart, obtain_part_made, search_piece_made, IsNewSearchPiece, MaySearchPiece, IsSearchPiece, search_piece_of, search_left, KnownInSearch}
+use Rattle.nm_obtain.specs.Searching.{ObtainPart}
+use Rattle.nm_missing_fault.specs.SearchStages.{obtain_part_made, search_piece_made, IsNewSearchPiece, MaySearchPiece, IsSearchPiece, search_piece_of, search_left, KnownInSearch}
 
 -- what it was begun with, in which geometry
 abbrev pub search_of : SearchTask → Geometry × SearchMade

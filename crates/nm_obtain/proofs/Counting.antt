@@ -6,7 +6,7 @@ use Rattle.nm_action.specs.declared.action.Action.TheVariants.{Unlock}
 use Rattle.nm_action.specs.declared.action.Reply.{Reply}
 use Rattle.nm_action.specs.Own.{Own}
 use Rattle.nm_obtain.specs.declared.freed.FreedCount.{FreedCount}
-use Rattle.nm_obtain.specs.Freed.{unlocks, is_put, is_release, before_unlock, frames_back, freed_inside}
+use Rattle.nm_obtain.specs.Freed.{unlocks, puts_frame, is_release, before_unlock, frames_back, freed_inside}
 use Rattle.nm_obtain.specs.FreedCounts.{stays_locked, ends_put, freed_with, HasCounted}
 
 -- The part before the page is unlocked.
@@ -41,7 +41,7 @@ before-cut page (e ∷ own) more locked = cut-step page e own more (unlocks page
 
 -- Frames that were put back.
 
-put-push : (own : Own) (event : Action × Reply) → ends_put (own ++ event ∷ []) ≡ is_put event.0
+put-push : (own : Own) (event : Action × Reply) → ends_put (own ++ event ∷ []) ≡ puts_frame event.0
 put-push [] event = refl
 put-push (e ∷ []) event = refl
 put-push (e ∷ (next ∷ own)) event = put-push (next ∷ own) event
@@ -57,8 +57,8 @@ add-last a = omega arith
 
 back-push : (own : Own) (event : Action × Reply) → frames_back (own ++ event ∷ []) ≡ frames_back own + one (ends_put own && is_release event.0)
 back-push [] event = refl
-back-push (e ∷ []) event = add-last (one (is_put e.0 && is_release event.0))
-back-push (e ∷ (next ∷ own)) event = ap (λ (n : ℕ). one (is_put e.0 && is_release next.0) + n) (back-push (next ∷ own) event) ∙ add-first (one (is_put e.0 && is_release next.0)) (frames_back (next ∷ own)) (one (ends_put (next ∷ own) && is_release event.0))
+back-push (e ∷ []) event = add-last (one (puts_frame e.0 && is_release event.0))
+back-push (e ∷ (next ∷ own)) event = ap (λ (n : ℕ). one (puts_frame e.0 && is_release next.0) + n) (back-push (next ∷ own) event) ∙ add-first (one (puts_frame e.0 && is_release next.0)) (frames_back (next ∷ own)) (one (ends_put (next ∷ own) && is_release event.0))
 
 -- The count.
 
@@ -105,7 +105,7 @@ cap-step most true false release freed total is = omega (arith, is)
 cap-step most false putting release freed total is = omega (arith, is)
 
 -- one action more is noted
-pub counted-push : (c new : FreedCount) (own : Own) (action : Action) (reply : Reply) → new.page ≡ c.page → new.locked ≡ (c.locked && not (unlocks c.page action)) → new.putting ≡ is_put action → new.freed ≡ freed_with c action
+pub counted-push : (c new : FreedCount) (own : Own) (action : Action) (reply : Reply) → new.page ≡ c.page → new.locked ≡ (c.locked && not (unlocks c.page action)) → new.putting ≡ puts_frame action → new.freed ≡ freed_with c action
     → HasCounted c own → HasCounted new (own ++ (action, reply) ∷ [])
 counted-push c new own action reply page locked putting freed h =
     let P : ℕ → Type 0 = λ p. new.locked ≡ stays_locked p (own ++ (action, reply) ∷ []) in

@@ -8,9 +8,9 @@ abbrev pub unlocks : ℕ → Action → Bool
 unlocks page (Unlock b) = b == page
 unlocks page _ = false
 
-abbrev pub is_put : Action → Bool
-is_put (PutFrame frame) = true
-is_put _ = false
+abbrev pub puts_frame : Action → Bool
+puts_frame (PutFrame frame) = true
+puts_frame _ = false
 
 abbrev pub is_release : Action → Bool
 is_release (ReleaseTurn tier) = true
@@ -25,7 +25,7 @@ before_unlock page (event ∷ own) = if unlocks page event.0 then [] else event 
 abbrev pub frames_back : Own → ℕ
 frames_back [] = 0
 frames_back (event ∷ []) = 0
-frames_back (event ∷ (next ∷ own)) = (if is_put event.0 && is_release next.0 then 1 else 0) + frames_back (next ∷ own)
+frames_back (event ∷ (next ∷ own)) = (if puts_frame event.0 && is_release next.0 then 1 else 0) + frames_back (next ∷ own)
 
 abbrev pub freed_inside : ℕ → Own → ℕ
 freed_inside page own = frames_back (before_unlock page own)

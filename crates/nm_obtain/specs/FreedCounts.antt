@@ -3,7 +3,7 @@ use Rattle.std.specs.Prelude.{◌≡◌, ℕ, ◌+◌, ◌-◌, ◌^◌, ◌&&�
 use Rattle.nm_action.specs.declared.action.Action.{Action}
 use Rattle.nm_action.specs.Own.{Own}
 use Rattle.nm_obtain.specs.declared.freed.FreedCount.{FreedCount}
-use Rattle.nm_obtain.specs.Freed.{unlocks, is_put, is_release, freed_inside}
+use Rattle.nm_obtain.specs.Freed.{unlocks, puts_frame, is_release, freed_inside}
 
 -- the page is not unlocked
 abbrev pub stays_locked : ℕ → Own → Bool
@@ -13,7 +13,7 @@ stays_locked page (event ∷ own) = not (unlocks page event.0) && stays_locked p
 -- the last action put a frame back
 abbrev pub ends_put : Own → Bool
 ends_put [] = false
-ends_put (event ∷ []) = is_put event.0
+ends_put (event ∷ []) = puts_frame event.0
 ends_put (event ∷ (next ∷ own)) = ends_put (next ∷ own)
 
 -- the count with one action more; one that has reached 2^64 - 1 stays there

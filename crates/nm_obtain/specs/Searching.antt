@@ -64,6 +64,10 @@ IsNewSweepPart c = HasFirst sweep_piece_made IsNewSweepPiece MaySweepPiece IsSwe
 abbrev pub ObtainPiece : Type 0
 ObtainPiece = Or PoolTask SweepPart
 
+-- the search as a part
+abbrev pub ObtainPart : Type 0
+ObtainPart = Composite Obtain ObtainPiece
+
 -- the data of a piece, and that it has given no action
 abbrev pub obtain_parts : ObtainPiece → ObtainParts
 obtain_parts = or_made made_of sweep_part_made

@@ -3,7 +3,7 @@
 ghost use Rattle.std.specs.Prelude.{◌≡◌, ◌-◌, ◌^◌, ◌&&◌, not, [], ◌∷◌, ◌++◌, min};
 ghost use Rattle.nm_action.specs.Own.{Own};
 ghost use Rattle.nm_action.specs.declared.action.Reply.{Reply};
-ghost use Rattle.nm_obtain.specs.Freed.{unlocks, is_put, is_release, freed_inside};
+ghost use Rattle.nm_obtain.specs.Freed.{unlocks, puts_frame, is_release, freed_inside};
 ghost use Rattle.nm_obtain.specs.FreedCounts.{freed_with, HasCounted};
 
 use nm_event::Action;
@@ -41,7 +41,7 @@ impl FreedCount {
         let locked = self.stays_locked(action);
         self.freed = freed;
         self.locked = locked;
-        self.putting = is_put(action);
+        self.putting = puts_frame(action);
     }
 
     /// Whether the page is still locked after this action.
@@ -71,8 +71,8 @@ impl FreedCount {
 }
 
 /// Whether an action puts a frame back.
-fn is_put(action: Action) -> bool
-    ensures { result ≡ is_put action }
+fn puts_frame(action: Action) -> bool
+    ensures { result ≡ puts_frame action }
 {
     matches!(action, Action::PutFrame { .. })
 }

@@ -9,6 +9,7 @@ use Rattle.nm_action.specs.declared.turn.Turn.TheVariants.{Do, Put, Take, End}
 use Rattle.nm_action.specs.Own.{Own}
 use Rattle.nm_action.specs.Tally.{sum_of}
 use Rattle.nm_view.specs.Views.{View}
+use Rattle.nm_actor.specs.Actors.{gave_end}
 use Rattle.nm_actor.specs.Turns.{Turns}
 use Rattle.nm_play.specs.Played as play
 use Rattle.nm_script.specs.declared.script.Line.{Line}
@@ -17,12 +18,11 @@ use Rattle.nm_access.specs.Faults.{FaultKinds}
 use Rattle.nm_cpu.specs.declared.actor.Processor.{Processor}
 use Rattle.nm_cpu.specs.declared.made.CpuMade.{CpuMade}
 use Rattle.nm_cpu.specs.Agreeing.{FollowsCpu}
-use Rattle.nm_cpu.specs.Agreeing as agreeing
 use Rattle.nm_cpu.specs.Parts.{IsCpuPart}
 use Rattle.nm_crew.specs.Crewed.{AtEach, IsAgreed}
 use Rattle.nm_programs.specs.Cpus.{program_of, IsCpuMade, IsCpuAt}
 
-cpu-end : (turn : Turn) → agreeing.is_end (Some turn) ≡ play.is_end turn
+cpu-end : (turn : Turn) → gave_end (Some turn) ≡ play.is_end turn
 cpu-end (Do action) = refl
 cpu-end (Put lane page) = refl
 cpu-end (Take lane) = refl

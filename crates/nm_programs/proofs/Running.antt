@@ -28,7 +28,7 @@ use Rattle.nm_report.specs.Texts.{AllFit}
 use Rattle.nm_report.proofs.Pieces.{AllFit-made}
 use Rattle.nm_schedule.specs.declared.turn.Played.{Played}
 use Rattle.nm_schedule.specs.Played.{turns_by, has_ended, events_of}
-use Rattle.nm_crew.specs.Crewed.{IsAgreed, IsCrewRun, tally_of, counts_of, crew_tallies}
+use Rattle.nm_crew.specs.Crewed.{IsAgreed, IsCrewRun, tally_of, counts_at, crew_tallies}
 use Rattle.nm_crew.proofs.Accesses.{accesses-turns}
 use Rattle.nm_crew.proofs.Tallies.{tallies-many, counts-cpu, counts-migrator, counts-reclaimer}
 use Rattle.nm_cpu_fault.specs.ProcessorFaults.{processor_faults}
@@ -57,7 +57,7 @@ below-or-not (suc n) (suc m) = elim (below-or-not n m) [ inl lt ↦ inl (omega (
 cpu-run : {C : Type 0} (script : Script) (run : SimRun) (played : List Played) (given : C → List LineResult) (counted : C → Tally) (cpus : List C) (migrator reclaimer : Tally) (cpu : ℕ) (d : C)
     → run.events ≡ events_of played → run.results ≡ map given cpus → cpu < length cpus
     → IsCpuDone script cpu (turns_by cpu played) (has_ended played cpu) (given (get_or cpus cpu d)) (counted (get_or cpus cpu d))
-    → IsCpuRun script run played cpu (counts_of (crew_tallies (map counted cpus) migrator reclaimer) cpu)
+    → IsCpuRun script run played cpu (counts_at (crew_tallies (map counted cpus) migrator reclaimer) cpu)
 cpu-run script run played given counted cpus migrator reclaimer cpu d listed results lt done =
     let told : results_of run cpu ≡ given (get_or cpus cpu d) = ap (λ l. get_or l cpu []) results ∙ get_or-map given cpus cpu d [] lt in
     let counts = counts-cpu counted cpus migrator reclaimer cpu d lt in
@@ -96,7 +96,7 @@ run-of-script cpu_agrees migrator_agrees reclaimer_agrees migrator_part reclaime
     let tallies = crew_tallies (map counted cpus) migrator reclaimer in
     let many : length (map counted cpus) ≡ n = length-map cpus counted ∙ crew.many in
     let results-many : length run.results ≡ n = ap length results ∙ length-map cpus given ∙ crew.many in
-    let each : (cpu : ℕ) → cpu < n → IsCpuRun script run played cpu (counts_of tallies cpu) = λ cpu lt. (
+    let each : (cpu : ℕ) → cpu < n → IsCpuRun script run played cpu (counts_at tallies cpu) = λ cpu lt. (
     let there : cpu < length cpus = omega (arith, lt, crew.many) in
     let d = some-element cpus cpu there in
     cpu-run script run played given counted cpus migrator reclaimer cpu d crew.simulated.listed results there (cpu-done cpu d (turns_by cpu played) (has_ended played cpu) there (crew.each cpu d there))) in
@@ -114,7 +114,7 @@ run-of-script cpu_agrees migrator_agrees reclaimer_agrees migrator_part reclaime
       printable = record {
         programs = is.programs;
         results = results-many;
-        fits = fits script run played (λ cpu. counts_of tallies cpu) n results-many each;
+        fits = fits script run played (λ cpu. counts_at tallies cpu) n results-many each;
         room = crew.simulated.room;
         names = crew.simulated.names;
       };

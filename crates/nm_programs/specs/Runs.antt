@@ -13,7 +13,7 @@ use Rattle.nm_report.specs.Follows.{FollowsProgram}
 use Rattle.nm_report.specs.Texts.{IsPrintable}
 use Rattle.nm_schedule.specs.declared.turn.Played.{Played}
 use Rattle.nm_schedule.specs.Played.{turns_by, has_ended}
-use Rattle.nm_crew.specs.Crewed.{IsAgreed, tally_of, counts_of}
+use Rattle.nm_crew.specs.Crewed.{IsAgreed, tally_of, counts_at}
 use Rattle.nm_crew.specs.Simulated.{IsSimulated}
 use Rattle.nm_cpu_fault.specs.ProcessorFaults.{processor_faults}
 use Rattle.nm_cpu.specs.Parts.{IsCpuPart}
@@ -50,8 +50,8 @@ pub record IsRunWith (migrator_part reclaimer_part : Turns → Bool → Tally �
   pub tallies : List Tally
   pub simulated : IsSimulated script.geometry script.schedule run.events run.order run.turns run.end played
   pub actors : length tallies ≡ actor_count script.geometry
-  pub cpus : (cpu : ℕ) → cpu < script.geometry.cpus → IsCpuRun script run played cpu (counts_of tallies cpu)
-  pub migrator : migrator_part (turns_by script.geometry.cpus played) (has_ended played script.geometry.cpus) (counts_of tallies script.geometry.cpus)
-  pub reclaimer : reclaimer_part (turns_by (script.geometry.cpus + 1) played) (has_ended played (script.geometry.cpus + 1)) (counts_of tallies (script.geometry.cpus + 1))
+  pub cpus : (cpu : ℕ) → cpu < script.geometry.cpus → IsCpuRun script run played cpu (counts_at tallies cpu)
+  pub migrator : migrator_part (turns_by script.geometry.cpus played) (has_ended played script.geometry.cpus) (counts_at tallies script.geometry.cpus)
+  pub reclaimer : reclaimer_part (turns_by (script.geometry.cpus + 1) played) (has_ended played (script.geometry.cpus + 1)) (counts_at tallies (script.geometry.cpus + 1))
   pub tally : run.tally ≡ tally_of tallies
   pub printable : IsPrintable (report_of script run)

@@ -17,7 +17,8 @@ use Rattle.nm_worker.specs.declared.routine.Task.{Task}
 use Rattle.nm_worker.specs.declared.routine.Ended.{Ended}
 use Rattle.nm_worker.specs.Notes.{Notes, noted_turns}
 use Rattle.nm_worker.specs.Workers.{ComesNext, IsContinued, FollowsRoutine}
-use Rattle.nm_routine_part.specs.Parts.{is_end, IsCarriedOn, IsRoutinePart}
+use Rattle.nm_actor.specs.Actors.{gave_end}
+use Rattle.nm_routine_part.specs.Parts.{IsCarriedOn, IsRoutinePart}
 
 -- a turn comes next: the notes before it are the beginning of a whole sequence
 comes-ends : (whole : Notes → Unit {0} → Type 0) (notes : Notes) (given : Turn) → ComesNext whole notes given → CanEnd (λ rest outcome. whole (notes ++ rest) outcome)
@@ -27,7 +28,7 @@ comes-ends whole notes given h = record {
   shown = h.shown;
 }
 
-carried-on : (whole : Notes → Unit {0} → Type 0) (notes : Notes) (last : Option Turn) → CanEnd whole → IsContinued whole notes last → IsCarriedOn whole (is_end last) notes
+carried-on : (whole : Notes → Unit {0} → Type 0) (notes : Notes) (last : Option Turn) → CanEnd whole → IsContinued whole notes last → IsCarriedOn whole (gave_end last) notes
 carried-on whole notes None some next =
     let E : Notes → Type 0 = λ l. CanEnd (λ rest outcome. whole (l ++ rest) outcome) in
     let none : E [] = record { rest = some.rest; outcome = some.outcome; shown = some.shown } in
@@ -40,7 +41,7 @@ carried-on whole notes (Some (turn.Take lane)) some next = comes-ends whole note
 -- where a whole sequence exists, the turns with which an actor agrees are such a part, and what it counted is their tally
 pub part-of-routine : {P M X : Type 0} (made : P → M) (is_new : P → Type 0) (may_begin : M → Geometry → View → Type 0) (shape : M → Geometry → Own → X → Type 0) (awaits : P → Geometry → View → Own → Action → Type 0) (counts : X → Tally) (knows : View → Task M → Type 0) (left : Ended X → Notes → Unit {0} → Type 0) (whole : Notes → Unit {0} → Type 0) (g : Geometry) (number : ℕ) (kept : Action) (task : Task P) (counter : Counter) (ends : Tally) (spent : Spent) (turns : Turns) (last : Option Turn)
     → CanEnd whole → FollowsRoutine made is_new may_begin shape awaits counts knows left whole g number kept task counter ends spent turns last
-    → IsRoutinePart whole turns (is_end last) (sum_of counter.tally ends)
+    → IsRoutinePart whole turns (gave_end last) (sum_of counter.tally ends)
 part-of-routine made is_new may_begin shape awaits counts knows left whole g number kept task counter ends spent turns last some h = record {
   notes = h.notes;
   is = h.is;

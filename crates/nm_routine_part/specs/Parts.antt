@@ -9,11 +9,6 @@ use Rattle.nm_tally.specs.Counts.{events_tally}
 use Rattle.nm_actor.specs.Turns.{Turns, own_list}
 use Rattle.nm_worker.specs.Notes.{Notes, noted_turns, notes_tally}
 
--- the actor gave End
-abbrev pub is_end : Option Turn → Bool
-is_end (Some turn.End) = true
-is_end given = false
-
 -- a whole sequence where the actor has ended, and else the beginning of one
 abbrev pub IsCarriedOn : (Notes → Unit {0} → Type 0) → Bool → Notes → Type 0
 IsCarriedOn whole true notes = whole notes tt

@@ -7,8 +7,8 @@ use Rattle.nm_compose.specs.declared.or.Or.TheVariants.{This, Other}
 use Rattle.nm_worker.specs.Notes.{Notes, worked, noted_turns}
 use Rattle.nm_routine_part.specs.Parts.{IsRoutinePart}
 use Rattle.nm_ended.specs.Asking.{AsksFrom}
-use Rattle.nm_kswap.specs.Works.{WorkEnd, IsWork, made_ask}
-use Rattle.nm_kswap.specs.Reclaiming.{Rounds, fresh_kept, IsReclaiming}
+use Rattle.nm_kswap.specs.Works.{ReclaimerWorkEnd, IsReclaimerWork, made_asking}
+use Rattle.nm_kswap.specs.Reclaiming.{ReclaimerRounds, kept_at_first, IsReclaiming}
 
 pub front-none : {A : Type 0} (front back : List A) → [] ≡ front ++ back → front ≡ []
 front-none [] back is = refl
@@ -27,11 +27,11 @@ asks-act g (suc more) own all some none h =
     let acts = sym ask ∙ h.shown.is in
     cc
 
-asking-acts : (g : Geometry) (own : Own) (end : WorkEnd) → 0 < g.cpus → own ≡ [] → ¬ IsWork (made_ask g) g own end
+asking-acts : (g : Geometry) (own : Own) (end : ReclaimerWorkEnd) → 0 < g.cpus → own ≡ [] → ¬ IsReclaimerWork (made_asking g) g own end
 asking-acts g own (This all) some none h = asks-act g g.cpus own all some none h
 asking-acts g own (Other end) some none h = h
 
-rounds-act : (g : Geometry) (rounds : ℕ) → 0 < g.cpus → ¬ Rounds g rounds fresh_kept [] tt
+rounds-act : (g : Geometry) (rounds : ℕ) → 0 < g.cpus → ¬ ReclaimerRounds g rounds kept_at_first [] tt
 rounds-act g zero some h = h
 rounds-act g (suc more) some h =
     let none = front-none h.front h.back h.is in

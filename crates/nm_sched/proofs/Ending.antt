@@ -4,10 +4,10 @@ use Rattle.nm_base.specs.Geometry.{Geometry}
 use Rattle.nm_action.specs.declared.tally.Tally.{Tally}
 use Rattle.nm_action.specs.declared.turn.Turn.{Turn}
 use Rattle.nm_action.specs.declared.turn.Turn.TheVariants.{Do, Put, Take, End}
+use Rattle.nm_actor.specs.Actors.{gave_end}
 use Rattle.nm_actor.specs.Turns.{Turns}
 use Rattle.nm_play.specs.Played as play
 use Rattle.nm_script.specs.Plain.{Script}
-use Rattle.nm_routine_part.specs.Parts as routine
 use Rattle.nm_kswap.specs.declared.actor.ReclaimerActor.{ReclaimerActor}
 use Rattle.nm_kswap.specs.Reclaiming.{IsReclaiming}
 use Rattle.nm_kswap.specs.Parts.{ReclaimerWorker, reclaimer_geometry, AgreesReclaimer, IsReclaimerPart}
@@ -17,14 +17,14 @@ use Rattle.nm_sched.proofs.Acting.{reclaiming-acts, routine-acts}
 
 -- ---- End
 
-routine-end : (turn : Turn) → routine.is_end (Some turn) ≡ play.is_end turn
+routine-end : (turn : Turn) → gave_end (Some turn) ≡ play.is_end turn
 routine-end (Do action) = refl
 routine-end (Put lane page) = refl
 routine-end (Take lane) = refl
 routine-end End = refl
 
 -- what an actor says of its turns and whether it has ended, it says of its part
-pub routine-agreed : (agrees : Turns → Option Turn → Type 0) (part : Turns → Bool → Type 0) (turns : Turns) (ended : Bool) → ((turns : Turns) (last : Option Turn) → agrees turns last → part turns (routine.is_end last)) → IsAgreed agrees turns ended → part turns ended
+pub routine-agreed : (agrees : Turns → Option Turn → Type 0) (part : Turns → Bool → Type 0) (turns : Turns) (ended : Bool) → ((turns : Turns) (last : Option Turn) → agrees turns last → part turns (gave_end last)) → IsAgreed agrees turns ended → part turns ended
 routine-agreed agrees part turns ended tells h =
     let P : Bool → Type 0 = λ b. part turns b in
     subst P (routine-end h.last ∙ sym h.given) (tells turns (Some h.last) h.agreed)

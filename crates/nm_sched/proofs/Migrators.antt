@@ -7,9 +7,9 @@ use Rattle.nm_action.specs.declared.turn.Lane.{Lane}
 use Rattle.nm_action.specs.declared.turn.Lane.TheVariants.{Candidates}
 use Rattle.nm_actor.specs.Turns.{Turns}
 use Rattle.nm_script.specs.Plain.{Script}
-use Rattle.nm_migrator.specs.Planned.{Kept, nothing_kept}
+use Rattle.nm_migrator.specs.Planned.{MigratorKept, nothing_kept}
 use Rattle.nm_migrator.specs.Migrating as migrating
-use Rattle.nm_migrator.specs.Migrating.{Sequence, TakesTry, IsMigrating}
+use Rattle.nm_migrator.specs.Migrating.{Sequence, TakesMappedTry, IsMigrating}
 use Rattle.nm_migrator.specs.declared.actor.MigratorActor.{MigratorActor}
 use Rattle.nm_migrator.specs.Parts.{migrator_made, worker_counted, AgreesMigrator, IsMigratorPart}
 use Rattle.nm_programs.specs.Runs.{HasPart}
@@ -18,14 +18,14 @@ use Rattle.nm_sched.proofs.Ending.{routine-agreed}
 
 -- ---- the migrator takes a candidate first
 
-takes-act : (g : Geometry) (lane : Lane) (after : Option ℕ → Sequence) (tries : ℕ) → ¬ TakesTry g lane after tries [] tt
+takes-act : (g : Geometry) (lane : Lane) (after : Option ℕ → Sequence) (tries : ℕ) → ¬ TakesMappedTry g lane after tries [] tt
 takes-act g lane after zero h = h
 takes-act g lane after (suc tries) h =
     let take = front-none h.front h.back h.is in
     let acts = sym take ∙ h.shown.is in
     cc
 
-turns-act : (g : Geometry) (retry : Option ℕ) (rounds : ℕ) (kept : Kept) → ¬ migrating.Rounds g retry rounds Candidates kept [] tt
+turns-act : (g : Geometry) (retry : Option ℕ) (rounds : ℕ) (kept : MigratorKept) → ¬ migrating.Rounds g retry rounds Candidates kept [] tt
 turns-act g retry zero kept h = h
 turns-act g retry (suc rounds) kept h = takes-act g Candidates (migrating.AfterCandidate g (migrating.Rounds g retry rounds) kept) h.tries h.is
 

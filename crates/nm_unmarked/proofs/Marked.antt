@@ -17,7 +17,7 @@ use Rattle.nm_world.proofs.Choose.{choose}
 use Rattle.nm_marks.specs.Contents.{HasEvent}
 use Rattle.nm_marks.specs.Marks.{IsTakenBack}
 use Rattle.nm_marks.proofs.Contents.{has-left}
-use Rattle.nm_unmarked.specs.Unmarking.{IsEndSeen, IsSwept}
+use Rattle.nm_unmarked.specs.Unmarking.{IsEndSeen, IsCandidateTakenBack}
 use Rattle.nm_unmarked.proofs.Owns.{has-last, has-new, within-or-last}
 use Rattle.nm_unmarked.proofs.Steps.{mark_at, mark-step, mark-made, mark-told, mark-allowed, acked-step, polled-on, seen-end}
 
@@ -38,7 +38,7 @@ pub record AreMarked (g : Geometry) (m : World) (owns : ℕ → Own) : Type 0 wh
   pub ended : (p : ℕ) → p < g.cpus → (m.view p).acked ≡ end_word → HasEvent IsEndAck (owns p)
   pub seen : (p : ℕ) → p < g.cpus → HasEvent (IsEndSeen p) (owns g.cpus) → HasEvent IsEndAck (owns p)
   pub few : (b : ℕ) → mark_at m b ≤ 2
-  pub candidate : (b : ℕ) → mark_at m b ≡ 1 → ¬ IsSwept g b (owns g.cpus)
+  pub candidate : (b : ℕ) → mark_at m b ≡ 1 → ¬ IsCandidateTakenBack g b (owns g.cpus)
   pub pending : (b : ℕ) → mark_at m b ≡ 2 → IsPending b (owns g.cpus)
 
 -- a step of an actor: processors alone make candidates, and none once they acknowledged their end; the migrator alone makes
@@ -116,12 +116,12 @@ few-after g m a action reply owns later h i b =
 
 -- a candidate that stays was not swept by this step, since the Mark would have been made
 not-swept : (g : Geometry) (m : World) (a : ℕ) (action : Action) (reply : Reply) (owns later : ℕ → Own) → IsOwnStep g m a action reply owns later → AreMarked g m owns
-    → (b : ℕ) → mark_at m b ≡ 1 → mark_at (moved g m a action) b ≡ 1 → ¬ IsSwept g b (later g.cpus)
+    → (b : ℕ) → mark_at m b ≡ 1 → mark_at (moved g m a action) b ≡ 1 → ¬ IsCandidateTakenBack g b (later g.cpus)
 not-swept g m a action reply owns later h i b before after swept =
-    let S : Own → Type 0 = λ l. IsSwept g b l in
+    let S : Own → Type 0 = λ l. IsCandidateTakenBack g b l in
     elim (list-after g m a action reply owns later h g.cpus) [
       | inl more ↦
-          let w : IsSwept g b (owns g.cpus ++ (action, reply) ∷ []) = subst S more.1 swept in
+          let w : IsCandidateTakenBack g b (owns g.cpus ++ (action, reply) ∷ []) = subst S more.1 swept in
           elim (within-or-last (owns g.cpus) w.front (action, reply) (Mark b 1 0, w.reply) w.rest w.is) [
             | inl within ↦ i.candidate b before (record { front = w.front; reply = w.reply; rest = within.rest; is = within.is; seen = w.seen })
             | inr last ↦
@@ -133,18 +133,18 @@ not-swept g m a action reply owns later h i b before after swept =
 
 -- a new candidate was not swept, since its processor has not ended
 not-swept-new : (g : Geometry) (m : World) (a : ℕ) (action : Action) (reply : Reply) (owns later : ℕ → Own) → IsOwnStep g m a action reply owns later → AreMarked g m owns
-    → (b : ℕ) → action ≡ Mark b 0 1 → ¬ IsSwept g b (later g.cpus)
+    → (b : ℕ) → action ≡ Mark b 0 1 → ¬ IsCandidateTakenBack g b (later g.cpus)
 not-swept-new g m a action reply owns later h i b is swept = elim (cases_lt a g.cpus) [
   | inl there ↦
-      let S : Own → Type 0 = λ l. IsSwept g b l in
-      let w : IsSwept g b (owns g.cpus) = subst S (h.others g.cpus (λ same. omega (arith, same, there))) swept in
+      let S : Own → Type 0 = λ l. IsCandidateTakenBack g b l in
+      let w : IsCandidateTakenBack g b (owns g.cpus) = subst S (h.others g.cpus (λ same. omega (arith, same, there))) swept in
       let H : Own → Type 0 = λ l. HasEvent (IsEndSeen a) l in
       h.running there (i.seen a there (subst H (sym w.is) (has-left (IsEndSeen a) w.front ((Mark b 1 0, w.reply) ∷ w.rest) (w.seen a there))))
   | inr past ↦ h.candidates past b is
 ]
 
 candidate-after : (g : Geometry) (m : World) (a : ℕ) (action : Action) (reply : Reply) (owns later : ℕ → Own) → IsOwnStep g m a action reply owns later → AreMarked g m owns
-    → (b : ℕ) → mark_at (moved g m a action) b ≡ 1 → ¬ IsSwept g b (later g.cpus)
+    → (b : ℕ) → mark_at (moved g m a action) b ≡ 1 → ¬ IsCandidateTakenBack g b (later g.cpus)
 candidate-after g m a action reply owns later h i b one = elim (mark-step g m a action b) [
   | inl same ↦ not-swept g m a action reply owns later h i b (sym same ∙ one) one
   | inr made ↦

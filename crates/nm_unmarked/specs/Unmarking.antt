@@ -31,7 +31,7 @@ pub record IsEndSeen (cpu : ℕ) (action : Action) (reply : Reply) : Type 0 wher
   pub reply_is : reply ≡ Word end_word
 
 -- the candidate mark of a page was taken back, if it had one, after every processor was seen at its end
-pub record IsSwept (g : Geometry) (page : ℕ) (own : Own) : Type 0 where
+pub record IsCandidateTakenBack (g : Geometry) (page : ℕ) (own : Own) : Type 0 where
   pub front : Own
   pub reply : Reply
   pub rest : Own
@@ -44,7 +44,7 @@ AreTakenBack page own = (front rest : Own) → own ≡ front ++ (Mark page 1 2, 
 
 pub record IsMigratorUnmarking (g : Geometry) (own : Own) : Type 0 where
   pub marks : HasOnlyMarks IsMigratorMark own
-  pub swept : (page : ℕ) → IsPage g page → IsSwept g page own
+  pub swept : (page : ℕ) → IsPage g page → IsCandidateTakenBack g page own
   pub back : (page : ℕ) → IsPage g page → AreTakenBack page own
 
 -- All actors: the reclaimer makes no Mark.

@@ -11,10 +11,10 @@ use Rattle.nm_fault.specs.Tasks.{FaultBegun, fault_in, fault_at, page_or}
 use Rattle.nm_batch.specs.declared.batch.BatchAsked.{BatchAsked}
 use Rattle.nm_batch.specs.Leaving.{most_pieces, MayBatch}
 use Rattle.nm_batch.specs.Places.{batch_made}
-use Rattle.nm_work_rows.specs.Reached.{IsFree, IsFaulting, pieces_of, ArePieces}
+use Rattle.nm_work_rows.specs.Reached.{IsFreeActor, MayBeginFault, pieces_of, ArePieces}
 
 -- a fault on a mapped virtual page may begin
-pub may-begin-fault : (g : Geometry) (actor vpage page : ℕ) (view : View) → IsGeometry g → backing_page g vpage ≡ Some page → IsVPage g vpage → IsPage g page → IsFree g actor view → IsFaulting g actor vpage view
+pub may-begin-fault : (g : Geometry) (actor vpage page : ℕ) (view : View) → IsGeometry g → backing_page g vpage ≡ Some page → IsVPage g vpage → IsPage g page → IsFreeActor g actor view → MayBeginFault g actor vpage view
 may-begin-fault g actor vpage page view limits mapped there paged free =
     let P : ℕ → Type 0 = λ b. IsPage g b in
     let is : page ≡ page_or (backing_page g vpage) = sym (ap page_or mapped) in
@@ -24,13 +24,13 @@ may-begin-fault g actor vpage page view limits mapped there paged free =
     }
 
 -- a task that was begun with it may
-pub begun-missing : (m : FaultBegun) (k g : Geometry) (actor vpage : ℕ) (view : View) → m ≡ This (record { 0 = k; 1 = fault_at k vpage }) → k ≡ g → IsFaulting g actor vpage view → MayFault (fault_in m) g view
+pub begun-missing : (m : FaultBegun) (k g : Geometry) (actor vpage : ℕ) (view : View) → m ≡ This (record { 0 = k; 1 = fault_at k vpage }) → k ≡ g → MayBeginFault g actor vpage view → MayFault (fault_in m) g view
 begun-missing m k g actor vpage view is same h =
     let M : FaultBegun → Type 0 = λ x. MayFault (fault_in x) g view in
     let K : Geometry → Type 0 = λ x. M (This (record { 0 = x; 1 = fault_at x vpage })) in
     subst M (sym is) (subst K (sym same) h.may)
 
-pub begun-shadow : (m : FaultBegun) (k g : Geometry) (actor vpage : ℕ) (view : View) → m ≡ Other (record { 0 = k; 1 = fault_at k vpage }) → k ≡ g → IsFaulting g actor vpage view → MayFault (fault_in m) g view
+pub begun-shadow : (m : FaultBegun) (k g : Geometry) (actor vpage : ℕ) (view : View) → m ≡ Other (record { 0 = k; 1 = fault_at k vpage }) → k ≡ g → MayBeginFault g actor vpage view → MayFault (fault_in m) g view
 begun-shadow m k g actor vpage view is same h =
     let M : FaultBegun → Type 0 = λ x. MayFault (fault_in x) g view in
     let K : Geometry → Type 0 = λ x. M (Other (record { 0 = x; 1 = fault_at x vpage })) in

@@ -31,14 +31,14 @@ pub record HasActed (g : Geometry) (old new : State) (actor : ℕ) (action : Act
   pub others : (other : ℕ) → actor ≢ other → view_of new other ≡ view_of old other
 
 -- the actor exists, and its view has no operation and holds no turn
-pub record IsFree (g : Geometry) (actor : ℕ) (view : View) : Type 0 where
+pub record IsFreeActor (g : Geometry) (actor : ℕ) (view : View) : Type 0 where
   pub exists : IsActor g actor
   pub none : view.ops ≡ []
   pub turn : view.turn ≡ None
 
 -- a fault on this virtual page may begin: it is mapped to a page
-pub record IsFaulting (g : Geometry) (actor vpage : ℕ) (view : View) : Type 0 where
-  pub free : IsFree g actor view
+pub record MayBeginFault (g : Geometry) (actor vpage : ℕ) (view : View) : Type 0 where
+  pub free : IsFreeActor g actor view
   pub may : MayFault (record { 0 = g; 1 = fault_at g vpage }) g view
 
 -- three pages, each with the virtual page of its number
@@ -47,11 +47,11 @@ pieces_of a b c = (a, a) ∷ (b, b) ∷ (c, c) ∷ []
 
 -- a batch of these pieces may begin: their pages are there, and none stands twice
 pub record ArePieces (g : Geometry) (actor : ℕ) (pieces : List (ℕ × ℕ)) (view : View) : Type 0 where
-  pub free : IsFree g actor view
+  pub free : IsFreeActor g actor view
   pub pages : All (λ p. IsPage g (asked_page p)) pieces
   pub once : Once asked_page pieces
 
 -- a part is over with this outcome, and in the state in which it ends
-pub record IsOver {O : Type 0} (ended : Own → O → Type 0) (outcome : O) : Type 0 where
+pub record IsOverSo {O : Type 0} (ended : Own → O → Type 0) (outcome : O) : Type 0 where
   pub own : Own
   pub over : ended own outcome

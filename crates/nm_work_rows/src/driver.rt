@@ -5,7 +5,7 @@ ghost use Rattle.std.specs.Prelude.{◌≡◌, ◌≢◌, ℕ, [], None, IsTrue}
 ghost use Rattle.nm_view.specs.Opening.{IsActor};
 ghost use Rattle.nm_permit.specs.Permitted.{Allowed};
 ghost use Rattle.nm_core.specs.State.{view_of};
-ghost use Rattle.nm_work_rows.specs.Reached.{IsReached, HasActed, IsFree, IsOver};
+ghost use Rattle.nm_work_rows.specs.Reached.{IsReached, HasActed, IsFreeActor, IsOverSo};
 
 use nm_action::{Action, Event, Reply, Step};
 use nm_base::Geometry;
@@ -75,7 +75,7 @@ fn is_unbound(view: &ActorView) -> bool
 /// Whether an actor may begin a piece of work: it exists, and its view has no operation and holds no turn.
 pub fn is_free(g: &Geometry, state: &State, actor: u32) -> bool
     requires { IsReached g.now state.now }
-    ensures { IsTrue result → IsFree g.now actor (view_of state.now actor) }
+    ensures { IsTrue result → IsFreeActor g.now actor (view_of state.now actor) }
 {
     if actor >= g.cpus + 2 {
         return false;
@@ -99,7 +99,7 @@ pub fn play<P: Part>(
     requires begin { P.may_begin (P.made part.old) g.now (view_of state.old actor) }
     ensures reached { IsReached g.now state.new }
     ensures made { P.made part.new ≡ P.made part.old }
-    ensures over { IsOver (P.ended part.new g.now) result.0 }
+    ensures over { IsOverSo (P.ended part.new g.now) result.0 }
 {
     let mut given = part.first();
     for line in lines {

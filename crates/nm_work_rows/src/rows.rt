@@ -2,7 +2,7 @@
 
 ghost use Rattle.std.specs.Prelude.{◌≡◌, IfOk};
 ghost use Rattle.nm_base.specs.Geometry.{IsGeometry};
-ghost use Rattle.nm_locked_task.specs.Tasks.{locked_task_made, IsIdle};
+ghost use Rattle.nm_locked_task.specs.Tasks.{locked_task_made, IsIdleMove};
 ghost use Rattle.nm_work_rows.specs.Reached.{IsReached};
 
 use crate::batches::batches;
@@ -82,7 +82,7 @@ fn follow(
     row: &Row,
 ) -> Result<(), AllocError>
     requires reached { IsReached g.now state.old }
-    requires idle { IsIdle task.old }
+    requires idle { IsIdleMove task.old }
     requires geometry { (locked_task_made task.old).0 ≡ g.now }
     ensures { IsReached g.now state.new }
 {

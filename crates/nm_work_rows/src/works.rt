@@ -2,9 +2,9 @@
 
 ghost use Rattle.std.specs.Prelude.{◌≡◌, [], ◌∷◌, length, IsTrue, IfSome};
 ghost use Rattle.nm_prepare.specs.Ready.{spent_by};
-ghost use Rattle.nm_locked_task.specs.Tasks.{locked_task_made, IsIdle};
+ghost use Rattle.nm_locked_task.specs.Tasks.{locked_task_made, IsIdleMove};
 ghost use Rattle.nm_core.specs.State.{view_of};
-ghost use Rattle.nm_work_rows.specs.Reached.{IsReached, IsFaulting, pieces_of, ArePieces};
+ghost use Rattle.nm_work_rows.specs.Reached.{IsReached, MayBeginFault, pieces_of, ArePieces};
 
 use crate::driver::{Line, is_free, play};
 use nm_action::Spent;
@@ -64,7 +64,7 @@ fn spent_by(view: &ActorView) -> Spent
 /// Whether an actor may begin a fault on a virtual page: it is mapped to a page, and the actor may begin work.
 fn is_faulting(g: &Geometry, state: &State, actor: u32, vpage: u32) -> bool
     requires { IsReached g.now state.now }
-    ensures { IsTrue result → IsFaulting g.now actor vpage (view_of state.now actor) }
+    ensures { IsTrue result → MayBeginFault g.now actor vpage (view_of state.now actor) }
 {
     let Some(page) = g.backing(vpage) else {
         return false;
@@ -166,10 +166,10 @@ fn locked_move(
     lines: &[Line],
 ) -> Option<(LockedEnd, u32)>
     requires reached { IsReached g.now state.old }
-    requires idle { IsIdle part.old }
+    requires idle { IsIdleMove part.old }
     requires geometry { (locked_task_made part.old).0 ≡ g.now }
     ensures reached { IsReached g.now state.new }
-    ensures idle { IsIdle part.new }
+    ensures idle { IsIdleMove part.new }
     ensures geometry { (locked_task_made part.new).0 ≡ g.now }
 {
     if page >= g.pages() || count == 0 || !is_free(g, state, actor) {
@@ -257,10 +257,10 @@ pub fn run(
     lines: &[Line],
 ) -> Result<Option<(End, u32)>, AllocError>
     requires reached { IsReached g.now state.old }
-    requires idle { IsIdle task.old }
+    requires idle { IsIdleMove task.old }
     requires geometry { (locked_task_made task.old).0 ≡ g.now }
     ensures reached { IsReached g.now state.new }
-    ensures idle { IsIdle task.new }
+    ensures idle { IsIdleMove task.new }
     ensures geometry { (locked_task_made task.new).0 ≡ g.now }
 {
     let ended = match work {

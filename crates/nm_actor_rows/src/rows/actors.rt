@@ -46,7 +46,7 @@ where
 
     ghost use Rattle.std.specs.Prelude.{◌≡◌, None, refl};
     ghost use Rattle.nm_view.specs.Opening.{opening};
-    ghost use Rattle.nm_actor_rows.specs.Running.{IsWaiting, IsAtStep, IsAgreed, no_counts};
+    ghost use Rattle.nm_actor_rows.specs.Running.{IsWaiting, IsAtStep, IsAgreedOn, no_counts};
 
     ghost made = { λ r. record { 0 = r.geometry.now; 1 = r.number; 2 = P.made r.part } };
 
@@ -56,7 +56,7 @@ where
 
     ghost is_new = { λ r. (r.last ≡ None) × P.is_new r.part × P.may_begin (P.made r.part) r.geometry.now (opening r.geometry.now r.number) };
 
-    ghost agrees = { λ r turns last. IsAgreed
+    ghost agrees = { λ r turns last. IsAgreedOn
         (IsWaiting (P.is_new r.part) (P.may_begin (P.made r.part)) r.geometry.now r.number turns)
         (IsAtStep (P.awaits r.part) (P.shape (P.made r.part)) (P.leaves (P.made r.part)) (P.ended r.part) r.geometry.now r.number turns)
         r.last last };

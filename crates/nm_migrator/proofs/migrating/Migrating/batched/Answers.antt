@@ -1,5 +1,5 @@
 use Rattle.std.proofs.Common.{◌≡◌, ◌≤◌, length, ap, ◌∙◌, arith}
-use Rattle.nm_migrator_work.specs.Works.{IsNewWork}
+use Rattle.nm_migrator_work.specs.Works.{IsNewMigratorWork}
 use Rattle.nm_migrator.specs.declared.migrating.Migrating.{Migrating}
 use Rattle.nm_base.specs.Geometry.{page_count}
 use Rattle.nm_migrator.specs.Planned.{most_taken}
@@ -13,7 +13,7 @@ pub returns-clause-next : goal.returns-clause-next
 returns-clause-next c =
     let old = c.args.self.now in
     let m : Migrating = record old { aborts = c.count_aborts_in.new.aborts; again = c.again_of-self.result; spent = c.args.told.spent } in
-    gives-fit IsNewWork old.geometry.now c.args.told.spent c.again_from.new.self c.again_from.result (AgainLeft m 0) (BatchedLeft old c.args.told) c.again_from.ensures.next (again-starts old c.args.told m.aborts.items m.again c.count_aborts_in.ensures c.again_of-self.ensures.pages)
+    gives-fit IsNewMigratorWork old.geometry.now c.args.told.spent c.again_from.new.self c.again_from.result (AgainLeft m 0) (BatchedLeft old c.args.told) c.again_from.ensures.next (again-starts old c.args.told m.aborts.items m.again c.count_aborts_in.ensures c.again_of-self.ensures.pages)
 
 pub again_from-requires : goal.again_from-requires
 again_from-requires c =

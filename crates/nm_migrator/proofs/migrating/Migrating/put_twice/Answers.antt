@@ -1,5 +1,5 @@
 use Rattle.std.proofs.Common.{ℕ, Bool, true, sym, subst}
-use Rattle.nm_migrator_work.specs.Works.{IsNewWork}
+use Rattle.nm_migrator_work.specs.Works.{IsNewMigratorWork}
 use Rattle.nm_migrator.specs.declared.migrating.MigratingStage.TheVariants.{PuttingTwice}
 use Rattle.nm_migrator.specs.Stages.{PutLeft, TakenLeft, Gives}
 use Rattle.nm_migrator.proofs.Giving.{gives-stage}
@@ -8,9 +8,9 @@ use Rattle.nm_migrator.proofs.migrating.Migrating.put_twice.Goals as goal
 pub returns-then-full-clause-next : goal.returns-then-full-clause-next
 returns-then-full-clause-next c =
     let old = c.args.self.now in
-    subst (λ (x : Bool). Gives IsNewWork old.geometry.now old.spent c.go.new.self c.go.result (λ (n : ℕ). PutLeft c.args.page x (TakenLeft old old.taken n))) (sym c.if-full.true) (gives-stage IsNewWork old c.go.new.self (PuttingTwice c.args.page) c.go.result (λ (n : ℕ). PutLeft c.args.page true (TakenLeft old old.taken n)) c.go.ensures.stage c.go.ensures.made c.go.ensures.new (c.requires) tt (λ notes outcome s. s))
+    subst (λ (x : Bool). Gives IsNewMigratorWork old.geometry.now old.spent c.go.new.self c.go.result (λ (n : ℕ). PutLeft c.args.page x (TakenLeft old old.taken n))) (sym c.if-full.true) (gives-stage IsNewMigratorWork old c.go.new.self (PuttingTwice c.args.page) c.go.result (λ (n : ℕ). PutLeft c.args.page true (TakenLeft old old.taken n)) c.go.ensures.stage c.go.ensures.made c.go.ensures.new (c.requires) tt (λ notes outcome s. s))
 
 pub returns-else-full-clause-next : goal.returns-else-full-clause-next
 returns-else-full-clause-next c =
     let old = c.args.self.now in
-    subst (λ (x : Bool). Gives IsNewWork old.geometry.now old.spent c.all_taken.new.self c.all_taken.result (λ (n : ℕ). PutLeft c.args.page x (TakenLeft old old.taken n))) (sym c.if-full.false) (c.all_taken.ensures.next)
+    subst (λ (x : Bool). Gives IsNewMigratorWork old.geometry.now old.spent c.all_taken.new.self c.all_taken.result (λ (n : ℕ). PutLeft c.args.page x (TakenLeft old old.taken n))) (sym c.if-full.false) (c.all_taken.ensures.next)

@@ -1,5 +1,5 @@
 use Rattle.std.proofs.Common.{◌<◌, ◌≤◌, length, arith}
-use Rattle.nm_migrator_work.specs.Works.{IsNewWork}
+use Rattle.nm_migrator_work.specs.Works.{IsNewMigratorWork}
 use Rattle.nm_migrator.specs.declared.migrating.MigratingStage.TheVariants.{TakingPending}
 use Rattle.nm_migrator.specs.Planned.{most_taken}
 use Rattle.nm_migrator.specs.Stages.{TakenLeft, TakesLeft}
@@ -11,10 +11,10 @@ pub returns-then-len-lt-MOST_TAKEN-clause-next : goal.returns-then-len-lt-MOST_T
 returns-then-len-lt-MOST_TAKEN-clause-next c =
     let old = c.args.self.now in
     let room : length old.taken < most_taken = omega (arith, c.len.ensures.count) in
-    gives-stage IsNewWork old c.go.new.self TakingPending c.go.result (TakesLeft old) c.go.ensures.stage c.go.ensures.made c.go.ensures.new (c.requires, room) tt (takes-one old room)
+    gives-stage IsNewMigratorWork old c.go.new.self TakingPending c.go.result (TakesLeft old) c.go.ensures.stage c.go.ensures.made c.go.ensures.new (c.requires, room) tt (takes-one old room)
 
 pub returns-else-len-lt-MOST_TAKEN-clause-next : goal.returns-else-len-lt-MOST_TAKEN-clause-next
 returns-else-len-lt-MOST_TAKEN-clause-next c =
     let old = c.args.self.now in
     let full : most_taken ≤ length old.taken = omega (arith, c.len.ensures.count) in
-    gives-fit IsNewWork old.geometry.now old.spent c.all_taken.new.self c.all_taken.result (TakenLeft old old.taken) (TakesLeft old) c.all_taken.ensures.next (takes-all old full)
+    gives-fit IsNewMigratorWork old.geometry.now old.spent c.all_taken.new.self c.all_taken.result (TakenLeft old old.taken) (TakesLeft old) c.all_taken.ensures.next (takes-all old full)

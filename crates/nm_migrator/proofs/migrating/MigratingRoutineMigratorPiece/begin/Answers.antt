@@ -1,10 +1,10 @@
 use Rattle.std.proofs.Common.{ap, subst, refl}
 use Rattle.nm_part.specs.Patterns.{Sometimes}
 use Rattle.nm_action.specs.declared.turn.Lane.TheVariants.{Candidates}
-use Rattle.nm_migrator_work.specs.Works.{IsNewWork}
+use Rattle.nm_migrator_work.specs.Works.{IsNewMigratorWork}
 use Rattle.nm_migrator.specs.declared.migrating.MigratingStage.TheVariants.{TakingCandidate}
-use Rattle.nm_migrator.specs.Planned.{Kept, nothing_kept}
-use Rattle.nm_migrator.specs.Migrating.{Rounds}
+use Rattle.nm_migrator.specs.Planned.{MigratorKept, nothing_kept}
+use Rattle.nm_migrator.specs.Migrating.{MigratorRounds}
 use Rattle.nm_migrator.proofs.Giving.{gives-stage}
 use Rattle.nm_migrator.proofs.Fitting.{candidates-fit}
 use Rattle.nm_migrator.proofs.migrating.MigratingRoutineMigratorPiece.begin.Goals as goal
@@ -13,10 +13,10 @@ pub returns-clause-next : goal.returns-clause-next
 returns-clause-next c =
     let old = c.args.self.now in
     let new = c.requires in
-    gives-stage IsNewWork old c.go.new.self TakingCandidate c.go.result (λ n. Rounds old.geometry.now old.retry n Candidates (nothing_kept old.geometry.now)) c.go.ensures.stage c.go.ensures.made c.go.ensures.new new.kept tt
-    (λ notes outcome s. subst (λ (k : Kept). Sometimes (λ n. Rounds old.geometry.now old.retry n Candidates k) notes outcome) new.aborts (candidates-fit old notes outcome s))
+    gives-stage IsNewMigratorWork old c.go.new.self TakingCandidate c.go.result (λ n. MigratorRounds old.geometry.now old.retry n Candidates (nothing_kept old.geometry.now)) c.go.ensures.stage c.go.ensures.made c.go.ensures.new new.kept tt
+    (λ notes outcome s. subst (λ (k : MigratorKept). Sometimes (λ n. MigratorRounds old.geometry.now old.retry n Candidates k) notes outcome) new.aborts (candidates-fit old notes outcome s))
     _ (record {
       geometry = new.kept.has.geometry;
       empty = record { ops = refl; owned = refl; turn = refl };
-      drawn = record { bumps = ap (λ (k : Kept). k.spent.bumps) new.aborts; raises = ap (λ (k : Kept). k.spent.raises) new.aborts };
+      drawn = record { bumps = ap (λ (k : MigratorKept). k.spent.bumps) new.aborts; raises = ap (λ (k : MigratorKept). k.spent.raises) new.aborts };
     })
