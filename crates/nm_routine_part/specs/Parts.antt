@@ -1,12 +1,11 @@
 -- An actor's part of the turns of a run, said without the actor: which turns they are, and what is counted of them.
-use Rattle.std.specs.Prelude.{◌≡◌, ◌++◌, Bool, true, false}
+use Rattle.std.specs.Prelude.{◌≡◌, ◌∷◌, ◌++◌, Bool, true, false}
 use Rattle.nm_action.specs.declared.tally.Tally.{Tally}
 use Rattle.nm_action.specs.Tally.{sum_of}
 use Rattle.nm_view.specs.Views.{View}
-use Rattle.nm_part.specs.Patterns.{CanEnd}
 use Rattle.nm_tally.specs.Counts.{events_tally}
 use Rattle.nm_actor.specs.Turns.{Turns, own_list}
-use Rattle.nm_worker.specs.Notes.{Notes, noted_turns, notes_tally}
+use Rattle.nm_worker.specs.Notes.{Noted, Notes, noted_turns, notes_tally}
 use Rattle.nm_worker.specs.Routines.{IsLeftEmpty}
 
 -- a whole sequence, with some outcome
@@ -14,10 +13,17 @@ pub record HasOutcome {O : Type 0} (whole : Notes → O → Type 0) (notes : Not
   pub outcome : O
   pub shown : whole notes outcome
 
--- a whole sequence where the actor has ended, and else the beginning of one
+-- the beginning of a whole sequence that has one turn more at least
+pub record HasMore {O : Type 0} (whole : Notes → O → Type 0) (notes : Notes) : Type 0 where
+  pub next : Noted
+  pub rest : Notes
+  pub outcome : O
+  pub shown : whole (notes ++ next ∷ rest) outcome
+
+-- a whole sequence where the actor has ended, and else the beginning of one that goes on
 abbrev pub IsCarriedOn : {O : Type 0} → (Notes → O → Type 0) → Bool → Notes → Type 0
 IsCarriedOn whole true notes = HasOutcome whole notes
-IsCarriedOn whole false notes = CanEnd (λ rest outcome. whole (notes ++ rest) outcome)
+IsCarriedOn whole false notes = HasMore whole notes
 
 -- an actor that has ended leaves nothing open
 abbrev pub IsEmptyAtEnd : Bool → View → Type 0
