@@ -14,7 +14,7 @@ use Rattle.nm_actor.specs.Turns.{Turns, own_list}
 use Rattle.nm_actor.proofs.TurnLists.{own-append}
 use Rattle.nm_worker.specs.Notes.{Notes, noted_turns, counts_last, worked, IsWorkDone}
 use Rattle.nm_worker.proofs.NoteLists.{turns-append, own-worked}
-use Rattle.nm_migrator.specs.Planned.{is_mapped}
+use Rattle.nm_migrator.specs.Planned.{MigratorKept, is_mapped}
 use Rattle.nm_marks.specs.Contents.{HasEvent, ListsOnly}
 use Rattle.nm_marks.specs.Marks.{IsMarkOf, HasOnlyMarks, IsMigratorMark, IsTakenBack}
 use Rattle.nm_marks.proofs.Contents.{only-both, marks-more, has-left, has-right}
@@ -26,7 +26,7 @@ use Rattle.nm_migrator_marks.proofs.Among.{IsAmong}
 
 -- the outcome of a sequence of the migrator
 abbrev pub MigratorOutcome : Type 0
-MigratorOutcome = Unit {0}
+MigratorOutcome = MigratorKept
 
 -- a Mark that takes a mark back
 abbrev pub IsReturnMark : ℕ → ℕ → Type 0

@@ -70,8 +70,8 @@ left-after g page left before own end seen h all b here = elim (all b here) [
   | inr swept ↦ inr (swept-more g b before own swept)
 ]
 
-unmarks-clears : (g : Geometry) (left : List ℕ) (before : Own) → AreAllSeen g before → AreLeft g before left → ClearsWith g before [] [] (Unmarks g left)
-unmarks-clears g [] before seen all notes outcome h fits =
+unmarks-clears : (g : Geometry) (left : List ℕ) (kept : MigratorKept) (before : Own) → AreAllSeen g before → AreLeft g before left → ClearsWith g before [] [] (Unmarks g left kept)
+unmarks-clears g [] kept before seen all notes outcome h fits =
     let C : Notes → Type 0 = λ l. Clears g before [] [] (own_noted l) in
     subst C (sym h.none) (record {
       marks = tt;
@@ -87,12 +87,12 @@ unmarks-clears g [] before seen all notes outcome h fits =
         | inr none ↦ absurd none
       ];
     })
-unmarks-clears g (page ∷ left) before seen all notes outcome h fits =
-    does-clears g before [] [] IsMigratorWork migrator_counts (made_mark page 1 0) (λ end. Unmarks g left) (unmark-returns g page)
+unmarks-clears g (page ∷ left) kept before seen all notes outcome h fits =
+    does-clears g before [] [] IsMigratorWork migrator_counts (made_mark page 1 0) (λ end. Unmarks g left kept) (unmark-returns g page)
     (λ own end shown. record {
       later = [];
       kept = λ b none. absurd none;
-      clear = unmarks-clears g left (before ++ own) (λ cpu there. has-left (IsEndSeen cpu) before own (seen cpu there)) (left-after g page left before own end seen shown all);
+      clear = unmarks-clears g left kept (before ++ own) (λ cpu there. has-left (IsEndSeen cpu) before own (seen cpu there)) (left-after g page left before own end seen shown all);
     })
     notes outcome h fits
 
@@ -101,7 +101,7 @@ unmarks-clears g (page ∷ left) before seen all notes outcome h fits =
 after-last : (g : Geometry) (next : Lane → MigratorKept → Sequence) (kept : MigratorKept) (before : Own) → NextClears g next → AreAllSeen g before → ClearsWith g before [] [] (TakesMapped g Candidates (AfterLast g next kept))
 after-last g next kept before n seen =
     takes-candidates g [] [] before (AfterLast g next kept) (λ page mapped. judges-clears g next kept page mapped n before [])
-    (unmarks-clears g (range_with_len 0 (page_count g)) before seen (λ b here. inl (among-range 0 (page_count g) b (omega (arith)) (omega (arith, here)))))
+    (unmarks-clears g (range_with_len 0 (page_count g)) kept before seen (λ b here. inl (among-range 0 (page_count g) b (omega (arith)) (omega (arith, here)))))
 
 asked : (g : Geometry) (next : Lane → MigratorKept → Sequence) (kept : MigratorKept) (before own : Own) (end : MigratorWorkEnd) → NextClears g next → IsMigratorWork (made_ask g) g own end
     → ClearsWith g (before ++ own) [] [] (Either (all_ended_in end) (TakesMapped g Candidates (AfterLast g next kept)) (next Candidates kept))

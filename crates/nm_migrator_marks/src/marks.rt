@@ -3,6 +3,7 @@
 ghost use Rattle.std.specs.Prelude.{ℕ, [], Option};
 ghost use Rattle.nm_base.specs.Geometry.{Geometry};
 ghost use Rattle.nm_worker.specs.Notes.{Notes, noted_turns};
+ghost use Rattle.nm_migrator.specs.Planned.{MigratorKept};
 ghost use Rattle.nm_migrator.specs.Migrating.{IsMigrating};
 ghost use Rattle.nm_unmarked.specs.Unmarking.{IsMigratorUnmarking};
 ghost use Rattle.nm_note_marks.specs.Contents.{own_noted};
@@ -12,6 +13,6 @@ ghost use Rattle.nm_pending.specs.PendingTurns.{FitsPending};
 /// its own; whenever it marked a page as pending it took that mark back later; and after it saw every processor at its end it took
 /// back the candidate mark of each page.
 pub fn an_ended_migrator_takes_marks_back()
-    ensures { (g : Geometry) (retry : Option ℕ) (notes : Notes) → IsMigrating g retry notes tt → FitsPending [] (noted_turns notes)
+    ensures { (g : Geometry) (retry : Option ℕ) (notes : Notes) (kept : MigratorKept) → IsMigrating g retry notes kept → FitsPending [] (noted_turns notes)
         → IsMigratorUnmarking g (own_noted notes) }
 {}

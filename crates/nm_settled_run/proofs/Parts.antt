@@ -9,11 +9,9 @@ use Rattle.nm_view.specs.Opening.{IsActor}
 use Rattle.nm_actor.specs.Turns.{Turns, own_list, turns_view}
 use Rattle.nm_worker.specs.Notes.{Notes, noted_turns}
 use Rattle.nm_worker.specs.Routines.{IsLeftEmpty}
-use Rattle.nm_routine_part.specs.Parts.{IsCarriedOn, IsRoutinePart}
+use Rattle.nm_routine_part.specs.Parts.{HasOutcome, IsCarriedOn, IsEmptyAtEnd}
 use Rattle.nm_migrator.specs.Migrating.{IsMigrating}
-use Rattle.nm_migrator.specs.Parts as migrator
 use Rattle.nm_kswap.specs.Reclaiming.{IsReclaiming}
-use Rattle.nm_kswap.specs.Parts as reclaimer
 use Rattle.nm_cpu_fault.specs.ProcessorFaults.{processor_faults}
 use Rattle.nm_cpu.specs.Parts.{IsSequence}
 use Rattle.nm_script.specs.Plain.{Script}
@@ -54,7 +52,7 @@ cpu-view script run played cpu counts h ended =
 
 -- ---- the routines, where they have ended
 
-whole-of : (whole : Notes → Unit {0} → Type 0) (notes : Notes) (ended : Bool) → ended ≡ true → IsCarriedOn whole ended notes → whole notes tt
+whole-of : {O : Type 0} (whole : Notes → O → Type 0) (notes : Notes) (ended : Bool) → ended ≡ true → IsCarriedOn whole ended notes → HasOutcome whole notes
 whole-of whole notes ended is h =
     let C : Bool → Type 0 = λ b. IsCarriedOn whole b notes in
     subst C is h
@@ -63,20 +61,23 @@ reclaimer-marks : (g : Geometry) (turns : Turns) (ended : Bool) (counts : Tally)
 reclaimer-marks g turns ended counts h is =
     let M : Turns → Type 0 = λ l. HasOnlyMarks IsNoMark (own_list l) in
     let p = h.part in
-    subst M (sym p.is) (reclaiming-unmarked g p.notes tt (whole-of (IsReclaiming g) p.notes ended is p.carried))
+    let w = whole-of (IsReclaiming g) p.notes ended is p.carried in
+    subst M (sym p.is) (reclaiming-unmarked g p.notes w.outcome w.shown)
 
 reclaimer-off : (g : Geometry) (turns : Turns) (ended : Bool) (counts : Tally) → IsReclaimerRun g turns ended counts → ended ≡ true → AreOffPending turns
 reclaimer-off g turns ended counts h is =
     let O : Turns → Type 0 = λ l. AreOffPending l in
     let p = h.part in
-    subst O (sym p.is) (reclaiming-off g p.notes tt (whole-of (IsReclaiming g) p.notes ended is p.carried))
+    let w = whole-of (IsReclaiming g) p.notes ended is p.carried in
+    subst O (sym p.is) (reclaiming-off g p.notes w.outcome w.shown)
 
 migrator-marks : (g : Geometry) (retry : Option ℕ) (turns : Turns) (ended : Bool) (counts : Tally) → IsMigratorRun g retry turns ended counts → ended ≡ true → FitsPending [] turns → IsMigratorUnmarking g (own_list turns)
 migrator-marks g retry turns ended counts h is fits =
     let F : Turns → Type 0 = λ l. FitsPending [] l in
     let M : Turns → Type 0 = λ l. IsMigratorUnmarking g (own_list l) in
     let p = h.part in
-    subst M (sym p.is) (migrating-unmarked g retry p.notes tt (whole-of (IsMigrating g retry) p.notes ended is p.carried) (subst F p.is fits))
+    let w = whole-of (IsMigrating g retry) p.notes ended is p.carried in
+    subst M (sym p.is) (migrating-unmarked g retry p.notes w.outcome w.shown (subst F p.is fits))
 
 -- the view of a routine's actor, which is no processor
 routine-view : (g : Geometry) (actor : ℕ) (view : View) → ¬ (actor < g.cpus) → IsLeftEmpty view → IsEndedView g actor view
@@ -119,14 +120,14 @@ migrator-view : (script : Script) (run : SimRun) (played : List Played) (tally :
 migrator-view script run played tally h =
     let g = script.geometry in
     let n = g.cpus in
-    let L : Bool → Type 0 = λ b. migrator.IsEmptyAtEnd b (turns_view g n (turns_by n played)) in
+    let L : Bool → Type 0 = λ b. IsEmptyAtEnd b (turns_view g n (turns_by n played)) in
     routine-view g n (turns_view g n (turns_by n played)) (λ below. omega (arith, below)) (subst L (h.ended n (omega (arith))) h.migrator.left)
 
 reclaimer-view : (script : Script) (run : SimRun) (played : List Played) (tally : ℕ → Tally) → AreAllEnded script run played tally → IsEndedView script.geometry (script.geometry.cpus + 1) (turns_view script.geometry (script.geometry.cpus + 1) (turns_by (script.geometry.cpus + 1) played))
 reclaimer-view script run played tally h =
     let g = script.geometry in
     let n = g.cpus in
-    let L : Bool → Type 0 = λ b. reclaimer.IsEmptyAtEnd b (turns_view g (n + 1) (turns_by (n + 1) played)) in
+    let L : Bool → Type 0 = λ b. IsEmptyAtEnd b (turns_view g (n + 1) (turns_by (n + 1) played)) in
     routine-view g (n + 1) (turns_view g (n + 1) (turns_by (n + 1) played)) (λ below. omega (arith, below)) (subst L (h.ended (n + 1) (omega (arith))) h.reclaimer.left)
 
 pub ended-turns : (script : Script) (run : SimRun) (played : List Played) (tally : ℕ → Tally) → AreAllEnded script run played tally → HaveEndedTurns script.geometry played
