@@ -73,11 +73,12 @@ no-return (inr h) = omega (arith, h.new_is)
 
 back-front : (page : ℕ) (front own : Own) → HasOnlyMarks IsReturnMark front → AreAllBack page own → AreAllBack page (front ++ own)
 back-front page [] own so h = h
-back-front page (e ∷ front) own so h =
-    ((λ is.
-    let A : Action → Type 0 = λ a. IsMarkOf IsReturnMark a in
-    absurd (no-return (subst A (ap (λ (p : Action × Reply). p.0) is) so.0))),
-    back-front page front own so.1 h)
+back-front page (e ∷ front) own so h = (
+  (λ is.
+      let A : Action → Type 0 = λ a. IsMarkOf IsReturnMark a in
+      absurd (no-return (subst A (ap (λ (p : Action × Reply). p.0) is) so.0))),
+  back-front page front own so.1 h,
+)
 
 -- ---- the lane
 

@@ -76,11 +76,11 @@ unmarks-clears g [] kept before seen all notes outcome h fits =
     subst C (sym h.none) (record {
       marks = tt;
       swept = λ b here.
-        let S : Own → Type 0 = λ l. IsCandidateTakenBack g b l in
-        subst S (sym (append-nil before)) (elim (all b here) [
-          | inl none ↦ absurd none
-          | inr swept ↦ swept
-        ]);
+          let S : Own → Type 0 = λ l. IsCandidateTakenBack g b l in
+          subst S (sym (append-nil before)) (elim (all b here) [
+            | inl none ↦ absurd none
+            | inr swept ↦ swept
+          ]);
       back = λ b. tt;
       paid = λ b mapped owed. elim owed [
         | inl none ↦ absurd none
