@@ -1,5 +1,5 @@
 -- Lists of pages, and which pages are among them.
-use Rattle.std.proofs.Common.{◌≡◌, ℕ, ◌⊎◌, List, [], ◌∷◌, ◌++◌, inl, inr, map}
+use Rattle.std.proofs.Common.{◌≡◌, ℕ, ◌⊎◌, List, [], ◌∷◌, ◌++◌, inl, inr}
 
 abbrev pub IsAmong : ℕ → List ℕ → Type 0
 IsAmong page [] = ⊥

@@ -1,5 +1,5 @@
 -- Patterns of the migrator whose sequences leave no mark: what is held is taken back, as is what is marked as pending.
-use Rattle.std.proofs.Common.{◌≡◌, ℕ, ◌<◌, ◌⊎◌, Bool, true, false, List, [], ◌∷◌, ◌++◌, inl, inr, refl, sym, ap, subst, ◌∙◌, append_assoc, arith}
+use Rattle.std.proofs.Common.{◌≡◌, ℕ, ◌<◌, ◌⊎◌, Bool, true, false, List, [], ◌∷◌, ◌++◌, inl, inr, sym, ap, subst, ◌∙◌, append_assoc, arith}
 use Rattle.nm_base.specs.Geometry.{Geometry}
 use Rattle.nm_base.specs.Ranges.{IsPage}
 use Rattle.nm_action.specs.declared.action.Action.{Action}
@@ -9,10 +9,9 @@ use Rattle.nm_action.specs.declared.action.Reply.TheVariants.{Done}
 use Rattle.nm_action.specs.declared.tally.Tally.{Tally}
 use Rattle.nm_action.specs.Own.{Own}
 use Rattle.nm_permit.specs.Permitted.{IsMarkSet}
-use Rattle.nm_part.specs.Patterns.{Follows, Either, Sometimes}
-use Rattle.nm_actor.specs.Turns.{Turns, own_list}
-use Rattle.nm_actor.proofs.TurnLists.{own-append}
-use Rattle.nm_worker.specs.Notes.{Notes, noted_turns, counts_last, worked, IsWorkDone}
+use Rattle.nm_part.specs.Patterns.{Follows, Either}
+use Rattle.nm_actor.specs.Turns.{Turns}
+use Rattle.nm_worker.specs.Notes.{Notes, noted_turns, worked, IsWorkDone}
 use Rattle.nm_worker.proofs.NoteLists.{turns-append, own-worked}
 use Rattle.nm_migrator.specs.Planned.{MigratorKept, is_mapped}
 use Rattle.nm_marks.specs.Contents.{HasEvent, ListsOnly}

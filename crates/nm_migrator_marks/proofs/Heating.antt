@@ -1,5 +1,5 @@
 -- What is done with a candidate: a page that is marked as pending is put in the pending pages, so it is taken back later.
-use Rattle.std.proofs.Common.{◌≡◌, ℕ, ◌⊎◌, Bool, true, false, List, [], ◌∷◌, ◌++◌, refl, inl, inr, sym, ap, subst, ◌∙◌, append_assoc}
+use Rattle.std.proofs.Common.{◌≡◌, ℕ, true, List, [], ◌∷◌, ◌++◌, refl, inl, inr, sym, ap, subst, ◌∙◌, append_assoc}
 use Rattle.nm_base.specs.Geometry.{Geometry}
 use Rattle.nm_action.specs.declared.action.Action.{Action}
 use Rattle.nm_action.specs.declared.action.Action.TheVariants as action
@@ -11,7 +11,7 @@ use Rattle.nm_action.specs.Own.{Own}
 use Rattle.nm_cool.specs.declared.cool.Cooled.{Cooled}
 use Rattle.nm_cool.specs.declared.cool.Cooled.TheVariants as cooled
 use Rattle.nm_actor.specs.Turns.{Turns}
-use Rattle.nm_worker.specs.Notes.{Notes, noted_turns, IsWorkDone}
+use Rattle.nm_worker.specs.Notes.{Notes, noted_turns}
 use Rattle.nm_worker.proofs.NoteLists.{own-worked}
 use Rattle.nm_migrator_work.specs.declared.work.MigratorWork.TheVariants.{Mark, Looks, Cool, Batch, Move, Ask}
 use Rattle.nm_migrator_work.specs.Works.{MigratorWorkEnd, IsMigratorWork, made_mark, made_looks, made_cool}
@@ -25,7 +25,6 @@ use Rattle.nm_unmarked.specs.Unmarking.{IsCandidateTakenBack}
 use Rattle.nm_note_marks.specs.Contents.{own_noted}
 use Rattle.nm_note_marks.proofs.Patterns.{noted-append}
 use Rattle.nm_pending.specs.PendingTurns.{FitsPending}
-use Rattle.nm_migrator_marks.proofs.Among.{IsAmong}
 use Rattle.nm_migrator_marks.proofs.Clearing.{MigratorOutcome, IsPendingMade, Clears, ClearsAfter, worked-fits, fits-parts, does-same, either-clears}
 use Rattle.nm_migrator_marks.proofs.Lanes.{puts-clears, put-candidate}
 use Rattle.nm_migrator_marks.proofs.Works.{unmark-returns, look-returns, cool-returns}

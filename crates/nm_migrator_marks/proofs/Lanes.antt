@@ -1,7 +1,6 @@
 -- Puts and takes: a page that is put lies in the lane, and the first page of the lane is held when it is taken.
 use Rattle.std.proofs.Common.{◌≡◌, ℕ, zero, suc, ◌⊎◌, Bool, true, false, List, [], ◌∷◌, ◌++◌, Option, Some, None, inl, inr, refl, sym, ap, subst, ◌∙◌}
 use Rattle.nm_base.specs.Geometry.{Geometry}
-use Rattle.nm_action.specs.declared.turn.Lane.{Lane}
 use Rattle.nm_action.specs.declared.turn.Lane.TheVariants.{Candidates, Pending}
 use Rattle.nm_action.specs.declared.turn.Turn.{Turn}
 use Rattle.nm_action.specs.declared.turn.Turn.TheVariants as turn
@@ -10,7 +9,7 @@ use Rattle.nm_action.specs.declared.turn.Heard.TheVariants.{PutDone, PutFull, To
 use Rattle.nm_action.specs.Own.{Own}
 use Rattle.nm_part.specs.Patterns.{Either}
 use Rattle.nm_actor.specs.Turns.{Turns, own_list}
-use Rattle.nm_worker.specs.Notes.{Noted, Notes, noted_turns, IsPut, IsTake}
+use Rattle.nm_worker.specs.Notes.{Notes, noted_turns, IsPut, IsTake}
 use Rattle.nm_migrator.specs.Planned.{is_mapped}
 use Rattle.nm_migrator.specs.Migrating.{Sequence, PutsTry, Puts, Taken, TakesMappedTry, TakesMapped}
 use Rattle.nm_note_marks.specs.Contents.{own_noted}

@@ -1,15 +1,15 @@
 -- The taking of pending pages, and the plan of their moves: each page that was taken is a page of the plan.
-use Rattle.std.proofs.Common.{◌≡◌, ℕ, zero, suc, ◌⊎◌, Bool, true, false, List, [], ◌∷◌, ◌++◌, length, slice_index, Option, Some, None, refl, inl, inr, sym, subst}
+use Rattle.std.proofs.Common.{◌≡◌, ℕ, zero, suc, ◌⊎◌, Bool, true, false, List, [], ◌∷◌, ◌++◌, length, slice_index, Option, refl, inl, inr}
 use Rattle.nm_base.specs.Geometry.{Geometry}
 use Rattle.nm_action.specs.declared.turn.Lane.{Lane}
 use Rattle.nm_action.specs.Own.{Own}
 use Rattle.nm_vpages.specs.VPages.{vpages_of}
-use Rattle.nm_part.specs.Patterns.{Either, Each}
+use Rattle.nm_part.specs.Patterns.{Either}
 use Rattle.nm_worker.specs.Notes.{Notes}
-use Rattle.nm_migrator_work.specs.Works.{MigratorWorkEnd, IsMigratorWork, made_looks}
+use Rattle.nm_migrator_work.specs.Works.{IsMigratorWork, made_looks}
 use Rattle.nm_migrator.specs.Ends.{looks_in, migrator_counts}
-use Rattle.nm_migrator.specs.Planned.{MigratorKept, is_mapped, is_among, Plan, no_plan, is_moved_locked, first_or, planned, planned_by}
-use Rattle.nm_migrator.specs.Migrating.{Sequence, Puts, Batches, PlanNext, Plans, AfterTakes, PendingTaken, TakesPending}
+use Rattle.nm_migrator.specs.Planned.{MigratorKept, is_among, Plan, no_plan, is_moved_locked, first_or, planned, planned_by}
+use Rattle.nm_migrator.specs.Migrating.{Sequence, Puts, Plans, AfterTakes, PendingTaken, TakesPending}
 use Rattle.nm_note_marks.specs.Contents.{own_noted}
 use Rattle.nm_migrator_marks.proofs.Among.{IsAmong, among-left, among-right, among-either, pages_of, pages-more}
 use Rattle.nm_migrator_marks.proofs.Clearing.{ClearsWith, ClearsAfter, does-clears, owed-more}

@@ -1,5 +1,5 @@
 -- The end of the migrator: after every processor was seen at its end, and there was no candidate, the mark of each page is taken back.
-use Rattle.std.proofs.Common.{◌≡◌, ℕ, zero, suc, ◌+◌, ◌<◌, ◌≤◌, ◌⊎◌, Bool, true, false, List, [], ◌∷◌, ◌++◌, Option, Some, None, refl, inl, inr, sym, ap, subst, ◌∙◌, append_assoc, arith}
+use Rattle.std.proofs.Common.{◌≡◌, ℕ, zero, suc, ◌+◌, ◌<◌, ◌≤◌, ◌⊎◌, true, false, List, [], ◌∷◌, ◌++◌, inl, inr, sym, ap, subst, ◌∙◌, append_assoc, arith}
 use Rattle.std.proofs.lemmas.List.{append-nil}
 use Rattle.std.proofs.lemmas.Bool.{cases_eq}
 use Rattle.std.specs.List.{range_with_len}
@@ -9,7 +9,7 @@ use Rattle.nm_action.specs.declared.action.Action.TheVariants as action
 use Rattle.nm_action.specs.declared.turn.Lane.{Lane}
 use Rattle.nm_action.specs.declared.turn.Lane.TheVariants.{Candidates}
 use Rattle.nm_action.specs.Own.{Own}
-use Rattle.nm_part.specs.Patterns.{Ends, Either}
+use Rattle.nm_part.specs.Patterns.{Either}
 use Rattle.nm_worker.specs.Notes.{Notes}
 use Rattle.nm_migrator_work.specs.declared.work.MigratorWork.TheVariants.{Mark, Looks, Cool, Batch, Move, Ask}
 use Rattle.nm_migrator_work.specs.Works.{MigratorWorkEnd, IsMigratorWork, made_mark, made_ask}
@@ -21,7 +21,7 @@ use Rattle.nm_unmarked.specs.Unmarking.{IsEndSeen, IsCandidateTakenBack}
 use Rattle.nm_note_marks.specs.Contents.{own_noted}
 use Rattle.nm_migrator_marks.proofs.Asking.{all-seen}
 use Rattle.nm_migrator_marks.proofs.Among.{IsAmong}
-use Rattle.nm_migrator_marks.proofs.Clearing.{Clears, ClearsWith, AreAllSeen, GoesOn, does-clears}
+use Rattle.nm_migrator_marks.proofs.Clearing.{Clears, ClearsWith, AreAllSeen, does-clears}
 use Rattle.nm_migrator_marks.proofs.Lanes.{takes-candidates}
 use Rattle.nm_migrator_marks.proofs.Works.{unmark-returns, ask-returns}
 use Rattle.nm_migrator_marks.proofs.Heating.{NextClears, judges-clears}

@@ -8,10 +8,10 @@ use Rattle.nm_looks.specs.Parts.{page_looks}
 use Rattle.nm_batch.specs.Places.{batch_made}
 use Rattle.nm_migrator_work.specs.declared.work.MigratorWork.TheVariants.{Mark, Looks, Cool, Batch, Move, Ask}
 use Rattle.nm_migrator_work.specs.Works.{MigratorWorkEnd, IsMigratorWork, made_mark, made_looks, made_cool, made_batch, made_move, made_ask}
-use Rattle.nm_marks.specs.Contents.{HasOnly, ListsOnly}
+use Rattle.nm_marks.specs.Contents.{ListsOnly}
 use Rattle.nm_marks.specs.Marks.{IsMarkOf}
 use Rattle.nm_marks.proofs.Patterns.{only-act}
-use Rattle.nm_part_marks.specs.Actions.{IsActionOf, IsNoAck}
+use Rattle.nm_part_marks.specs.Actions.{IsNoAck}
 use Rattle.nm_part_marks.proofs.Made.{marks-of}
 use Rattle.nm_part_marks.proofs.Leaves.{looks-actions}
 use Rattle.nm_part_marks.proofs.Moves.{batch-actions, locked-actions, cool-actions}

@@ -1,10 +1,9 @@
 -- The turns of the actor that alone puts pages into the lane Pending and takes them from it.
-use Rattle.std.proofs.Common.{◌≡◌, ◌≢◌, ℕ, ◌==◌, Bool, true, false, cond, List, [], ◌∷◌, ◌++◌, map, refl, sym, ap, subst, ◌∙◌, inl, inr, arith}
+use Rattle.std.proofs.Common.{◌≡◌, ◌≢◌, ℕ, ◌==◌, Bool, true, false, cond, List, [], ◌∷◌, ◌++◌, map, refl, sym, ap, subst, inl, inr, arith}
 use Rattle.std.specs.List.{filter}
 use Rattle.std.proofs.lemmas.Bool.{cases_eq, eq-eqb, ne_eqb}
 use Rattle.nm_base.specs.Geometry.{Geometry}
 use Rattle.nm_action.specs.declared.turn.Lane.TheVariants.{Pending}
-use Rattle.nm_view.specs.Opening.{IsActor}
 use Rattle.nm_actor.specs.Turns.{Turns}
 use Rattle.nm_script.specs.declared.schedule.Schedule.{Schedule}
 use Rattle.nm_schedule.specs.declared.turn.Played.{Played}

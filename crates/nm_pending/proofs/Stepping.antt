@@ -1,5 +1,5 @@
 -- What one turn of a schedule does to the lane Pending.
-use Rattle.std.proofs.Common.{◌≡◌, ◌≤◌, ◌+◌, ℕ, zero, suc, Bool, List, [], ◌∷◌, ◌++◌, length, drop, Some, None, refl, sym, ap, ◌∙◌, subst, arith}
+use Rattle.std.proofs.Common.{◌≡◌, ◌≤◌, ◌+◌, ℕ, zero, suc, Bool, List, [], ◌∷◌, ◌++◌, length, drop, Some, None, refl, sym, ap, ◌∙◌, arith}
 use Rattle.std.specs.List.{cons_option}
 use Rattle.std.proofs.lemmas.List.{append-nil, drop-append-le, length-append}
 use Rattle.std.proofs.lemmas.List.Elements.{filter_map-append}
@@ -8,9 +8,9 @@ use Rattle.nm_action.specs.declared.turn.Lane.TheVariants.{Candidates, Pending}
 use Rattle.nm_action.specs.declared.turn.Turn.{Turn}
 use Rattle.nm_action.specs.declared.turn.Turn.TheVariants.{Do, Put, Take, End}
 use Rattle.nm_action.specs.declared.turn.Heard.{Heard}
-use Rattle.nm_action.specs.declared.turn.Heard.TheVariants.{Start, Answer, PutDone, PutFull, Took, TookNone}
+use Rattle.nm_action.specs.declared.turn.Heard.TheVariants.{Answer, PutDone, PutFull, Took, TookNone}
 use Rattle.nm_schedule.specs.declared.turn.Played.{Played}
-use Rattle.nm_schedule.specs.Lanes.{put_by, took_by, puts_in, takes_in, pages_in, IsFirst, IsLaneAnswer}
+use Rattle.nm_schedule.specs.Lanes.{put_by, took_by, puts_in, takes_in, pages_in, IsLaneAnswer}
 use Rattle.nm_pending.specs.PendingTurns.{IsPendingStep, IsOffPending}
 
 -- no more pages were taken than put

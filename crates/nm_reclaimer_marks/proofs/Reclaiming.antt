@@ -15,7 +15,7 @@ use Rattle.nm_worker.specs.Notes.{Notes, noted_turns, worked}
 use Rattle.nm_worker.proofs.NoteLists.{turns-append}
 use Rattle.nm_kswap.specs.Works.{ReclaimerWorkMade, ReclaimerWorkEnd, IsReclaimerWork, made_asking, made_level, made_inspect, made_demote}
 use Rattle.nm_kswap.specs.Ends.{asked_in, level_in, inspected_in, demoted_in, spent_in, frames_freed, reclaimer_counts}
-use Rattle.nm_kswap.specs.Reclaiming.{Sequence, hand_of, hand_moved, with_drawn, marks_of, last_tier, has_vpage, Does, Demotes, AfterInspect, Inspects, Visit, VisitsPages, Relieves, Tiers, ReclaimerRound, ReclaimerRounds, kept_at_first, IsReclaiming}
+use Rattle.nm_kswap.specs.Reclaiming.{Sequence, hand_of, hand_moved, with_drawn, marks_of, last_tier, has_vpage, Does, Demotes, AfterInspect, Inspects, Visit, VisitsPages, Relieves, Tiers, ReclaimerRounds, kept_at_first, IsReclaiming}
 use Rattle.nm_marks.specs.Contents.{HasOnly, ListsOnly}
 use Rattle.nm_marks.specs.Marks.{HasOnlyMarks, IsNoMark}
 use Rattle.nm_marks.proofs.Contents.{only-both}
