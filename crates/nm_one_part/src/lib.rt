@@ -1,0 +1,4 @@
+//! Two parts of a run with the same answered turns are the same.
+#![tactic(auto)]
+
+pub mod results;
