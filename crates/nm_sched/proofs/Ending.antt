@@ -13,7 +13,8 @@ use Rattle.nm_kswap.specs.Reclaiming.{IsReclaiming}
 use Rattle.nm_kswap.specs.Parts.{ReclaimerWorker, reclaimer_geometry, AgreesReclaimer, IsReclaimerPart}
 use Rattle.nm_crew.specs.Crewed.{IsAgreed}
 use Rattle.nm_programs.specs.Runs.{HasPart}
-use Rattle.nm_sched.proofs.Acting.{reclaiming-acts, routine-acts}
+use Rattle.nm_kswap.proofs.Starting.{reclaiming-acts}
+use Rattle.nm_sched.proofs.Acting.{routine-acts}
 
 -- ---- End
 
