@@ -2,8 +2,8 @@ use Rattle.std.proofs.Common.{sym, subst, ◌∙◌}
 use Rattle.nm_compose.specs.declared.composite.Composite.{Composite}
 use Rattle.nm_locked.specs.Pieces.{LockedPiece}
 use Rattle.nm_locked.specs.declared.locked.Locked.{Locked}
-use Rattle.nm_migrator_work.specs.Wrapped.{IsNewMovePart}
-use Rattle.nm_migrator_work.proofs.parts.MoveWork.new.Goals as goal
+use Rattle.nm_migrator_parts.specs.Wrapped.{IsNewMovePart}
+use Rattle.nm_migrator_parts.proofs.parts.MoveWork.new.Goals as goal
 
 pub returns-clause-new : goal.returns-clause-new
 returns-clause-new c = record {

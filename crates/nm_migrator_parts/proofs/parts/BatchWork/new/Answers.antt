@@ -2,8 +2,8 @@ use Rattle.std.proofs.Common.{sym, subst, ◌∙◌}
 use Rattle.nm_compose.specs.declared.composite.Composite.{Composite}
 use Rattle.nm_txn.specs.Pieces.{TxnPiece}
 use Rattle.nm_batch.specs.declared.batch.Batch.{Batch}
-use Rattle.nm_migrator_work.specs.Wrapped.{IsNewBatchPart}
-use Rattle.nm_migrator_work.proofs.parts.BatchWork.new.Goals as goal
+use Rattle.nm_migrator_parts.specs.Wrapped.{IsNewBatchPart}
+use Rattle.nm_migrator_parts.proofs.parts.BatchWork.new.Goals as goal
 
 pub returns-clause-new : goal.returns-clause-new
 returns-clause-new c = record {

@@ -1,7 +1,7 @@
 //! The larger parts of the migrator's work: each tells of itself by names.
 
 ghost use Rattle.std.specs.Prelude.{◌≡◌, ◌≢◌, []};
-ghost use Rattle.nm_migrator_work.specs.Wrapped.{cool_work_made, IsNewCoolWork, batch_work_made, IsNewBatchWork, move_work_made, IsNewMoveWork};
+ghost use Rattle.nm_migrator_parts.specs.Wrapped.{cool_work_made, IsNewCoolWork, batch_work_made, IsNewBatchWork, move_work_made, IsNewMoveWork};
 
 use nm_base::Geometry;
 use nm_batch::{Batch, BatchAsked, PieceList};
@@ -34,7 +34,7 @@ pub struct MoveWork<'a> {
 
 impl<'a> CoolWork<'a> {
     /// The cooling of a page.
-    pub(crate) fn new(g: &'a Geometry, page: u32) -> CoolWork<'a>
+    pub fn new(g: &'a Geometry, page: u32) -> CoolWork<'a>
         ensures made { cool_work_made result ≡ record { 0 = g.now; 1 = page } }
         ensures new { IsNewCoolWork result }
     {
@@ -46,7 +46,7 @@ impl<'a> CoolWork<'a> {
 
 impl<'a> BatchWork<'a> {
     /// The batch of these pieces, by an actor that has drawn so much. Condition: there is a piece.
-    pub(crate) fn new(g: &'a Geometry, pieces: PieceList<(u32, u32)>, spent: Spent) -> BatchWork<'a>
+    pub fn new(g: &'a Geometry, pieces: PieceList<(u32, u32)>, spent: Spent) -> BatchWork<'a>
         requires { pieces ≢ [] }
         ensures made { batch_work_made result ≡ record { 0 = record { 0 = g.now; 1 = record { pieces = pieces; spent = spent } }; 1 = spent } }
         ensures new { IsNewBatchWork result }
@@ -60,7 +60,7 @@ impl<'a> BatchWork<'a> {
 
 impl<'a> MoveWork<'a> {
     /// The locked move of a page with this count, by an actor that has drawn so much.
-    pub(crate) fn new(
+    pub fn new(
         g: &'a Geometry,
         page: u32,
         count: u32,
@@ -83,7 +83,7 @@ impl<'a> Part for CoolWork<'a> {
     type Made = (Geometry, u32);
 
     ghost use Rattle.nm_cool.specs.Cooling.{IsCooling, MayCool, IsCooledLeft};
-    ghost use Rattle.nm_migrator_work.specs.Wrapped.{cool_work_made, IsNewCoolWork, AwaitsCoolWork};
+    ghost use Rattle.nm_migrator_parts.specs.Wrapped.{cool_work_made, IsNewCoolWork, AwaitsCoolWork};
 
     ghost made = { cool_work_made };
 
@@ -119,8 +119,7 @@ impl<'a> Part for BatchWork<'a> {
 
     type Made = ((Geometry, BatchAsked), Spent);
 
-    ghost use Rattle.nm_migrator_work.specs.Works.{MayBatchWork, IsBatchWork, BatchWorkLeaves};
-    ghost use Rattle.nm_migrator_work.specs.Wrapped.{batch_work_made, IsNewBatchWork, AwaitsBatchWork};
+    ghost use Rattle.nm_migrator_parts.specs.Wrapped.{batch_work_made, IsNewBatchWork, MayBatchWork, IsBatchWork, BatchWorkLeaves, AwaitsBatchWork};
 
     ghost made = { batch_work_made };
 
@@ -156,8 +155,7 @@ impl<'a> Part for MoveWork<'a> {
 
     type Made = ((Geometry, ChooseMade), Spent);
 
-    ghost use Rattle.nm_migrator_work.specs.Works.{MayMoveWork, IsMoveWork, MoveWorkLeaves};
-    ghost use Rattle.nm_migrator_work.specs.Wrapped.{move_work_made, IsNewMoveWork, AwaitsMoveWork};
+    ghost use Rattle.nm_migrator_parts.specs.Wrapped.{move_work_made, IsNewMoveWork, MayMoveWork, IsMoveWork, MoveWorkLeaves, AwaitsMoveWork};
 
     ghost made = { move_work_made };
 
