@@ -4,15 +4,17 @@ ghost use Rattle.std.specs.Prelude.{◌≡◌, ◌≢◌, []};
 ghost use Rattle.nm_migrator_parts.specs.Wrapped.{cool_work_made, IsNewCoolWork, batch_work_made, IsNewBatchWork, move_work_made, IsNewMoveWork};
 
 use nm_base::Geometry;
-use nm_batch::{Batch, BatchAsked, PieceList};
+use nm_batch::{BatchAsked, PieceList};
+use nm_batch_run::BatchRun;
 use nm_compose::Composite;
 use nm_cool::{Cool, CoolPiece, Cooled};
 use nm_drawing::{Drawing, Drawn};
 use nm_event::{Action, Reply, Spent, Step};
-use nm_locked::{ChooseMade, Locked, LockedOver, LockedPiece};
+use nm_locked::{ChooseMade, LockedOver};
+use nm_locked_run::LockedRun;
 use nm_part::{Part, Piece};
 use nm_transfer::TakenWords;
-use nm_txn::{TxnEnd, TxnPiece};
+use nm_txn::TxnEnd;
 
 /// The cooling of a candidate, as a part.
 #[derive(Drop)]
@@ -23,13 +25,13 @@ pub struct CoolWork<'a> {
 /// A batch of transactions, as a part that tells what it has drawn.
 #[derive(Drop)]
 pub struct BatchWork<'a> {
-    run: Drawing<Composite<Batch<'a>, TxnPiece<'a>>>,
+    run: Drawing<BatchRun<'a>>,
 }
 
 /// A locked move, as a part that tells what it has drawn.
 #[derive(Drop)]
 pub struct MoveWork<'a> {
-    run: Drawing<Composite<Locked<'a>, LockedPiece<'a>>>,
+    run: Drawing<LockedRun<'a>>,
 }
 
 impl<'a> CoolWork<'a> {
@@ -51,9 +53,9 @@ impl<'a> BatchWork<'a> {
         ensures made { batch_work_made result ≡ record { 0 = record { 0 = g.now; 1 = record { pieces = pieces; spent = spent } }; 1 = spent } }
         ensures new { IsNewBatchWork result }
     {
-        let plan = Batch::new(g, BatchAsked { pieces, spent });
+        let run = BatchRun::new(g, BatchAsked { pieces, spent });
         BatchWork {
-            run: Drawing::new(Composite::new(plan), spent),
+            run: Drawing::new(run, spent),
         }
     }
 }
@@ -70,9 +72,9 @@ impl<'a> MoveWork<'a> {
         ensures made { move_work_made result ≡ record { 0 = record { 0 = g.now; 1 = record { page = page; count = count; spent = spent } }; 1 = spent } }
         ensures new { IsNewMoveWork result }
     {
-        let plan = Locked::new(g, page, count, spent, taken);
+        let run = LockedRun::new(g, ChooseMade { page, count, spent }, taken);
         MoveWork {
-            run: Drawing::new(Composite::new(plan), spent),
+            run: Drawing::new(run, spent),
         }
     }
 }

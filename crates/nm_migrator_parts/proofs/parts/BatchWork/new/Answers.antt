@@ -1,12 +1,10 @@
 use Rattle.std.proofs.Common.{sym, subst, ◌∙◌}
-use Rattle.nm_compose.specs.declared.composite.Composite.{Composite}
-use Rattle.nm_txn.specs.Pieces.{TxnPiece}
-use Rattle.nm_batch.specs.declared.batch.Batch.{Batch}
-use Rattle.nm_migrator_parts.specs.Wrapped.{IsNewBatchPart}
+use Rattle.nm_batch_run.specs.declared.run.BatchRun.{BatchRun}
+use Rattle.nm_batch_run.specs.Runs.{IsNewBatchRun}
 use Rattle.nm_migrator_parts.proofs.parts.BatchWork.new.Goals as goal
 
 pub returns-clause-new : goal.returns-clause-new
 returns-clause-new c = record {
-  piece = subst (λ (p : Composite Batch TxnPiece). IsNewBatchPart p) (sym c.new-2.ensures.piece) c.new.ensures.new;
-  same = c.new-2.ensures.spent ∙ sym c.new-2.ensures.begun;
+  piece = subst (λ (r : BatchRun). IsNewBatchRun r) (sym c.new.ensures.piece) c.new-run.ensures.new;
+  same = c.new.ensures.spent ∙ sym c.new.ensures.begun;
 }
