@@ -14,7 +14,7 @@ use Rattle.nm_migrator.specs.declared.migrating.MigratingStage.TheVariants.{New,
 use Rattle.nm_migrator.specs.Ends.{migrator_counts}
 use Rattle.nm_migrator.specs.Planned.{MigratorKept}
 use Rattle.nm_migrator.specs.Migrating.{MigratorRounds, MigratesFrom, IsMigratingBy}
-use Rattle.nm_migrator.specs.Stages.{migrator_kept, stage_task, migrating_left, IsKept, KnownAt, IsNewTask, IsMigratingAt}
+use Rattle.nm_migrator.specs.Stages.{migrator_kept, stage_task, migrating_left, IsMigratorKept, KnownAt, IsNewTask, IsMigratingAt}
 use Rattle.nm_migrator.proofs.Ending.{some-from}
 use Rattle.nm_migrator.proofs.Giving.{gives-stage, gives-more}
 use Rattle.nm_migrator.proofs.Fitting.{candidates-fit}
@@ -26,7 +26,7 @@ migrates-on false g retry notes kept h rest outcome more = record { tries = zero
 migrates-on true g retry notes kept h rest outcome more = record { tries = suc h.tries; is = record { end = kept; front = notes; back = rest; shown = h.is; rest = more; is = refl } }
 
 -- where it has stopped, what is kept is there
-kept-at-stop : (m : Migrating) (stage : MigratingStage) → Stop ≡ stage_task m stage → KnownAt m stage → IsKept m
+kept-at-stop : (m : Migrating) (stage : MigratingStage) → Stop ≡ stage_task m stage → KnownAt m stage → IsMigratorKept m
 kept-at-stop m New is k = absurd k
 kept-at-stop m TakingCandidate is k = cc
 kept-at-stop m (Judging page) is k = cc
@@ -52,8 +52,8 @@ pub begun-again : (is_new : MigratorPiece → Type 0) (old new : Migrating) (tas
     → new ≡ record old { resumed = true; stage = TakingCandidate } → task_data migrator_work_made task ≡ stage_task old TakingCandidate → IsNewTask is_new task
     → (notes : Notes) (view : View) → IsMigratingAt old view Stop → IsMigratingBy old.resumed old.geometry.now old.retry notes (migrator_kept old)
     → IsBegunAgain
-        (IsNextTask migrator_work_made is_new MayMigratorWork IsMigratorWork migrator_counts (IsMigratingAt new) (migrating_left new) (migrator_kept new) (λ rest outcome. IsMigratingBy new.resumed new.geometry.now new.retry (notes ++ rest) outcome) old.geometry.now view task)
-        (λ rest outcome. IsMigratingBy new.resumed new.geometry.now new.retry (notes ++ rest) outcome)
+    (IsNextTask migrator_work_made is_new MayMigratorWork IsMigratorWork migrator_counts (IsMigratingAt new) (migrating_left new) (migrator_kept new) (λ rest outcome. IsMigratingBy new.resumed new.geometry.now new.retry (notes ++ rest) outcome) old.geometry.now view task)
+    (λ rest outcome. IsMigratingBy new.resumed new.geometry.now new.retry (notes ++ rest) outcome)
 begun-again is_new old new task is plain fresh notes view at whole =
     let g = old.geometry.now in
     let kept = migrator_kept old in
@@ -62,8 +62,8 @@ begun-again is_new old new task is plain fresh notes view at whole =
     let next : Migrating = record old { resumed = true; stage = TakingCandidate } in
     let some = some-from g old.retry kept in
     let N : Migrating → Type 0 = λ x. IsBegunAgain
-        (IsNextTask migrator_work_made is_new MayMigratorWork IsMigratorWork migrator_counts (IsMigratingAt x) (migrating_left x) (migrator_kept x) (λ rest outcome. IsMigratingBy x.resumed x.geometry.now x.retry (notes ++ rest) outcome) g view task)
-        (λ rest outcome. IsMigratingBy x.resumed x.geometry.now x.retry (notes ++ rest) outcome) in
+    (IsNextTask migrator_work_made is_new MayMigratorWork IsMigratorWork migrator_counts (IsMigratingAt x) (migrating_left x) (migrator_kept x) (λ rest outcome. IsMigratingBy x.resumed x.geometry.now x.retry (notes ++ rest) outcome) g view task)
+    (λ rest outcome. IsMigratingBy x.resumed x.geometry.now x.retry (notes ++ rest) outcome) in
     subst N (sym is) (record {
       can = record { rest = some.rest; outcome = some.outcome; shown = on some.rest some.outcome some.shown };
       next = gives-more is_new g next view task (MigratesFrom g old.retry kept) (λ rest outcome. IsMigratingBy true g old.retry (notes ++ rest) outcome) on

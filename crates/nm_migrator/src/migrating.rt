@@ -292,8 +292,8 @@ impl<'a> Resuming<MigratorPiece<'a>> for Migrating<'a> {
         ensures number { self.new.geometry.now.cpus ≡ self.old.geometry.now.cpus }
         ensures next { (notes : Notes) (view : View) → IsMigratingAt self.old view Stop → IsMigratingBy self.old.resumed self.old.geometry.now self.old.retry notes (migrator_kept self.old)
             → IsBegunAgain
-                (IsNextTask migrator_work_made IsNewMigratorWork MayMigratorWork IsMigratorWork migrator_counts (IsMigratingAt self.new) (migrating_left self.new) (migrator_kept self.new) (λ rest outcome. IsMigratingBy self.new.resumed self.new.geometry.now self.new.retry (notes ++ rest) outcome) self.old.geometry.now view result)
-                (λ rest outcome. IsMigratingBy self.new.resumed self.new.geometry.now self.new.retry (notes ++ rest) outcome) }
+            (IsNextTask migrator_work_made IsNewMigratorWork MayMigratorWork IsMigratorWork migrator_counts (IsMigratingAt self.new) (migrating_left self.new) (migrator_kept self.new) (λ rest outcome. IsMigratingBy self.new.resumed self.new.geometry.now self.new.retry (notes ++ rest) outcome) self.old.geometry.now view result)
+            (λ rest outcome. IsMigratingBy self.new.resumed self.new.geometry.now self.new.retry (notes ++ rest) outcome) }
     {
         self.resumed = true;
         self.go(MigratingStage::TakingCandidate)
