@@ -76,14 +76,6 @@ program-can kinds g program =
 
 -- Turns that begin a list.
 
--- a turn that comes next begins a list
-pub turns-begun : {O : Type 0} (whole : Turns → O → Type 0) (turns : Turns) (turn : Turn) → IsTurnBegun whole turns turn → CanEnd (λ rest outcome. whole (turns ++ rest) outcome)
-turns-begun {O} whole turns turn h = record {
-  rest = (turn, h.heard) ∷ h.can.rest;
-  outcome = h.can.outcome;
-  shown = subst (λ (l : Turns). whole l h.can.outcome) (append_assoc turns ((turn, h.heard) ∷ []) h.can.rest) h.can.shown;
-}
-
 regroup : (front inner one rest more : Turns) → front ++ (((inner ++ one) ++ rest) ++ more) ≡ ((front ++ inner) ++ one) ++ (rest ++ more)
 regroup front inner one rest more = simp append_assoc
 

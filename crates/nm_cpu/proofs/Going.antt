@@ -42,7 +42,7 @@ use Rattle.nm_cpu.specs.Parts.{IsCpuPart}
 use Rattle.nm_cpu.specs.Agreeing.{geometry_of, made_program, cpu_view, accesses_of_turns, IsBetweenLines, IsAtNext, IsAtAccess, IsAtEnding, IsAtCpuStage, IsLeftAt, ComesNextTurn, IsAdvanced}
 use Rattle.nm_cpu.proofs.Followed.{followed-part, followed-all}
 use Rattle.nm_cpu.proofs.Mapped.{line-made, one-line, line-at, none-left}
-use Rattle.nm_cpu.proofs.Ends.{after-access-can, turns-begun, inside-begun}
+use Rattle.nm_cpu.proofs.Ends.{after-access-can, inside-begun}
 
 -- Turns that are not End.
 
@@ -107,7 +107,7 @@ going {F} {M} {X} kinds made_of awaits_of c turns turn done lines more ends not 
       at = record { cpu = cpu; room = room; next = comes-next kinds (geometry_of c) (made_program c) turns turn not begun; permitted = permitted; left = left-at (cpu_view c turns) turn not; at = at };
       part = λ counts is. subst (λ (b : Bool). P counts b) (sym (goes-on turn not)) (record {
         ends = ends;
-        sequence = turns-begun (IsProgramMade kinds (geometry_of c) (made_program c)) turns turn begun;
+        sequence = record { next = turn; begun = begun };
         follows = followed-part c.made.number (made_program c) done lines c.results.items c.loads more (accesses_of_turns c turns) between.is between.as_many between.loads between.follows;
         counted = sum-as counts c.access.tally (events_tally (own_list turns)) (ends_tally kinds.counts ends) is counted;
       });

@@ -1,0 +1,4 @@
+pub mod Diverging
+pub mod Answers
+pub mod Patterns
+pub mod Acts

@@ -1,0 +1,4 @@
+pub mod Turning
+pub mod Weaving
+pub mod Accessing
+pub mod Making

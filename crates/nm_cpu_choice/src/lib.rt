@@ -1,0 +1,4 @@
+//! Processors leave no choice.
+#![tactic(auto)]
+
+pub mod programs;

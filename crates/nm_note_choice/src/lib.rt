@@ -1,0 +1,2 @@
+//! Tasks of actors leave no choice; and what follows for the answered turns of an actor.
+#![tactic(auto)]

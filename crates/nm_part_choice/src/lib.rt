@@ -1,0 +1,4 @@
+//! That the parts of actors' work leave no choice.
+#![tactic(auto)]
+
+pub mod parts;
