@@ -72,7 +72,7 @@ after-put g made held TookNone = touched g made held
 after-mark : {X : Type 0} (g : Geometry) (made : AccessMade) (held : Carried X) (heard : Heard) → TurnsOnly IsProcessing (AfterMark g made held heard)
 after-mark g made held heard =
     turn-either IsProcessing (is_done (heard_reply heard)) (Follows (Hears g (Put Candidates made.page)) (AfterPut g made held)) (Touches g made held)
-    (turn-follows IsProcessing (Hears g (Put Candidates made.page)) (AfterPut g made held) (turn-puts IsProcessing g Candidates made.page) (after-put g made held)) (touched g made held)
+    (turn-follows IsProcessing (Hears g (Put Candidates made.page)) (AfterPut g made held) (turn-puts IsProcessing g made.page) (after-put g made held)) (touched g made held)
 
 marks : {X : Type 0} (g : Geometry) (made : AccessMade) (word : ℕ) (hinted : Bool) (held : Carried X) → TurnsOnly IsProcessing (MarksCandidate g made word hinted held)
 marks g made word hinted held =

@@ -32,13 +32,20 @@ use Rattle.nm_marks.proofs.Contents.{only-both, only-more}
 use Rattle.nm_part_marks.specs.Actions.{IsActionOf, IsNoAck}
 use Rattle.nm_part_marks.proofs.Faults.{fault-actions}
 use Rattle.nm_unmarked.specs.Unmarking.{EndsLast, IsProcessorUnmarking}
+use Rattle.nm_pending.specs.PendingTurns.{AreOffPending}
+use Rattle.nm_pending.proofs.Off.{off-both}
 use Rattle.nm_cpu_marks.specs.Processing.{IsProcessing, EndsOnce}
 use Rattle.nm_cpu_marks.proofs.Turning.{TurnsOnly}
 use Rattle.nm_cpu_marks.proofs.Accessing.{FaultsOnly, catches-turns, whole-access}
 
--- each list of turns of a pattern ends once
+-- turns that end once, of which none is a put into the lane Pending or a take from it
+record IsEndedOnce (turns : Turns) : Type 0 where
+  once : EndsOnce (own_list turns)
+  off : AreOffPending turns
+
+-- each list of turns of a pattern is so
 abbrev AllEndOnce : {O : Type 0} → (Turns → O → Type 0) → Type 0
-AllEndOnce {O} pattern = (turns : Turns) (outcome : O) → pattern turns outcome → EndsOnce (own_list turns)
+AllEndOnce {O} pattern = (turns : Turns) (outcome : O) → pattern turns outcome → IsEndedOnce turns
 
 ends-after : (front back : Own) → HasOnly IsProcessing front → EndsOnce back → EndsOnce (front ++ back)
 ends-after front back so h = record {
@@ -51,7 +58,13 @@ ends-after front back so h = record {
 end-follows : {X O : Type 0} (first : Turns → X → Type 0) (after : X → Turns → O → Type 0) → TurnsOnly IsProcessing first → ((end : X) → AllEndOnce (after end)) → AllEndOnce (Follows first after)
 end-follows first after now then turns outcome h =
     let E : Own → Type 0 = λ l. EndsOnce l in
-    subst E (sym (ap own_list h.is ∙ own-append h.front h.back)) (ends-after (own_list h.front) (own_list h.back) (now h.front h.end h.shown) (then h.end h.back outcome h.rest))
+    let T : Turns → Type 0 = λ l. AreOffPending l in
+    let first = now h.front h.end h.shown in
+    let last = then h.end h.back outcome h.rest in
+    record {
+      once = subst E (sym (ap own_list h.is ∙ own-append h.front h.back)) (ends-after (own_list h.front) (own_list h.back) first.only last.once);
+      off = subst T (sym h.is) (off-both h.front h.back first.off last.off);
+    }
 
 end-either : {O : Type 0} (b : Bool) (held other : Turns → O → Type 0) → AllEndOnce held → AllEndOnce other → AllEndOnce (Either b held other)
 end-either true held other so then = so
@@ -59,10 +72,10 @@ end-either false held other so then = then
 
 -- ---- the acknowledgement of the end
 
-ack-heard : (g : Geometry) (turns : Turns) (heard : Heard) → Hears g (Do (Ack End)) turns heard → EndsOnce (own_list turns)
+ack-heard : (g : Geometry) (turns : Turns) (heard : Heard) → Hears g (Do (Ack End)) turns heard → IsEndedOnce turns
 ack-heard g turns (Answer reply) h =
-    let T : Turns → Type 0 = λ l. EndsOnce (own_list l) in
-    subst T (sym h.is) (record { front = []; reply = reply; is = refl; before = tt })
+    let T : Turns → Type 0 = λ l. IsEndedOnce l in
+    subst T (sym h.is) (record { once = record { front = []; reply = reply; is = refl; before = tt }; off = (tt, tt) })
 ack-heard g turns Start h = absurd h.kind
 ack-heard g turns PutDone h = absurd h.kind
 ack-heard g turns PutFull h = absurd h.kind
@@ -71,7 +84,7 @@ ack-heard g turns TookNone h = absurd h.kind
 
 last-ack : {O : Type 0} (g : Geometry) (end : O) → AllEndOnce (Follows (Hears g (Do (Ack End))) (λ heard. Ends end))
 last-ack g end turns outcome h =
-    let E : Turns → Type 0 = λ l. EndsOnce (own_list l) in
+    let E : Turns → Type 0 = λ l. IsEndedOnce l in
     let is : turns ≡ h.front = h.is ∙ ap (λ (l : Turns). h.front ++ l) h.rest.none ∙ append-nil h.front in
     subst E (sym is) (ack-heard g h.front h.end h.shown)
 
@@ -144,5 +157,8 @@ last-once own h =
 
 pub processor-unmarking : (g : Geometry) (program : List Line) (turns : Turns) (end : CpuEnd FaultEnd) → IsProgramMade processor_faults g program turns end → IsProcessorUnmarking (own_list turns)
 processor-unmarking g program turns end h =
-    let once : EndsOnce (own_list turns) = program-made processor_faults g program processor-faults turns end h in
+    let once : EndsOnce (own_list turns) = (program-made processor_faults g program processor-faults turns end h).once in
     record { marks = marks-once (own_list turns) once; last = last-once (own_list turns) once }
+
+pub processor-off : (g : Geometry) (program : List Line) (turns : Turns) (end : CpuEnd FaultEnd) → IsProgramMade processor_faults g program turns end → AreOffPending turns
+processor-off g program turns end h = (program-made processor_faults g program processor-faults turns end h).off

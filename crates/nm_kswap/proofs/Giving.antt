@@ -40,11 +40,11 @@ use Rattle.nm_kswap.proofs.Resting.{IsOverIn, may-ask, may-level, may-inspect, m
 -- by the data of the pieces alone
 abbrev pub NextIn : (View → Task ReclaimerWorkMade → Type 0) → (Ended ReclaimerWorkEnd → Sequence) → Sequence → Geometry → View → Task ReclaimerWorkMade → Type 0
 NextIn knows left was g now (Run work) = MayReclaimerWork work g now × IsTaskRun (knows now (Run work)) (IsTask IsReclaimerWork reclaimer_counts g (Run work)) left was
-NextIn knows left was g now Stop = IsStop (knows now Stop) was
+NextIn knows left was g now Stop = IsStop (knows now Stop) tt was
 NextIn knows left was g now task = ⊥
 
 by-data : (is_new : ReclaimerPiece → Type 0) (knows : View → Task ReclaimerWorkMade → Type 0) (left : Ended ReclaimerWorkEnd → Sequence) (was : Sequence) (g : Geometry) (now : View) (task : Task ReclaimerPiece)
-    → IsNewTask is_new task → NextIn knows left was g now (task_data reclaimer_work_made task) → IsNextTask reclaimer_work_made is_new MayReclaimerWork IsReclaimerWork reclaimer_counts knows left was g now task
+    → IsNewTask is_new task → NextIn knows left was g now (task_data reclaimer_work_made task) → IsNextTask reclaimer_work_made is_new MayReclaimerWork IsReclaimerWork reclaimer_counts knows left tt was g now task
 by-data is_new knows left was g now (Run piece) fresh h = record { is_new = fresh; may_begin = h.0; run = h.1 }
 by-data is_new knows left was g now (Put lane page) fresh h = absurd h
 by-data is_new knows left was g now (Take lane) fresh h = absurd h
@@ -94,7 +94,7 @@ pub gives-task : (is_new : ReclaimerPiece → Type 0) (r : Reclaiming) (g : Geom
     → r.geometry.now ≡ g → r.kept ≡ kept → r.stage ≡ stage → AreHands g kept.hands → IsStageOf g stage → HasWords stage r.taken
     → task_data reclaimer_work_made task ≡ task_at g kept stage → IsNewTask is_new task → IsResting g kept.spent now
     → ((notes : Notes) (outcome : Unit {0}) → Sometimes (StageOn g kept stage) notes outcome → was notes outcome)
-    → IsNextTask reclaimer_work_made is_new MayReclaimerWork IsReclaimerWork reclaimer_counts (KnowsReclaiming r) (ReclaimingLeft r) was g now task
+    → IsNextTask reclaimer_work_made is_new MayReclaimerWork IsReclaimerWork reclaimer_counts (KnowsReclaiming r) (ReclaimingLeft r) tt was g now task
 gives-task is_new r g kept stage task now was geometry-is kept-is stage-is hands there words told fresh rests fits =
     let L : Geometry → Kept → Stage → Type 0 = λ h k s. NextIn (KnowsReclaiming r) (TaskLeft h k s) was g now (task_data reclaimer_work_made task) in
     let D : Task ReclaimerWorkMade → Type 0 = λ t. NextIn (KnowsReclaiming r) (TaskLeft g kept stage) was g now t in

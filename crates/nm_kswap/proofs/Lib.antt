@@ -4,3 +4,4 @@ pub mod Resting
 pub mod Giving
 pub mod Visiting
 pub mod Agreeing
+pub mod Starting

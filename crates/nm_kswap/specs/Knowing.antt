@@ -99,4 +99,4 @@ IsNewTask is_new Stop = Unit {0}
 
 -- this task comes next, where this was left
 abbrev pub GivesTask : (ReclaimerPiece → Type 0) → Reclaiming → Task ReclaimerPiece → (Notes → Unit {0} → Type 0) → Geometry → View → Type 0
-GivesTask is_new r task was g now = IsNextTask reclaimer_work_made is_new MayReclaimerWork IsReclaimerWork reclaimer_counts (KnowsReclaiming r) (ReclaimingLeft r) was g now task
+GivesTask is_new r task was g now = IsNextTask reclaimer_work_made is_new MayReclaimerWork IsReclaimerWork reclaimer_counts (KnowsReclaiming r) (ReclaimingLeft r) tt was g now task

@@ -1,14 +1,13 @@
 -- The reclaimer's part of a run, and what the actor says of itself.
-use Rattle.std.specs.Prelude.{ℕ, ◌+◌, Bool, true, false, Option}
+use Rattle.std.specs.Prelude.{ℕ, ◌+◌, Bool, Option}
 use Rattle.nm_base.specs.Geometry.{Geometry, IsGeometry}
 use Rattle.nm_action.specs.declared.tally.Tally.{Tally}
 use Rattle.nm_action.specs.declared.turn.Turn.{Turn}
 use Rattle.nm_view.specs.Views.{View}
 use Rattle.nm_actor.specs.Turns.{Turns, turns_view}
 use Rattle.nm_worker.specs.declared.worker.Worker.{Worker}
-use Rattle.nm_worker.specs.Routines.{IsLeftEmpty}
 use Rattle.nm_actor.specs.Actors.{gave_end}
-use Rattle.nm_routine_part.specs.Parts.{IsRoutinePart}
+use Rattle.nm_routine_part.specs.Parts.{IsEmptyAtEnd, IsRoutinePart}
 use Rattle.nm_kswap.specs.declared.reclaiming.Reclaiming.{Reclaiming}
 use Rattle.nm_kswap.specs.declared.actor.ReclaimerActor.{ReclaimerActor}
 use Rattle.nm_kswap.specs.Works.{ReclaimerPiece}
@@ -21,11 +20,6 @@ reclaimer_number g = g.cpus + 1
 -- these are the answered turns of a reclaimer, which has ended or not, and this is its tally
 abbrev pub IsReclaimerPart : Geometry → Turns → Bool → Tally → Type 0
 IsReclaimerPart g turns has_ended tally = IsRoutinePart (IsReclaiming g) turns has_ended tally
-
--- a reclaimer that has ended leaves nothing open
-abbrev pub IsEmptyAtEnd : Bool → View → Type 0
-IsEmptyAtEnd true view = IsLeftEmpty view
-IsEmptyAtEnd false view = Unit {0}
 
 -- In these, what the worker inside says of itself is given.
 

@@ -7,6 +7,7 @@ ghost use Rattle.nm_policy.specs.Watermarks.{watermarks_of};
 ghost use Rattle.nm_view.specs.Views.{View};
 ghost use Rattle.nm_view.specs.Opening.{opening};
 ghost use Rattle.nm_transfer.specs.Stages.{HoldsWords};
+ghost use Rattle.nm_part.specs.Patterns.{CanEnd};
 ghost use Rattle.nm_worker.specs.Routines.{task_data, HasTaskOver, IsTaskOver, IsDrawn};
 ghost use Rattle.nm_kswap.specs.Works.{reclaimer_work_made, IsReclaimerWork, ReclaimerWorkLeaves};
 ghost use Rattle.nm_kswap.specs.Ends.{frames_freed, demotion_counts, reclaimer_counts};
@@ -242,6 +243,10 @@ impl<'a> Routine<ReclaimerPiece<'a>> for Reclaiming<'a> {
 
     ghost made = { λ r. r.geometry.now };
 
+    ghost Outcome = { Unit {0} };
+
+    ghost stop = { λ r. tt };
+
     ghost geometry = { λ g. g };
 
     ghost number = { reclaimer_number };
@@ -259,6 +264,7 @@ impl<'a> Routine<ReclaimerPiece<'a>> for Reclaiming<'a> {
     fn begin(&mut self) -> Task<ReclaimerPiece<'a>>
         requires { IsNewReclaiming self.old }
         ensures made { self.new.geometry.now ≡ self.old.geometry.now }
+        ensures can { CanEnd (IsReclaiming self.old.geometry.now) }
         ensures next { GivesTask ⟦<ReclaimerPiece<'a> as Part>⟧.is_new self.new result (IsReclaiming self.old.geometry.now) self.old.geometry.now (opening self.old.geometry.now (reclaimer_number self.old.geometry.now)) }
     {
         self.go(Stage::Asking)

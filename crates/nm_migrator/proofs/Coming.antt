@@ -1,4 +1,5 @@
 -- A list of the task of a stage, and of what is left after it, is a list of what comes with that stage.
+use Rattle.nm_migrator.specs.Planned.{MigratorKept}
 use Rattle.std.proofs.Common.{ℕ, ◌+◌, Option}
 use Rattle.nm_base.specs.Geometry.{Geometry}
 use Rattle.nm_action.specs.declared.turn.Lane.{Lane}
@@ -18,24 +19,24 @@ use Rattle.nm_migrator.specs.Migrating.{Sequence, Does, Puts, Taken, TakesMapped
 use Rattle.nm_migrator.specs.Stages.{migrator_kept, next_of, stage_task, left_at, comes_at, PutLeft, BackLeft, CandidatesLeft, TakenLeft, AgainLeft, MovesLeft, MoreLeft}
 use Rattle.nm_migrator.proofs.Looping.{sometimes-out, puts-once, takes-once}
 
-work-comes : (g : Geometry) (work : MigratorWorkMade) (left : Ended MigratorWorkEnd → ℕ → Sequence) (notes : Notes) (outcome : Unit {0})
+work-comes : (g : Geometry) (work : MigratorWorkMade) (left : Ended MigratorWorkEnd → ℕ → Sequence) (notes : Notes) (outcome : MigratorKept)
     → Follows (IsTask IsMigratorWork migrator_counts g (Run work)) (λ end. Sometimes (left end)) notes outcome → Sometimes (λ n. Does g work (λ end. left (ended.Run end) n)) notes outcome
 work-comes g work left notes outcome f =
     sometimes-out (IsWorkDone IsMigratorWork migrator_counts work g) (λ end. left (ended.Run end)) notes outcome (run-follows IsMigratorWork migrator_counts g work (λ end. Sometimes (left end)) notes outcome f)
 
-put-comes : (g : Geometry) (page : ℕ) (left : ℕ → Sequence) (notes : Notes) (outcome : Unit {0})
+put-comes : (g : Geometry) (page : ℕ) (left : ℕ → Sequence) (notes : Notes) (outcome : MigratorKept)
     → Follows (IsTask IsMigratorWork migrator_counts g (Put Pending page)) (λ end. Sometimes (λ n. PutLeft page (full_in end) (left n))) notes outcome → Sometimes (λ n. Puts page (left n)) notes outcome
 put-comes g page left notes outcome f =
     let s = sometimes-out (IsPut Pending page) (λ full n. PutLeft page full (left n)) notes outcome (put-follows IsMigratorWork migrator_counts g Pending page (λ end. Sometimes (λ n. PutLeft page (full_in end) (left n))) notes outcome f) in
     record { tries = s.tries; is = puts-once page (left s.tries) notes outcome s.is }
 
-take-comes : (g : Geometry) (lane : Lane) (after : ℕ → Option ℕ → Sequence) (notes : Notes) (outcome : Unit {0})
+take-comes : (g : Geometry) (lane : Lane) (after : ℕ → Option ℕ → Sequence) (notes : Notes) (outcome : MigratorKept)
     → Follows (IsTask IsMigratorWork migrator_counts g (Take lane)) (λ end. Sometimes (λ n. Taken g (TakesMapped g lane (after n)) (after n) (taken_page_in end))) notes outcome → Sometimes (λ n. TakesMapped g lane (after n)) notes outcome
 take-comes g lane after notes outcome f =
     let s = sometimes-out (IsTake lane) (λ page n. Taken g (TakesMapped g lane (after n)) (after n) page) notes outcome (take-follows IsMigratorWork migrator_counts g lane (λ end. Sometimes (λ n. Taken g (TakesMapped g lane (after n)) (after n) (taken_page_in end))) notes outcome f) in
     record { tries = s.tries; is = takes-once g lane (after s.tries) notes outcome s.is }
 
-pub comes : (m : Migrating) (stage : MigratingStage) (notes : Notes) (outcome : Unit {0})
+pub comes : (m : Migrating) (stage : MigratingStage) (notes : Notes) (outcome : MigratorKept)
     → Follows (IsTask IsMigratorWork migrator_counts m.geometry.now (stage_task m stage)) (λ end. Sometimes (left_at m stage end)) notes outcome → Sometimes (comes_at m stage) notes outcome
 comes m New notes outcome f = absurd f.shown
 comes m TakingCandidate notes outcome f = take-comes m.geometry.now Candidates (λ n. AfterCandidate m.geometry.now (next_of m n) (migrator_kept m)) notes outcome f

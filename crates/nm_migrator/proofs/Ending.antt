@@ -20,7 +20,7 @@ use Rattle.nm_migrator.specs.declared.migrating.MigratingStage.{MigratingStage}
 use Rattle.nm_migrator.specs.declared.migrating.MigratingStage.TheVariants.{New, TakingCandidate, Judging, Heating, PuttingHot, Cooling, PuttingBack, Spilling, TakingPending, PuttingTwice, Planning, Batching, PuttingAgain, Moving, PuttingMoved, Asking, TakingLast, Unmarking, Over}
 use Rattle.nm_migrator.specs.Ends.{mark_reply_in, looks_in, cooled_in, batch_in, move_in, drawn_in, all_ended_in, work_in, full_in, taken_page_in, migrator_counts}
 use Rattle.nm_migrator.specs.Planned.{MigratorKept, nothing_kept, unaborted, is_among, most_taken, Plan, no_plan, planned, again_of, batched, is_busy_move, kept_drawn}
-use Rattle.nm_migrator.specs.Migrating.{Sequence, Does, Puts, Taken, TakesMappedTry, TakesMapped, Spills, AfterCool, Cools, AfterHeat, Heats, Judges, UnmarkNext, Unmarks, AfterLast, Asks, MoveNext, MovesLocked, PutNext, AfterBatch, Batches, PlanNext, Plans, AfterTakes, PendingTaken, TakesPending, AfterCandidate, MigratorRounds, IsMigrating}
+use Rattle.nm_migrator.specs.Migrating.{Sequence, Does, Puts, Taken, TakesMappedTry, TakesMapped, Spills, AfterCool, Cools, AfterHeat, Heats, Judges, UnmarkNext, Unmarks, AfterLast, Asks, MoveNext, MovesLocked, PutNext, AfterBatch, Batches, PlanNext, Plans, AfterTakes, PendingTaken, TakesPending, AfterCandidate, MigratorRounds, MigratesFrom, IsMigrating, MigratesMore, IsMigratingBy}
 use Rattle.nm_migrator.specs.Stages.{migrator_kept, migrator_plan, next_of, left_at, migrating_left, TakenLeft, MoreLeft}
 use Rattle.nm_migrator.proofs.Looping.{page-put, can-does, can-puts, can-put-left, can-takes, can-taken}
 
@@ -28,9 +28,9 @@ use Rattle.nm_migrator.proofs.Looping.{page-put, can-does, can-puts, can-put-lef
 abbrev pub IsNextEnding : (Lane → MigratorKept → Sequence) → Type 0
 IsNextEnding next = (lane : Lane) (kept : MigratorKept) → CanEnd (next lane kept)
 
-pub can-unmarks : (g : Geometry) (pages : List ℕ) → CanEnd (Unmarks g pages)
-can-unmarks g pages = each-can (UnmarkNext g) pages tt (λ kept. Ends tt)
-    (λ page now later can. can-does g (made_mark page 1 0) (λ end. later now) (λ end. can now)) (λ end. can-ends tt)
+pub can-unmarks : (g : Geometry) (pages : List ℕ) (kept : MigratorKept) → CanEnd (Unmarks g pages kept)
+can-unmarks g pages kept = each-can (UnmarkNext g) pages kept (λ kept. Ends kept)
+    (λ page now later can. can-does g (made_mark page 1 0) (λ end. later now) (λ end. can now)) (λ end. can-ends end)
 
 module _ (g : Geometry) (retry : Option ℕ) (next : Lane → MigratorKept → Sequence) (ends : IsNextEnding next) where
   pub can-spills : (kept : MigratorKept) (page : ℕ) (full : Bool) → CanEnd (Spills g next kept page full)
@@ -58,7 +58,7 @@ module _ (g : Geometry) (retry : Option ℕ) (next : Lane → MigratorKept → S
   can-judges kept page = can-does g (made_looks g page) (λ end. Either (looks_in end).hot (Heats g next kept page) (Cools g next kept page)) (λ end. can-judged kept page (looks_in end).hot)
 
   pub can-after-last : (kept : MigratorKept) (page : Option ℕ) → CanEnd (AfterLast g next kept page)
-  can-after-last kept None = can-unmarks g (range_with_len 0 (page_count g))
+  can-after-last kept None = can-unmarks g (range_with_len 0 (page_count g)) kept
   can-after-last kept (Some page) = can-judges kept page
 
   pub can-asked : (kept : MigratorKept) (all : Bool) → CanEnd (Either all (TakesMapped g Candidates (AfterLast g next kept)) (next Candidates kept))
@@ -109,7 +109,7 @@ ends-asking g next kept =
     let all = all-ended g in
     can-follow (IsWorkDone IsMigratorWork migrator_counts (made_ask g) g) (λ end. Either (all_ended_in end) (TakesMapped g Candidates (AfterLast g next kept)) (next Candidates kept))
     (record { rest = worked (migrator_counts (works.Ask true)) all.0; outcome = works.Ask true; shown = record { own = all.0; shown = all.1; is = refl } })
-    (can-takes g Candidates (AfterLast g next kept) (can-unmarks g (range_with_len 0 (page_count g))))
+    (can-takes g Candidates (AfterLast g next kept) (can-unmarks g (range_with_len 0 (page_count g)) kept))
 
 ends-pending : (g : Geometry) (retry : Option ℕ) (n : ℕ) (kept : MigratorKept) → CanEnd (MigratorRounds g retry (suc n) Pending kept)
 ends-pending g retry n kept =
@@ -123,8 +123,11 @@ ends-next g retry Candidates kept =
 ends-next g retry Pending kept = ends-pending g retry (suc zero) kept
 
 -- the pattern of the migrator has a list
+pub some-from : (g : Geometry) (retry : Option ℕ) (kept : MigratorKept) → CanEnd (MigratesFrom g retry kept)
+some-from g retry kept = can-sometimes (λ n. MigratorRounds g retry n Candidates kept) (suc (suc zero)) (ends-next g retry Candidates kept)
+
 pub some-migrating : (g : Geometry) (retry : Option ℕ) → CanEnd (IsMigrating g retry)
-some-migrating g retry = can-sometimes (λ n. MigratorRounds g retry n Candidates (nothing_kept g)) (suc (suc zero)) (ends-next g retry Candidates (nothing_kept g))
+some-migrating g retry = some-from g retry (nothing_kept g)
 
 -- Stages.
 
@@ -169,7 +172,7 @@ can-at m TakingLast end n ends has =
     let each = can-after-last m.geometry.now m.retry (next_of m n) ends (migrator_kept m) in
     let after = AfterLast m.geometry.now (next_of m n) (migrator_kept m) in
     can-taken m.geometry.now (TakesMapped m.geometry.now Candidates after) after (taken_page_in end) (can-takes m.geometry.now Candidates after (each None)) each
-can-at m (Unmarking page) end n ends has = can-unmarks m.geometry.now (range_with_len (page + 1) (page_count m.geometry.now - (page + 1)))
+can-at m (Unmarking page) end n ends has = can-unmarks m.geometry.now (range_with_len (page + 1) (page_count m.geometry.now - (page + 1))) (migrator_kept m)
 can-at m Over end n ends has = absurd has
 
 -- what is left after the task of a stage can be finished
@@ -178,19 +181,31 @@ can-left m end has = can-sometimes (left_at m m.stage end) (suc (suc zero)) (can
 
 -- No sequence is empty: the first turn is the take of a candidate.
 
-no-take : (lane : Lane) (after : Option ℕ → Sequence) (outcome : Unit {0}) → ¬ Follows (IsTake lane) after [] outcome
+no-take : (lane : Lane) (after : Option ℕ → Sequence) (outcome : MigratorKept) → ¬ Follows (IsTake lane) after [] outcome
 no-take lane after outcome f =
     let L : Notes → Type 0 = λ l. [] ≡ l ++ f.back in
     let e = subst L f.shown.is f.is in
     cc e
 
-no-try : (g : Geometry) (lane : Lane) (after : Option ℕ → Sequence) (n : ℕ) (outcome : Unit {0}) → ¬ TakesMappedTry g lane after n [] outcome
+no-try : (g : Geometry) (lane : Lane) (after : Option ℕ → Sequence) (n : ℕ) (outcome : MigratorKept) → ¬ TakesMappedTry g lane after n [] outcome
 no-try g lane after zero outcome = λ h. h
 no-try g lane after (suc n) outcome = λ h. no-take lane (λ page. Taken g (TakesMappedTry g lane after n) after page) outcome h
 
-no-round : (g : Geometry) (retry : Option ℕ) (n : ℕ) (outcome : Unit {0}) → ¬ MigratorRounds g retry n Candidates (nothing_kept g) [] outcome
-no-round g retry zero outcome = λ h. h
-no-round g retry (suc n) outcome = λ h. no-try g Candidates (AfterCandidate g (MigratorRounds g retry n) (nothing_kept g)) h.tries outcome h.is
+no-round : (g : Geometry) (retry : Option ℕ) (n : ℕ) (kept outcome : MigratorKept) → ¬ MigratorRounds g retry n Candidates kept [] outcome
+no-round g retry zero kept outcome = λ h. h
+no-round g retry (suc n) kept outcome = λ h. no-try g Candidates (AfterCandidate g (MigratorRounds g retry n) kept) h.tries outcome h.is
 
-pub no-migrating : (g : Geometry) (retry : Option ℕ) → ¬ IsMigrating g retry [] tt
-no-migrating g retry = λ h. no-round g retry h.tries tt h.is
+pub no-from : (g : Geometry) (retry : Option ℕ) (kept outcome : MigratorKept) → ¬ MigratesFrom g retry kept [] outcome
+no-from g retry kept outcome = λ h. no-round g retry h.tries kept outcome h.is
+
+no-front : (front back : Notes) → [] ≡ front ++ back → front ≡ []
+no-front [] back is = refl
+no-front (n ∷ front) back is = cc
+
+no-more : (g : Geometry) (retry : Option ℕ) (n : ℕ) (outcome : MigratorKept) → ¬ MigratesMore g retry n [] outcome
+no-more g retry zero outcome = no-from g retry (nothing_kept g) outcome
+no-more g retry (suc n) outcome = λ h. no-more g retry n h.end (subst (λ (l : Notes). MigratesMore g retry n l h.end) (no-front h.front h.back h.is) h.shown)
+
+pub no-migrating : (resumed : Bool) (g : Geometry) (retry : Option ℕ) (outcome : MigratorKept) → ¬ IsMigratingBy resumed g retry [] outcome
+no-migrating false g retry outcome = no-more g retry zero outcome
+no-migrating true g retry outcome = λ h. no-more g retry (suc h.tries) outcome h.is

@@ -13,13 +13,13 @@ use Rattle.nm_migrator_work.specs.Works.{made_mark, made_batch}
 use Rattle.nm_migrator.specs.declared.migrating.Migrating.{Migrating}
 use Rattle.nm_migrator.specs.declared.migrating.MigratingStage.TheVariants.{TakingCandidate, Judging, TakingPending, PuttingTwice, Planning, Batching, PuttingAgain, Moving, Asking, TakingLast, Unmarking}
 use Rattle.nm_migrator.specs.Ends.{mark_reply_in, batch_in}
-use Rattle.nm_migrator.specs.Planned.{Plan, no_plan, is_mapped, is_among, most_taken, is_moved_locked, first_or, planned_by, planned, aborts_with, again_of, batched}
+use Rattle.nm_migrator.specs.Planned.{MigratorKept, Plan, no_plan, is_mapped, is_among, most_taken, is_moved_locked, first_or, planned_by, planned, aborts_with, again_of, batched}
 use Rattle.nm_migrator.specs.Migrating.{Sequence, Does, Puts, AfterHeat, Unmarks, AfterLast, MovesLocked, AfterBatch, Batches, Plans, TakesPending, AfterCandidate}
 use Rattle.nm_migrator.specs.Stages.{migrator_kept, migrator_plan, next_of, comes_at, CandidateLeft, LastLeft, JudgedLeft, CandidatesLeft, PendingLeft, TakenLeft, TakesLeft, MoreLeft, PageLeft, PlansLeft, PlannedLeft, BatchesLeft, BatchedLeft, AgainLeft, MovesLeft, UnmarksLeft}
 
 -- every list of the one is a list of the other
 abbrev pub Fits : (ℕ → Sequence) → (ℕ → Sequence) → Type 0
-Fits now was = (notes : Notes) (outcome : Unit {0}) → Sometimes now notes outcome → Sometimes was notes outcome
+Fits now was = (notes : Notes) (outcome : MigratorKept) → Sometimes now notes outcome → Sometimes was notes outcome
 
 -- Lanes.
 
@@ -56,7 +56,7 @@ module _ (m : Migrating) where
   pub unmarks-start : Fits (UnmarksLeft m 0) (LastLeft m None)
   unmarks-start notes outcome s =
       let e : page_count m.geometry.now - 0 ≡ page_count m.geometry.now = omega arith in
-      record { tries = s.tries; is = subst (λ (k : ℕ). Unmarks m.geometry.now (range_with_len 0 k) notes outcome) e s.is }
+      record { tries = s.tries; is = subst (λ (k : ℕ). Unmarks m.geometry.now (range_with_len 0 k) (migrator_kept m) notes outcome) e s.is }
 
   -- a hot candidate is marked as pending
   pub heats-fit : (page : ℕ) (items : List ℕ) → items ≡ slice_set m.aborts.items page 0
@@ -73,7 +73,7 @@ module _ (m : Migrating) where
       let t = subst P is s in
       record { tries = suc t.tries; is = t.is }
 
-  takes-by : (more n : ℕ) (notes : Notes) (outcome : Unit {0}) → most_taken - length m.taken ≡ more → TakesPending m.geometry.now (λ taken. TakenLeft m taken n) more m.taken notes outcome → TakesLeft m n notes outcome
+  takes-by : (more n : ℕ) (notes : Notes) (outcome : MigratorKept) → most_taken - length m.taken ≡ more → TakesPending m.geometry.now (λ taken. TakenLeft m taken n) more m.taken notes outcome → TakesLeft m n notes outcome
   takes-by more n notes outcome is h = rw is h
 
   pub takes-one : length m.taken < most_taken → Fits (comes_at m TakingPending) (TakesLeft m)
@@ -115,7 +115,7 @@ module _ (m : Migrating) where
   pub taken-asks : drop 0 m.taken ≡ [] → Fits (comes_at m Asking) (TakenLeft m m.taken)
   taken-asks none notes outcome s = record { tries = s.tries; is = subst (λ (l : List ℕ). TakenLeft m l s.tries notes outcome) (sym none) s.is }
 
-  taken-plans-by : (taken rest : List ℕ) (page n : ℕ) (notes : Notes) (outcome : Unit {0}) → taken ≡ page ∷ rest → Plans m.geometry.now m.retry (next_of m n) (migrator_kept m) taken no_plan notes outcome → TakenLeft m taken n notes outcome
+  taken-plans-by : (taken rest : List ℕ) (page n : ℕ) (notes : Notes) (outcome : MigratorKept) → taken ≡ page ∷ rest → Plans m.geometry.now m.retry (next_of m n) (migrator_kept m) taken no_plan notes outcome → TakenLeft m taken n notes outcome
   taken-plans-by taken rest page n notes outcome is h =
       let P : List ℕ → Type 0 = λ l. Plans m.geometry.now m.retry (next_of m n) (migrator_kept m) l no_plan notes outcome in
       subst (λ (l : List ℕ). TakenLeft m l n notes outcome) (sym is) (subst P is h)
@@ -160,7 +160,7 @@ module _ (m : Migrating) where
 
   -- The batch.
 
-  batches-by : (pieces rest : List (ℕ × ℕ)) (p : ℕ × ℕ) (n : ℕ) (notes : Notes) (outcome : Unit {0}) → pieces ≡ p ∷ rest
+  batches-by : (pieces rest : List (ℕ × ℕ)) (p : ℕ × ℕ) (n : ℕ) (notes : Notes) (outcome : MigratorKept) → pieces ≡ p ∷ rest
       → Does m.geometry.now (made_batch m.geometry.now pieces m.spent) (λ end. AfterBatch m.geometry.now (next_of m n) m.moves (again_of pieces (batch_in end).end) (batched pieces (batch_in end) (migrator_kept m))) notes outcome
       → Batches m.geometry.now (next_of m n) (migrator_kept m) m.moves pieces notes outcome
   batches-by pieces rest p n notes outcome is h =
@@ -211,7 +211,7 @@ module _ (m : Migrating) where
 
   -- The end.
 
-  unmarks-by : (page more n : ℕ) (notes : Notes) (outcome : Unit {0}) → page_count m.geometry.now - page ≡ more → Unmarks m.geometry.now (range_with_len page more) notes outcome → UnmarksLeft m page n notes outcome
+  unmarks-by : (page more n : ℕ) (notes : Notes) (outcome : MigratorKept) → page_count m.geometry.now - page ≡ more → Unmarks m.geometry.now (range_with_len page more) (migrator_kept m) notes outcome → UnmarksLeft m page n notes outcome
   unmarks-by page more n notes outcome is h = rw is h
 
   pub unmarks-one : (page : ℕ) → page < page_count m.geometry.now → Fits (comes_at m (Unmarking page)) (UnmarksLeft m page)
@@ -220,8 +220,8 @@ module _ (m : Migrating) where
     is = unmarks-by page (suc (page_count m.geometry.now - (page + 1))) s.tries notes outcome (omega arith) s.is;
   }
 
-  pub unmarks-all : (page : ℕ) → page_count m.geometry.now ≤ page → Sometimes (UnmarksLeft m page) [] tt
-  unmarks-all page past = record { tries = zero; is = unmarks-by page zero zero [] tt (omega arith) (ends-now tt) }
+  pub unmarks-all : (page : ℕ) → page_count m.geometry.now ≤ page → Sometimes (UnmarksLeft m page) [] (migrator_kept m)
+  unmarks-all page past = record { tries = zero; is = unmarks-by page zero zero [] (migrator_kept m) (omega arith) (ends-now (migrator_kept m)) }
 
 -- there is an item
 pub some-item : {A : Type 0} (xs rest : List A) (x : A) → drop 0 xs ≡ x ∷ rest → xs ≢ []

@@ -1,4 +1,5 @@
 -- The task of a stage is given.
+use Rattle.nm_migrator.specs.Planned.{MigratorKept}
 use Rattle.std.proofs.Common.{◌≡◌, ℕ, ◌+◌, ◌≤◌, inl, inr, [], length, refl, sym, ap, subst, arith}
 use Rattle.nm_base.specs.Geometry.{Geometry}
 use Rattle.nm_action.specs.declared.spent.Spent.{Spent}
@@ -15,7 +16,7 @@ use Rattle.nm_migrator.specs.declared.migrating.MigratingStage.{MigratingStage}
 use Rattle.nm_migrator.specs.declared.migrating.MigratingStage.TheVariants.{New, TakingCandidate, Judging, Heating, PuttingHot, Cooling, PuttingBack, Spilling, TakingPending, PuttingTwice, Planning, Batching, PuttingAgain, Moving, PuttingMoved, Asking, TakingLast, Unmarking, Over}
 use Rattle.nm_migrator.specs.Ends.{migrator_counts}
 use Rattle.nm_migrator.specs.Migrating.{Sequence}
-use Rattle.nm_migrator.specs.Stages.{stage_task, comes_at, migrating_left, KnownAt, IsResting, IsMigratingAt, IsNewTask, Gives}
+use Rattle.nm_migrator.specs.Stages.{migrator_kept, stage_task, comes_at, migrating_left, KnownAt, IsResting, IsMigratingAt, IsNewTask, Gives}
 use Rattle.nm_migrator.proofs.Ending.{HasTask, can-left}
 use Rattle.nm_migrator.proofs.Coming.{comes}
 
@@ -58,7 +59,7 @@ record Owed (m : Migrating) (view : View) (was : Sequence) (task : Task Migrator
 
 given : (is_new : MigratorPiece → Type 0) (m : Migrating) (view : View) (was : Sequence) (task : Task MigratorPiece) (want : Task MigratorWorkMade)
     → task_data migrator_work_made task ≡ want → IsNewTask is_new task → Owed m view was want
-    → IsNextTask migrator_work_made is_new MayMigratorWork IsMigratorWork migrator_counts (IsMigratingAt m) (migrating_left m) was m.geometry.now view task
+    → IsNextTask migrator_work_made is_new MayMigratorWork IsMigratorWork migrator_counts (IsMigratingAt m) (migrating_left m) (migrator_kept m) was m.geometry.now view task
 given is_new m view was (Run piece) want plain fresh owed =
     let o : Owed m view was (Run (migrator_work_made piece)) = subst (λ (t : Task MigratorWorkMade). Owed m view was t) (sym plain) owed in
     record { is_new = fresh; may_begin = o.may; run = o.run }
@@ -72,7 +73,7 @@ given is_new m view was Stop want plain fresh owed =
 -- the task of the stage that was come to is given
 pub gives : (is_new : MigratorPiece → Type 0) (m : Migrating) (task : Task MigratorPiece) (was : ℕ → Sequence)
     → task_data migrator_work_made task ≡ stage_task m m.stage → IsNewTask is_new task → KnownAt m m.stage → HasTask m.stage
-    → ((notes : Notes) (outcome : Unit {0}) → Sometimes (comes_at m m.stage) notes outcome → Sometimes was notes outcome)
+    → ((notes : Notes) (outcome : MigratorKept) → Sometimes (comes_at m m.stage) notes outcome → Sometimes was notes outcome)
     → Gives is_new m.geometry.now m.spent m task was
 gives is_new m task was plain fresh known has fits = λ view rest. given is_new m view (Sometimes was) task (stage_task m m.stage) plain fresh (record {
   may = may-task m m.stage view known has rest;
@@ -85,15 +86,15 @@ gives is_new m task was plain fresh known has fits = λ view rest. given is_new 
 
 -- the migrator gives End
 ended : (is_new : MigratorPiece → Type 0) (m : Migrating) (view : View) (was : Sequence) (task : Task MigratorPiece)
-    → task_data migrator_work_made task ≡ Stop → IsMigratingAt m view Stop → was [] tt
-    → IsNextTask migrator_work_made is_new MayMigratorWork IsMigratorWork migrator_counts (IsMigratingAt m) (migrating_left m) was m.geometry.now view task
+    → task_data migrator_work_made task ≡ Stop → IsMigratingAt m view Stop → was [] (migrator_kept m)
+    → IsNextTask migrator_work_made is_new MayMigratorWork IsMigratorWork migrator_counts (IsMigratingAt m) (migrating_left m) (migrator_kept m) was m.geometry.now view task
 ended is_new m view was (Run piece) plain known h = cc
 ended is_new m view was (Put lane page) plain known h = cc
 ended is_new m view was (Take lane) plain known h = cc
 ended is_new m view was Stop plain known h = record { known = known; ended = h }
 
 pub gives-over : (is_new : MigratorPiece → Type 0) (m : Migrating) (task : Task MigratorPiece) (was : ℕ → Sequence)
-    → m.stage ≡ Over → task_data migrator_work_made task ≡ stage_task m Over → KnownAt m Over → Sometimes was [] tt
+    → m.stage ≡ Over → task_data migrator_work_made task ≡ stage_task m Over → KnownAt m Over → Sometimes was [] (migrator_kept m)
     → Gives is_new m.geometry.now m.spent m task was
 gives-over is_new m task was at plain known h = λ view rest. ended is_new m view (Sometimes was) task plain (record {
   is = ap (stage_task m) (sym at);
@@ -104,21 +105,21 @@ gives-over is_new m task was at plain known h = λ view rest. ended is_new m vie
 -- The stage that was come to from an old one.
 pub gives-stage : (is_new : MigratorPiece → Type 0) (old new : Migrating) (stage : MigratingStage) (task : Task MigratorPiece) (was : ℕ → Sequence)
     → new ≡ record old { stage = stage } → task_data migrator_work_made task ≡ stage_task old stage → IsNewTask is_new task → KnownAt old stage → HasTask stage
-    → ((notes : Notes) (outcome : Unit {0}) → Sometimes (comes_at old stage) notes outcome → Sometimes was notes outcome)
+    → ((notes : Notes) (outcome : MigratorKept) → Sometimes (comes_at old stage) notes outcome → Sometimes was notes outcome)
     → Gives is_new old.geometry.now old.spent new task was
 gives-stage is_new old new stage task was is plain fresh known has fits =
     subst (λ (m : Migrating). Gives is_new old.geometry.now old.spent m task was) (sym is) (gives is_new (record old { stage = stage }) task was plain fresh known has fits)
 
 -- what was left may be more
 pub gives-more : (is_new : MigratorPiece → Type 0) (g : Geometry) (m : Migrating) (view : View) (task : Task MigratorPiece) (was wider : Sequence)
-    → ((notes : Notes) (outcome : Unit {0}) → was notes outcome → wider notes outcome)
-    → IsNextTask migrator_work_made is_new MayMigratorWork IsMigratorWork migrator_counts (IsMigratingAt m) (migrating_left m) was g view task
-    → IsNextTask migrator_work_made is_new MayMigratorWork IsMigratorWork migrator_counts (IsMigratingAt m) (migrating_left m) wider g view task
+    → ((notes : Notes) (outcome : MigratorKept) → was notes outcome → wider notes outcome)
+    → IsNextTask migrator_work_made is_new MayMigratorWork IsMigratorWork migrator_counts (IsMigratingAt m) (migrating_left m) (migrator_kept m) was g view task
+    → IsNextTask migrator_work_made is_new MayMigratorWork IsMigratorWork migrator_counts (IsMigratingAt m) (migrating_left m) (migrator_kept m) wider g view task
 gives-more is_new g m view (Run piece) was wider more h = record { is_new = h.is_new; may_begin = h.may_begin; run = record { known = h.run.known; can = h.run.can; fits = λ notes outcome f. more notes outcome (h.run.fits notes outcome f) } }
 gives-more is_new g m view (Put lane page) was wider more h = record { known = h.known; can = h.can; fits = λ notes outcome f. more notes outcome (h.fits notes outcome f) }
 gives-more is_new g m view (Take lane) was wider more h = record { known = h.known; can = h.can; fits = λ notes outcome f. more notes outcome (h.fits notes outcome f) }
-gives-more is_new g m view Stop was wider more h = record { known = h.known; ended = more [] tt h.ended }
+gives-more is_new g m view Stop was wider more h = record { known = h.known; ended = more [] (migrator_kept m) h.ended }
 
 pub gives-fit : (is_new : MigratorPiece → Type 0) (g : Geometry) (spent : Spent) (m : Migrating) (task : Task MigratorPiece) (now was : ℕ → Sequence)
-    → Gives is_new g spent m task now → ((notes : Notes) (outcome : Unit {0}) → Sometimes now notes outcome → Sometimes was notes outcome) → Gives is_new g spent m task was
+    → Gives is_new g spent m task now → ((notes : Notes) (outcome : MigratorKept) → Sometimes now notes outcome → Sometimes was notes outcome) → Gives is_new g spent m task was
 gives-fit is_new g spent m task now was h fits = λ view rest. gives-more is_new g m view task (Sometimes now) (Sometimes was) fits (h view rest)

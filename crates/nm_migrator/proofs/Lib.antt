@@ -7,3 +7,4 @@ pub mod Planning
 pub mod Fitting
 pub mod Counting
 pub mod Acting
+pub mod Again

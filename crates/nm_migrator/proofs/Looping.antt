@@ -12,7 +12,7 @@ use Rattle.nm_worker.proofs.Routing.{some-work}
 use Rattle.nm_migrator_work.specs.Works.{MigratorWorkMade, MigratorWorkEnd, IsMigratorWork}
 use Rattle.nm_migrator_work.proofs.Listing.{some-migrator-work}
 use Rattle.nm_migrator.specs.Ends.{migrator_counts}
-use Rattle.nm_migrator.specs.Planned.{is_mapped}
+use Rattle.nm_migrator.specs.Planned.{MigratorKept, is_mapped}
 use Rattle.nm_migrator.specs.Migrating.{Sequence, Does, PutsTry, Puts, Taken, TakesMappedTry, TakesMapped}
 use Rattle.nm_migrator.specs.Stages.{PutLeft}
 
@@ -34,11 +34,11 @@ page-put lane page = record { rest = record { turn = turn.Put lane page; heard =
 abbrev pub none-taken : (lane : Lane) → CanEnd (IsTake lane)
 none-taken lane = record { rest = record { turn = turn.Take lane; heard = take_heard None; counts = None } ∷ []; outcome = None; shown = record { is = refl } }
 
-put-again : (page : ℕ) (after : Sequence) (full : Bool) (back : Notes) (outcome : Unit {0}) → PutLeft page full after back outcome → (n : ℕ) × Either full (PutsTry page after n) after back outcome
+put-again : (page : ℕ) (after : Sequence) (full : Bool) (back : Notes) (outcome : MigratorKept) → PutLeft page full after back outcome → (n : ℕ) × Either full (PutsTry page after n) after back outcome
 put-again page after true back outcome s = (s.tries, s.is)
 put-again page after false back outcome h = (0, h)
 
-pub puts-once : (page : ℕ) (after : Sequence) (notes : Notes) (outcome : Unit {0}) → Follows (IsPut Pending page) (λ full. PutLeft page full after) notes outcome → Puts page after notes outcome
+pub puts-once : (page : ℕ) (after : Sequence) (notes : Notes) (outcome : MigratorKept) → Follows (IsPut Pending page) (λ full. PutLeft page full after) notes outcome → Puts page after notes outcome
 puts-once page after notes outcome f =
     let again = put-again page after f.end f.back outcome f.rest in
     record { tries = suc again.0; is = record { end = f.end; front = f.front; back = f.back; shown = f.shown; rest = again.1; is = f.is } }
@@ -53,17 +53,17 @@ can-put-left page full after can = can-either full (Puts page after) after (can-
 
 -- Takes.
 
-take-mapped : (g : Geometry) (lane : Lane) (after : Option ℕ → Sequence) (page : ℕ) (test : Bool) (back : Notes) (outcome : Unit {0})
+take-mapped : (g : Geometry) (lane : Lane) (after : Option ℕ → Sequence) (page : ℕ) (test : Bool) (back : Notes) (outcome : MigratorKept)
     → Either test (after (Some page)) (TakesMapped g lane after) back outcome → (n : ℕ) × Either test (after (Some page)) (TakesMappedTry g lane after n) back outcome
 take-mapped g lane after page true back outcome h = (0, h)
 take-mapped g lane after page false back outcome s = (s.tries, s.is)
 
-take-again : (g : Geometry) (lane : Lane) (after : Option ℕ → Sequence) (page : Option ℕ) (back : Notes) (outcome : Unit {0})
+take-again : (g : Geometry) (lane : Lane) (after : Option ℕ → Sequence) (page : Option ℕ) (back : Notes) (outcome : MigratorKept)
     → Taken g (TakesMapped g lane after) after page back outcome → (n : ℕ) × Taken g (TakesMappedTry g lane after n) after page back outcome
 take-again g lane after None back outcome h = (0, h)
 take-again g lane after (Some page) back outcome h = take-mapped g lane after page (is_mapped g page) back outcome h
 
-pub takes-once : (g : Geometry) (lane : Lane) (after : Option ℕ → Sequence) (notes : Notes) (outcome : Unit {0})
+pub takes-once : (g : Geometry) (lane : Lane) (after : Option ℕ → Sequence) (notes : Notes) (outcome : MigratorKept)
     → Follows (IsTake lane) (λ page. Taken g (TakesMapped g lane after) after page) notes outcome → TakesMapped g lane after notes outcome
 takes-once g lane after notes outcome f =
     let again = take-again g lane after f.end f.back outcome f.rest in

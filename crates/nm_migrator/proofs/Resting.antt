@@ -20,7 +20,7 @@ use Rattle.nm_migrator.specs.declared.migrating.Migrating.{Migrating}
 use Rattle.nm_migrator.specs.declared.migrating.MigratingStage.{MigratingStage}
 use Rattle.nm_migrator.specs.declared.migrating.MigratingStage.TheVariants.{New, TakingCandidate, Judging, Heating, PuttingHot, Cooling, PuttingBack, Spilling, TakingPending, PuttingTwice, Planning, Batching, PuttingAgain, Moving, PuttingMoved, Asking, TakingLast, Unmarking, Over}
 use Rattle.nm_migrator.specs.Ends.{batch_in, drawn_in, work_in, words_in, migrator_counts}
-use Rattle.nm_migrator.specs.Stages.{stage_task, left_at, migrating_left, KnownAt, IsResting, IsMigratingAt, Gives}
+use Rattle.nm_migrator.specs.Stages.{migrator_kept, stage_task, left_at, migrating_left, KnownAt, IsResting, IsMigratingAt, Gives}
 
 -- the view after a task, by how that ended
 abbrev pub IsAfter : Geometry → View → View → Task MigratorWorkMade → Ended MigratorWorkEnd → Type 0
@@ -155,7 +155,7 @@ words-back over m index page count now later task end at h = move-holds m.geomet
 -- the task that comes next is the one that is given from the view after this task
 pub goes-on : (is_new : MigratorPiece → Type 0) (over : MigratorPiece → Geometry → Own → MigratorWorkEnd → Type 0) (old new : Migrating) (stage : MigratingStage) (task given : Task MigratorPiece) (end : Ended MigratorWorkEnd) (now later : View)
     → old.stage ≡ stage → IsOver over old now later task end → Gives is_new old.geometry.now (spent_after old stage end) new given (left_at old stage end)
-    → IsNextTask migrator_work_made is_new MayMigratorWork IsMigratorWork migrator_counts (IsMigratingAt new) (migrating_left new) (migrating_left old end) old.geometry.now later given
+    → IsNextTask migrator_work_made is_new MayMigratorWork IsMigratorWork migrator_counts (IsMigratingAt new) (migrating_left new) (migrator_kept new) (migrating_left old end) old.geometry.now later given
 goes-on is_new over old new stage task given end now later at h gives =
-    subst (λ (s : MigratingStage). IsNextTask migrator_work_made is_new MayMigratorWork IsMigratorWork migrator_counts (IsMigratingAt new) (migrating_left new) (Sometimes (left_at old s end)) old.geometry.now later given) (sym at)
+    subst (λ (s : MigratingStage). IsNextTask migrator_work_made is_new MayMigratorWork IsMigratorWork migrator_counts (IsMigratingAt new) (migrating_left new) (migrator_kept new) (Sometimes (left_at old s end)) old.geometry.now later given) (sym at)
     (gives later (rest-at old stage end now later (known-at old stage now (task_data migrator_work_made task) at h.0) h.0.resting (after-at over old stage now later task end at h)))

@@ -1,6 +1,6 @@
 -- The migrator, as a pattern over finished lists of answered turns, the last step first. Each step is given what comes after it;
 -- `next` is what comes next from the taking of candidates on, or from that of pending pages on.
-use Rattle.std.specs.Prelude.{ℕ, zero, suc, Bool, List, [], ◌∷◌, ◌++◌, Option, Some, None}
+use Rattle.std.specs.Prelude.{ℕ, zero, suc, Bool, true, false, List, [], ◌∷◌, ◌++◌, Option, Some, None}
 use Rattle.std.specs.List.{range_with_len}
 use Rattle.nm_base.specs.Geometry.{Geometry, page_count}
 use Rattle.nm_action.specs.declared.action.Reply.{Reply}
@@ -15,9 +15,9 @@ use Rattle.nm_migrator_work.specs.Works.{MigratorWorkMade, MigratorWorkEnd, IsMi
 use Rattle.nm_migrator.specs.Ends.{mark_reply_in, looks_in, cooled_in, batch_in, move_in, drawn_in, all_ended_in, migrator_counts}
 use Rattle.nm_migrator.specs.Planned.{MigratorKept, nothing_kept, unaborted, is_mapped, is_among, most_taken, Plan, no_plan, planned, again_of, batched, is_busy_move, kept_drawn}
 
--- a pattern of sequences of an actor
+-- a pattern of sequences of the migrator, and what is kept at the end of each
 abbrev pub Sequence : Type 1
-Sequence = Notes → Unit {0} → Type 0
+Sequence = Notes → MigratorKept → Type 0
 
 -- Tasks.
 
@@ -73,14 +73,14 @@ Judges g next kept page = Does g (made_looks g page) (λ end. Either (looks_in e
 
 -- 4. Where all processors have ended and there is no candidate, no page is a candidate any more, and the migrator ends.
 
-abbrev pub UnmarkNext : Geometry → ℕ → Unit {0} → (Unit {0} → Sequence) → Sequence
+abbrev pub UnmarkNext : Geometry → ℕ → MigratorKept → (MigratorKept → Sequence) → Sequence
 UnmarkNext g page kept after = Does g (made_mark page 1 0) (λ end. after kept)
 
-abbrev pub Unmarks : Geometry → List ℕ → Sequence
-Unmarks g pages = Each (UnmarkNext g) pages tt (λ kept. Ends tt)
+abbrev pub Unmarks : Geometry → List ℕ → MigratorKept → Sequence
+Unmarks g pages kept = Each (UnmarkNext g) pages kept (λ kept. Ends kept)
 
 abbrev pub AfterLast : Geometry → (Lane → MigratorKept → Sequence) → MigratorKept → Option ℕ → Sequence
-AfterLast g next kept None = Unmarks g (range_with_len 0 (page_count g))
+AfterLast g next kept None = Unmarks g (range_with_len 0 (page_count g)) kept
 AfterLast g next kept (Some page) = Judges g next kept page
 
 abbrev pub Asks : Geometry → (Lane → MigratorKept → Sequence) → MigratorKept → Sequence
@@ -144,5 +144,21 @@ abbrev pub MigratorRounds : Geometry → Option ℕ → ℕ → Lane → Migrato
 MigratorRounds g retry zero lane kept notes outcome = ⊥
 MigratorRounds g retry (suc n) lane kept notes outcome = MigratorRound g retry (MigratorRounds g retry n) lane kept notes outcome
 
+-- begun with what was kept
+abbrev pub MigratesFrom : Geometry → Option ℕ → MigratorKept → Sequence
+MigratesFrom g retry kept = Sometimes (λ n. MigratorRounds g retry n Candidates kept)
+
 abbrev pub IsMigrating : Geometry → Option ℕ → Sequence
-IsMigrating g retry = Sometimes (λ n. MigratorRounds g retry n Candidates (nothing_kept g))
+IsMigrating g retry = MigratesFrom g retry (nothing_kept g)
+
+-- One that was resumed.
+
+-- so many whole sequences and then one more, each begun with what the one before it left
+abbrev pub MigratesMore : Geometry → Option ℕ → ℕ → Sequence
+MigratesMore g retry zero = IsMigrating g retry
+MigratesMore g retry (suc n) = Follows (MigratesMore g retry n) (MigratesFrom g retry)
+
+-- by whether it was resumed: then there is one more at least
+abbrev pub IsMigratingBy : Bool → Geometry → Option ℕ → Sequence
+IsMigratingBy false g retry = IsMigrating g retry
+IsMigratingBy true g retry = Sometimes (λ n. MigratesMore g retry (suc n))

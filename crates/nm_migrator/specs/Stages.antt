@@ -1,5 +1,5 @@
 -- How far the migrator has come: the task of each stage, what is left after it, and what is known of it.
-use Rattle.std.specs.Prelude.{◌≡◌, ◌≢◌, ℕ, ◌+◌, ◌-◌, ◌<◌, ◌≤◌, Bool, List, [], ◌∷◌, length, drop, All, Option, None}
+use Rattle.std.specs.Prelude.{false, ◌≡◌, ◌≢◌, ℕ, ◌+◌, ◌-◌, ◌<◌, ◌≤◌, Bool, List, [], ◌∷◌, length, drop, All, Option, None}
 use Rattle.std.specs.List.{range_with_len}
 use Rattle.nm_base.specs.Geometry.{Geometry, IsGeometry, page_count}
 use Rattle.nm_base.specs.Ranges.{IsPage}
@@ -36,9 +36,9 @@ migrator_kept m = record { aborts = m.aborts.items; spent = m.spent }
 abbrev pub migrator_plan : Migrating → Plan
 migrator_plan m = record { pieces = m.pieces; moves = m.moves }
 
--- the geometry and the retry
-abbrev pub migrating_made : Migrating → Geometry × Option ℕ
-migrating_made m = record { 0 = m.geometry.now; 1 = m.retry }
+-- the geometry, the retry, and whether it was resumed
+abbrev pub migrating_made : Migrating → Geometry × Option ℕ × Bool
+migrating_made m = record { 0 = m.geometry.now; 1 = m.retry; 2 = m.resumed }
 
 -- The task of a stage.
 
@@ -150,7 +150,7 @@ AskedLeft m all n = Either all (TakesMapped m.geometry.now Candidates (AfterLast
 
 -- where pages from this one on are to be no candidates any more
 abbrev pub UnmarksLeft : Migrating → ℕ → ℕ → Sequence
-UnmarksLeft m page n = Unmarks m.geometry.now (range_with_len page (page_count m.geometry.now - page))
+UnmarksLeft m page n = Unmarks m.geometry.now (range_with_len page (page_count m.geometry.now - page)) (migrator_kept m)
 
 abbrev pub NothingLeft : Sequence
 NothingLeft notes outcome = ⊥
@@ -332,7 +332,7 @@ IsNewTask is_new task = Unit {0}
 -- from a view between two tasks the migrator gives this task, where this is left, with some number of rounds
 abbrev pub Gives : (MigratorPiece → Type 0) → Geometry → Spent → Migrating → Task MigratorPiece → (ℕ → Sequence) → Type 0
 Gives is_new g spent new task was = (view : View) → IsResting g spent view
-    → IsNextTask migrator_work_made is_new MayMigratorWork IsMigratorWork migrator_counts (IsMigratingAt new) (migrating_left new) (Sometimes was) g view task
+    → IsNextTask migrator_work_made is_new MayMigratorWork IsMigratorWork migrator_counts (IsMigratingAt new) (migrating_left new) (migrator_kept new) (Sometimes was) g view task
 
 -- there is a piece for the task of a stage
 abbrev pub MayComeTo : Migrating → MigratingStage → Type 0
@@ -345,5 +345,6 @@ MayComeTo m stage = Unit {0}
 -- the migrator has given no task yet
 pub record IsNewMigrating (m : Migrating) : Type 0 where
   pub start : m.stage ≡ New
+  pub first : m.resumed ≡ false
   pub kept : IsMigratorKept m
   pub aborts : migrator_kept m ≡ nothing_kept m.geometry.now

@@ -1,7 +1,10 @@
 //! The migrator.
 
-ghost use Rattle.std.specs.Prelude.{◌≡◌, IfOk};
-ghost use Rattle.nm_migrator.specs.Parts.{migrator_made, IsNewMigrator};
+ghost use Rattle.std.specs.Prelude.{◌≡◌, true, false, IfOk, Some, None};
+ghost use Rattle.nm_action.specs.declared.turn.Turn.TheVariants as turn;
+ghost use Rattle.nm_actor.specs.Turns.{Turns};
+ghost use Rattle.nm_worker.specs.Workers.{HasGivenEnd};
+ghost use Rattle.nm_migrator.specs.Parts.{migrator_made, worker_counted, IsNewMigrator, AgreesMigrator};
 
 use crate::migrating::Migrating;
 use nm_actor::Actor;
@@ -29,7 +32,7 @@ impl<'a> MigratorActor<'a> {
         g: &'a Geometry,
         retry: Option<u32>,
     ) -> Result<MigratorActor<'a>, AllocError>
-        ensures made { IfOk result (λ a. migrator_made a ≡ record { 0 = g.now; 1 = retry }) }
+        ensures made { IfOk result (λ a. migrator_made a ≡ record { 0 = g.now; 1 = retry; 2 = false }) }
         ensures new { IfOk result IsNewMigrator }
     {
         let routine = Migrating::new(alloc, g, retry)?;
@@ -37,10 +40,21 @@ impl<'a> MigratorActor<'a> {
             worker: Worker::new(alloc, g, routine)?,
         })
     }
+
+    /// Begins again after it gave End, from the taking of candidates on: the next call of `next` hears Start. The migrator keeps its
+    /// tally, each page's count of aborts, and what it has drawn. It takes no memory. Condition: the migrator gave End.
+    pub fn resume(&mut self)
+        requires { HasGivenEnd (AgreesMigrator self.old) }
+        ensures made { migrator_made self.new ≡ record { 0 = (migrator_made self.old).0; 1 = (migrator_made self.old).1; 2 = true } }
+        ensures tally { worker_counted self.new.worker ≡ worker_counted self.old.worker }
+        ensures agrees { (turns : Turns) → AgreesMigrator self.old turns (Some turn.End) → AgreesMigrator self.new turns None }
+    {
+        self.worker.resume();
+    }
 }
 
 impl<'a> Actor for MigratorActor<'a> {
-    type Made = (Geometry, Option<u32>);
+    type Made = (Geometry, Option<u32>, bool);
 
     ghost use Rattle.std.specs.Prelude.{[], refl};
     ghost use Rattle.nm_migrator.specs.Parts.{migrator_made, migrator_number, worker_counted, IsNewMigrator, AgreesMigrator};
@@ -65,5 +79,5 @@ impl<'a> Actor for MigratorActor<'a> {
         self.worker.tally()
     }
 
-    ghost opens = { λ a new. record { worker = record { notes = []; is = refl; next = refl; events = new.worker.events; ends = new.worker.ends; pages = new.worker.pages; drawn = new.worker.drawn; few = new.worker.few; at = new.worker.next }; part = new.part; empty = tt } };
+    ghost opens = { λ a new. record { worker = record { notes = []; is = refl; next = new.worker.can; events = new.worker.events; ends = new.worker.ends; pages = new.worker.pages; drawn = new.worker.drawn; few = new.worker.few; at = new.worker.next }; part = new.part; empty = tt } };
 }

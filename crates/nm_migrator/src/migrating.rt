@@ -1,6 +1,7 @@
 //! The migrator as a routine: which task comes after which.
 
-ghost use Rattle.std.specs.Prelude.{◌≡◌, IfOk, None};
+ghost use Rattle.std.specs.Prelude.{◌≡◌, false, IfOk, None};
+ghost use Rattle.nm_part.specs.Patterns.{CanEnd};
 ghost use Rattle.nm_transfer.specs.Stages.{HoldsWords};
 ghost use Rattle.nm_worker.specs.Routines.{task_data, IsNextTask, IsTaskOver, IsDrawn, HasTaskOver};
 ghost use Rattle.nm_view.specs.Views.{View};
@@ -8,8 +9,8 @@ ghost use Rattle.nm_view.specs.Opening.{opening};
 ghost use Rattle.nm_migrator_work.specs.Works.{migrator_work_made, IsNewMigratorWork, MayMigratorWork, IsMigratorWork, MigratorWorkLeaves, MigratorWorkEnded};
 ghost use Rattle.nm_migrator.specs.declared.migrating.MigratingStage.{MigratingStage};
 ghost use Rattle.nm_migrator.specs.Ends.{migrator_counts};
-ghost use Rattle.nm_migrator.specs.Migrating.{IsMigrating};
-ghost use Rattle.nm_migrator.specs.Stages.{migrating_made, migrating_left, stage_task, IsNewTask, MayComeTo, IsNewMigrating, IsMigratingAt};
+ghost use Rattle.nm_migrator.specs.Migrating.{IsMigratingBy};
+ghost use Rattle.nm_migrator.specs.Stages.{migrator_kept, migrating_made, migrating_left, stage_task, IsNewTask, MayComeTo, IsNewMigrating, IsMigratingAt};
 
 use crate::ends::{
     all_ended_in, batch_in, cooled_in, drawn_in, full_in, is_busy_in, looks_in, mark_reply_in,
@@ -23,7 +24,7 @@ use nm_migrator_work::{
     MigratorEnd, MigratorPiece, ask_work, batch_work, cool_work, looks_work, mark_work, move_work,
 };
 use nm_transfer::TakenWords;
-use nm_worker::{Ended, Routine, Task};
+use nm_worker::{Ended, Resuming, Routine, Task};
 use std::alloc::{AllocError, Global};
 
 /// The mark of a page that is none.
@@ -83,6 +84,8 @@ pub struct Migrating<'a> {
     pub(crate) geometry: &'a Geometry,
     /// How many aborts of a page's transaction make it move while it is locked.
     pub(crate) retry: Option<u32>,
+    /// Whether it was begun again after it had stopped.
+    pub(crate) resumed: bool,
     pub(crate) stage: MigratingStage,
     /// How often each page's transaction was aborted since the page was last marked as pending.
     pub(crate) aborts: Vec<u32>,
@@ -107,7 +110,7 @@ impl<'a> Migrating<'a> {
         g: &'a Geometry,
         retry: Option<u32>,
     ) -> Result<Migrating<'a>, AllocError>
-        ensures made { IfOk result (λ m. migrating_made m ≡ record { 0 = g.now; 1 = retry }) }
+        ensures made { IfOk result (λ m. migrating_made m ≡ record { 0 = g.now; 1 = retry; 2 = false }) }
         ensures new { IfOk result (λ m. IsNewMigrating m) }
     {
         // What a geometry keeps is part of the reasons.
@@ -116,6 +119,7 @@ impl<'a> Migrating<'a> {
         Ok(Migrating {
             geometry: g,
             retry,
+            resumed: false,
             stage: MigratingStage::New,
             aborts,
             spent: Spent::default(),
@@ -181,10 +185,11 @@ impl<'a> Migrating<'a> {
 }
 
 impl<'a> Routine<MigratorPiece<'a>> for Migrating<'a> {
-    type Made = (Geometry, Option<u32>);
+    type Made = (Geometry, Option<u32>, bool);
 
-    ghost use Rattle.nm_migrator.specs.Stages.{migrating_made, IsNewMigrating, IsMigratingAt, migrating_left};
-    ghost use Rattle.nm_migrator.specs.Migrating.{IsMigrating};
+    ghost use Rattle.nm_migrator.specs.Stages.{migrator_kept, migrating_made, IsNewMigrating, IsMigratingAt, migrating_left};
+    ghost use Rattle.nm_migrator.specs.Planned.{MigratorKept};
+    ghost use Rattle.nm_migrator.specs.Migrating.{IsMigratingBy};
     ghost use Rattle.nm_migrator.specs.Ends.{migrator_counts};
 
     ghost made = { migrating_made };
@@ -195,7 +200,9 @@ impl<'a> Routine<MigratorPiece<'a>> for Migrating<'a> {
 
     ghost is_new = { IsNewMigrating };
 
-    ghost shape = { λ made. IsMigrating made.0 made.1 };
+    ghost Outcome = { MigratorKept };
+
+    ghost shape = { λ made. IsMigratingBy made.2 made.0 made.1 };
 
     ghost counts = { migrator_counts };
 
@@ -203,10 +210,13 @@ impl<'a> Routine<MigratorPiece<'a>> for Migrating<'a> {
 
     ghost left = { migrating_left };
 
+    ghost stop = { migrator_kept };
+
     fn begin(&mut self) -> Task<MigratorPiece<'a>>
         requires { IsNewMigrating self.old }
         ensures made { migrating_made self.new ≡ migrating_made self.old }
-        ensures next { IsNextTask migrator_work_made IsNewMigratorWork MayMigratorWork IsMigratorWork migrator_counts (IsMigratingAt self.new) (migrating_left self.new) (IsMigrating self.old.geometry.now self.old.retry)
+        ensures can { CanEnd (IsMigratingBy self.old.resumed self.old.geometry.now self.old.retry) }
+        ensures next { IsNextTask migrator_work_made IsNewMigratorWork MayMigratorWork IsMigratorWork migrator_counts (IsMigratingAt self.new) (migrating_left self.new) (migrator_kept self.new) (IsMigratingBy self.old.resumed self.old.geometry.now self.old.retry)
             self.old.geometry.now (opening self.old.geometry.now self.old.geometry.now.cpus) result }
     {
         self.go(MigratingStage::TakingCandidate)
@@ -222,7 +232,7 @@ impl<'a> Routine<MigratorPiece<'a>> for Migrating<'a> {
         ensures made { migrating_made self.new ≡ migrating_made self.old }
         ensures next { (now later : View) → IsMigratingAt self.old now (task_data migrator_work_made _task.now)
             → IsTaskOver migrator_work_made IsMigratorWork MigratorWorkLeaves MigratorWorkEnded self.old.geometry.now now later _task.now end → IsDrawn _spent later
-            → IsNextTask migrator_work_made IsNewMigratorWork MayMigratorWork IsMigratorWork migrator_counts (IsMigratingAt self.new) (migrating_left self.new) (migrating_left self.old end) self.old.geometry.now later result }
+            → IsNextTask migrator_work_made IsNewMigratorWork MayMigratorWork IsMigratorWork migrator_counts (IsMigratingAt self.new) (migrating_left self.new) (migrator_kept self.new) (migrating_left self.old end) self.old.geometry.now later result }
     {
         match self.stage {
             MigratingStage::New => unreachable!(),
@@ -262,5 +272,30 @@ impl<'a> Routine<MigratorPiece<'a>> for Migrating<'a> {
         ensures { result ≡ migrator_counts end.now }
     {
         migrator_counts(end)
+    }
+}
+
+impl<'a> Resuming<MigratorPiece<'a>> for Migrating<'a> {
+    ghost use Rattle.std.specs.Prelude.{true, ◌++◌};
+    ghost use Rattle.nm_worker.specs.declared.routine.Task.TheVariants.{Stop};
+    ghost use Rattle.nm_worker.specs.Notes.{Notes};
+    ghost use Rattle.nm_worker.specs.Routines.{HasStopped, IsBegunAgain};
+
+    ghost can_resume = { λ m. Unit {0} };
+
+    ghost resumed = { λ made. record { 0 = made.0; 1 = made.1; 2 = true } };
+
+    fn resume(&mut self) -> Task<MigratorPiece<'a>>
+        requires stopped { HasStopped (IsMigratingAt self.old) }
+        ensures made { migrating_made self.new ≡ record { 0 = self.old.geometry.now; 1 = self.old.retry; 2 = true } }
+        ensures geometry { self.new.geometry.now ≡ self.old.geometry.now }
+        ensures number { self.new.geometry.now.cpus ≡ self.old.geometry.now.cpus }
+        ensures next { (notes : Notes) (view : View) → IsMigratingAt self.old view Stop → IsMigratingBy self.old.resumed self.old.geometry.now self.old.retry notes (migrator_kept self.old)
+            → IsBegunAgain
+            (IsNextTask migrator_work_made IsNewMigratorWork MayMigratorWork IsMigratorWork migrator_counts (IsMigratingAt self.new) (migrating_left self.new) (migrator_kept self.new) (λ rest outcome. IsMigratingBy self.new.resumed self.new.geometry.now self.new.retry (notes ++ rest) outcome) self.old.geometry.now view result)
+            (λ rest outcome. IsMigratingBy self.new.resumed self.new.geometry.now self.new.retry (notes ++ rest) outcome) }
+    {
+        self.resumed = true;
+        self.go(MigratingStage::TakingCandidate)
     }
 }

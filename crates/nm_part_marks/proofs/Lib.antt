@@ -5,3 +5,4 @@ pub mod Faults
 pub mod Back
 pub mod BatchBack
 pub mod Made
+pub mod Asking

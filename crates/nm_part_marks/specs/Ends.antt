@@ -34,10 +34,10 @@ IsTxnOver txn.Gone = Unit {0}
 IsTxnOver txn.Worn = Unit {0}
 IsTxnOver txn.Busy = ⊥
 
--- each page of a batch whose piece is over so was taken back
+-- each piece of a batch has an end, and the page of a piece that is over so was taken back
 abbrev pub ArePiecesBack : List (ℕ × ℕ) → List TxnEnd → Own → Type 0
 ArePiecesBack [] ends own = Unit {0}
-ArePiecesBack (piece ∷ pieces) [] own = Unit {0}
+ArePiecesBack (piece ∷ pieces) [] own = ⊥
 ArePiecesBack (piece ∷ pieces) (end ∷ ends) own = (IsTxnOver end → HasEvent (IsTakenBack piece.0) own) × ArePiecesBack pieces ends own
 
 -- the first steps of a locked move ended it

@@ -10,17 +10,18 @@ use Rattle.nm_action.specs.Own.{Own}
 use Rattle.nm_action.specs.Tally.{sum_of}
 use Rattle.nm_view.specs.Views.{View}
 use Rattle.nm_actor.specs.Actors.{gave_end}
-use Rattle.nm_actor.specs.Turns.{Turns}
+use Rattle.nm_actor.specs.Turns.{Turns, turns_view}
 use Rattle.nm_play.specs.Played as play
 use Rattle.nm_script.specs.declared.script.Line.{Line}
 use Rattle.nm_script.specs.Plain.{Script}
 use Rattle.nm_access.specs.Faults.{FaultKinds}
 use Rattle.nm_cpu.specs.declared.actor.Processor.{Processor}
 use Rattle.nm_cpu.specs.declared.made.CpuMade.{CpuMade}
-use Rattle.nm_cpu.specs.Agreeing.{FollowsCpu}
+use Rattle.nm_cpu.specs.Agreeing.{IsLeftAt, FollowsCpu}
 use Rattle.nm_cpu.specs.Parts.{IsCpuPart}
 use Rattle.nm_crew.specs.Crewed.{AtEach, IsAgreed}
 use Rattle.nm_programs.specs.Cpus.{program_of, IsCpuMade, IsCpuAt}
+use Rattle.nm_programs.specs.Runs.{IsLeftByCpu}
 
 cpu-end : (turn : Turn) → gave_end (Some turn) ≡ play.is_end turn
 cpu-end (Do action) = refl
@@ -39,6 +40,21 @@ cpu-agreed kinds made_of awaits_of script cpu c turns ended made h =
     let Program : List Line → Type 0 = λ p. IsCpuPart kinds c.made.geometry.now c.made.number p turns ended c.results.items counts in
     let Ended : Bool → Type 0 = λ b. IsCpuPart kinds c.made.geometry.now c.made.number c.made.program.now turns b c.results.items counts in
     subst Machine made.machine (subst Number made.same (subst Program made.program (subst Ended (cpu-end h.last ∙ sym h.given) h.agreed.part)))
+
+-- where it gave End, its view is that of a processor that has ended
+left-by : (view : View) (turn : Turn) → IsLeftAt view (Some turn) → IsLeftByCpu (play.is_end turn) view
+left-by view (Do action) h = tt
+left-by view (Put lane page) h = tt
+left-by view (Take lane) h = tt
+left-by view End h = h
+
+pub cpu-left : {F M X : Type 0} (kinds : FaultKinds M X) (made_of : F → M) (awaits_of : F → Geometry → View → Own → Action → Type 0) (script : Script) (cpu : ℕ) (c : Processor F) (turns : Turns) (ended : Bool)
+    → IsCpuMade script cpu c.made → IsAgreed (FollowsCpu kinds made_of awaits_of c) turns ended → IsLeftByCpu ended (turns_view script.geometry cpu turns)
+cpu-left kinds made_of awaits_of script cpu c turns ended made h =
+    let Machine : Geometry → Type 0 = λ g. IsLeftByCpu ended (turns_view g cpu turns) in
+    let Number : ℕ → Type 0 = λ n. IsLeftByCpu ended (turns_view c.made.geometry.now n turns) in
+    let Ended : Bool → Type 0 = λ b. IsLeftByCpu b (turns_view c.made.geometry.now c.made.number turns) in
+    subst Machine made.machine (subst Number made.same (subst Ended (sym h.given) (left-by (turns_view c.made.geometry.now c.made.number turns) h.last h.agreed.at.left)))
 
 -- the processors after a simulation were made as those before it
 pub made-after : {C : Type 0} (made : C → CpuMade) (agrees : C → Turns → Option Turn → Type 0) (script : Script) (before after : List C) (cpu : ℕ) (d : C)

@@ -16,7 +16,7 @@ use Rattle.nm_action.specs.Own.{Own}
 use Rattle.nm_action.specs.Tally.{sum_of}
 use Rattle.nm_view.specs.Views.{View}
 use Rattle.nm_base.specs.Geometry.{Geometry}
-use Rattle.nm_actor.specs.Turns.{Turns, own_list}
+use Rattle.nm_actor.specs.Turns.{Turns, own_list, turns_view}
 use Rattle.nm_fault.specs.Tasks.{FaultBegun}
 use Rattle.nm_cpu.specs.declared.actor.Processor.{Processor}
 use Rattle.nm_cpu.specs.Agreeing.{FollowsCpu}
@@ -33,15 +33,19 @@ use Rattle.nm_crew.proofs.Accesses.{accesses-turns}
 use Rattle.nm_crew.proofs.Tallies.{tallies-many, counts-cpu, counts-migrator, counts-reclaimer}
 use Rattle.nm_cpu_fault.specs.ProcessorFaults.{processor_faults}
 use Rattle.nm_cpu.specs.Parts.{IsCpuPart}
+use Rattle.nm_cpu_counts.specs.Counting.{processor_tally}
+use Rattle.nm_cpu_counts.proofs.Counting.{processor-counts}
 use Rattle.nm_programs.specs.Cpus.{program_of, IsCpuMade}
-use Rattle.nm_programs.proofs.Playing.{cpu-agreed}
+use Rattle.nm_programs.proofs.Playing.{cpu-agreed, cpu-left}
 use Rattle.nm_programs.specs.Plain.{SimRun}
-use Rattle.nm_programs.specs.Runs.{results_of, IsCpuRun, IsRunWith}
+use Rattle.nm_programs.specs.Runs.{results_of, IsLeftByCpu, IsCpuRun, IsRunWith}
 
--- a processor's part, and its accesses follow its program
+-- a processor's part, what it counted, and that its accesses follow its program
 pub record IsCpuDone (script : Script) (cpu : ℕ) (turns : Turns) (ended : Bool) (results : List LineResult) (counts : Tally) : Type 0 where
   pub part : IsCpuPart processor_faults script.geometry cpu (program_of script cpu) turns ended results counts
+  pub counted : counts ≡ processor_tally (own_list turns)
   pub follows : FollowsProgram cpu ended (program_of script cpu) results (filter_map (λ e. access_by cpu e.0 e.1) (own_list turns))
+  pub left : IsLeftByCpu ended (turns_view script.geometry cpu turns)
 
 -- an element of a list that has one
 some-element : {A : Type 0} (list : List A) (i : ℕ) → i < length list → A
@@ -68,7 +72,9 @@ cpu-run script run played given counted cpus migrator reclaimer cpu d listed res
     let FollowsOwn : List Access → Type 0 = λ l. FollowsProgram cpu (has_ended played cpu) (program_of script cpu) (results_of run cpu) l in
     record {
       part = subst PartCounted (sym counts) (subst PartGiven (sym told) done.part);
+      counted = counts ∙ done.counted;
       follows = subst FollowsOwn (sym own) (subst FollowsGiven (sym told) done.follows);
+      left = done.left;
     }
 
 -- each processor's results fit its program
@@ -126,7 +132,7 @@ pub cpu-done : {F : Type 0} (made_of : F → FaultBegun) (awaits_of : F → Geom
     → IsCpuDone script cpu turns ended c.results.items (sum_of c.counter.tally c.access.tally)
 cpu-done made_of awaits_of script cpu c turns ended made h =
     let part = cpu-agreed processor_faults made_of awaits_of script cpu c turns ended made h in
-    record { part = part; follows = part.follows }
+    record { part = part; counted = processor-counts made_of awaits_of c turns _ h.agreed; follows = part.follows; left = cpu-left processor_faults made_of awaits_of script cpu c turns ended made h }
 
 -- what is said of the parts of migrator and reclaimer, in other words
 pub run-with : (migrator_part migrator_part' reclaimer_part reclaimer_part' : Turns → Bool → Tally → Type 0) (script : Script) (run : SimRun)

@@ -1,11 +1,12 @@
 -- The run of a script, and the report of it.
-use Rattle.std.specs.Prelude.{◌≡◌, ℕ, ◌+◌, ◌<◌, Bool, List, [], length, slice_index_or, Option}
+use Rattle.std.specs.Prelude.{◌≡◌, ℕ, ◌+◌, ◌<◌, Bool, true, false, List, [], length, slice_index_or, Option}
 use Rattle.nm_flat.specs.Memory.{own_part_of}
 use Rattle.nm_action.specs.declared.tally.Tally.{Tally}
 use Rattle.nm_action.specs.declared.turn.Turn.{Turn}
 use Rattle.nm_core.specs.State.{actor_count}
 use Rattle.nm_core.specs.Runs.{accesses_of}
-use Rattle.nm_actor.specs.Turns.{Turns}
+use Rattle.nm_view.specs.Views.{View}
+use Rattle.nm_actor.specs.Turns.{Turns, own_list, turns_view}
 use Rattle.nm_script.specs.Plain.{Script}
 use Rattle.nm_report.specs.declared.line_result.LineResult.{LineResult}
 use Rattle.nm_report.specs.Plain.{Report}
@@ -17,6 +18,8 @@ use Rattle.nm_crew.specs.Crewed.{IsAgreed, tally_of, counts_at}
 use Rattle.nm_crew.specs.Simulated.{IsSimulated}
 use Rattle.nm_cpu_fault.specs.ProcessorFaults.{processor_faults}
 use Rattle.nm_cpu.specs.Parts.{IsCpuPart}
+use Rattle.nm_cpu.specs.Agreeing.{IsEndedCpu}
+use Rattle.nm_cpu_counts.specs.Counting.{processor_tally}
 use Rattle.nm_programs.specs.Cpus.{program_of}
 use Rattle.nm_programs.specs.Plain.{SimRun}
 
@@ -28,11 +31,18 @@ results_of run cpu = slice_index_or run.results cpu []
 abbrev pub report_of : Script → SimRun → Report
 report_of script run = record { script = script; results = run.results; end = run.end; tally = run.tally }
 
--- a processor's part of the turns is that of its program, gave these results and counted this; and its accesses among the
--- events follow its program with the results
+-- a processor that has ended leaves nothing open in its view, and has acknowledged its end
+abbrev pub IsLeftByCpu : Bool → View → Type 0
+IsLeftByCpu true view = IsEndedCpu view
+IsLeftByCpu false view = Unit {0}
+
+-- a processor's part of the turns is that of its program, gave these results and counted this, which is what its own list does; its accesses
+-- among the events follow its program with the results; and where it has ended it has left nothing open
 pub record IsCpuRun (script : Script) (run : SimRun) (played : List Played) (cpu : ℕ) (counts : Tally) : Type 0 where
   pub part : IsCpuPart processor_faults script.geometry cpu (program_of script cpu) (turns_by cpu played) (has_ended played cpu) (results_of run cpu) counts
+  pub counted : counts ≡ processor_tally (own_list (turns_by cpu played))
   pub follows : FollowsProgram cpu (has_ended played cpu) (program_of script cpu) (results_of run cpu) (own_part_of cpu (accesses_of run.events))
+  pub left : IsLeftByCpu (has_ended played cpu) (turns_view script.geometry cpu (turns_by cpu played))
 
 -- an actor that was made so has these turns as its part, and counted this: it agrees with exactly them, and has given a turn
 -- since, which is End where it has ended

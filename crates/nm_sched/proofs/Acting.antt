@@ -1,53 +1,15 @@
--- The reclaimer does not end at once: no whole sequence of it is empty.
-use Rattle.std.proofs.Common.{◌≡◌, ◌<◌, ◌++◌, ℕ, zero, suc, Bool, true, List, [], ◌∷◌, arith, refl, sym, subst, ◌∙◌}
-use Rattle.nm_base.specs.Geometry.{Geometry}
-use Rattle.nm_action.specs.Own.{Own}
+-- An actor that follows a routine gives a turn before it ends.
+use Rattle.std.proofs.Common.{◌≡◌, true, [], ◌∷◌, refl, subst}
 use Rattle.nm_action.specs.declared.tally.Tally.{Tally}
-use Rattle.nm_compose.specs.declared.or.Or.TheVariants.{This, Other}
-use Rattle.nm_worker.specs.Notes.{Notes, worked, noted_turns}
+use Rattle.nm_worker.specs.Notes.{Notes, noted_turns}
 use Rattle.nm_routine_part.specs.Parts.{IsRoutinePart}
-use Rattle.nm_ended.specs.Asking.{AsksFrom}
-use Rattle.nm_kswap.specs.Works.{ReclaimerWorkEnd, IsReclaimerWork, made_asking}
-use Rattle.nm_kswap.specs.Reclaiming.{ReclaimerRounds, kept_at_first, IsReclaiming}
-
-pub front-none : {A : Type 0} (front back : List A) → [] ≡ front ++ back → front ≡ []
-front-none [] back is = refl
-front-none (a ∷ front) back is = cc
-
--- ---- the reclaimer asks the processors first
-
-worked-none : (counts : Tally) (own : Own) → [] ≡ worked counts own → own ≡ []
-worked-none counts [] is = refl
-worked-none counts (e ∷ own) is = cc
-
-asks-act : (g : Geometry) (cpus : ℕ) (own : Own) (all : Bool) → 0 < cpus → own ≡ [] → ¬ AsksFrom g 0 cpus own all
-asks-act g zero own all some none h = omega (arith, some)
-asks-act g (suc more) own all some none h =
-    let ask = front-none h.front h.back (sym none ∙ h.is) in
-    let acts = sym ask ∙ h.shown.is in
-    cc
-
-asking-acts : (g : Geometry) (own : Own) (end : ReclaimerWorkEnd) → 0 < g.cpus → own ≡ [] → ¬ IsReclaimerWork (made_asking g) g own end
-asking-acts g own (This all) some none h = asks-act g g.cpus own all some none h
-asking-acts g own (Other end) some none h = h
-
-rounds-act : (g : Geometry) (rounds : ℕ) → 0 < g.cpus → ¬ ReclaimerRounds g rounds kept_at_first [] tt
-rounds-act g zero some h = h
-rounds-act g (suc more) some h =
-    let none = front-none h.front h.back h.is in
-    asking-acts g h.shown.own h.end some (worked-none _ h.shown.own (sym none ∙ h.shown.is)) h.shown.shown
-
-pub reclaiming-acts : (g : Geometry) → 0 < g.cpus → ¬ IsReclaiming g [] tt
-reclaiming-acts g some h = rounds-act g h.tries some h.is
-
--- ---- an actor that follows a routine
 
 notes-none : (notes : Notes) → [] ≡ noted_turns notes → notes ≡ []
 notes-none [] is = refl
 notes-none (n ∷ notes) is = cc
 
 -- where no whole sequence is empty, no part without turns has ended
-pub routine-acts : (whole : Notes → Unit {0} → Type 0) (tally : Tally) → ¬ whole [] tt → ¬ IsRoutinePart whole [] true tally
+pub routine-acts : {O : Type 0} (whole : Notes → O → Type 0) (tally : Tally) → ((outcome : O) → ¬ whole [] outcome) → ¬ IsRoutinePart whole [] true tally
 routine-acts whole tally acts h =
-    let Whole : Notes → Type 0 = λ l. whole l tt in
-    acts (subst Whole (notes-none h.notes h.is) h.carried)
+    let Whole : Notes → Type 0 = λ l. whole l h.carried.outcome in
+    acts h.carried.outcome (subst Whole (notes-none h.notes h.is) h.carried.shown)

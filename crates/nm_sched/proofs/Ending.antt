@@ -10,10 +10,12 @@ use Rattle.nm_play.specs.Played as play
 use Rattle.nm_script.specs.Plain.{Script}
 use Rattle.nm_kswap.specs.declared.actor.ReclaimerActor.{ReclaimerActor}
 use Rattle.nm_kswap.specs.Reclaiming.{IsReclaiming}
-use Rattle.nm_kswap.specs.Parts.{ReclaimerWorker, reclaimer_geometry, AgreesReclaimer, IsReclaimerPart}
+use Rattle.nm_kswap.specs.Parts.{ReclaimerWorker, reclaimer_geometry, AgreesReclaimer}
 use Rattle.nm_crew.specs.Crewed.{IsAgreed}
 use Rattle.nm_programs.specs.Runs.{HasPart}
-use Rattle.nm_sched.proofs.Acting.{reclaiming-acts, routine-acts}
+use Rattle.nm_kswap.proofs.Starting.{reclaiming-acts}
+use Rattle.nm_sched.specs.Parts.{IsReclaimerRun}
+use Rattle.nm_sched.proofs.Acting.{routine-acts}
 
 -- ---- End
 
@@ -40,9 +42,9 @@ reclaimer-acts agrees counted a h =
 
 pub reclaimer-part : (agrees : ReclaimerWorker → Turns → Option Turn → Type 0) (counted : ReclaimerWorker → Tally) (script : Script) (made_with : Geometry) (turns : Turns) (ended : Bool) (counts : Tally)
     → made_with ≡ script.geometry → HasPart reclaimer_geometry (AgreesReclaimer agrees counted) (λ a. counted a.worker) made_with turns ended counts
-    → IsReclaimerPart script.geometry turns ended counts
+    → IsReclaimerRun script.geometry turns ended counts
 reclaimer-part agrees counted script made_with turns ended counts made h =
     let a = h.actor in
-    let Made : Geometry → Type 0 = λ g. IsReclaimerPart g turns ended (counted a.worker) in
-    let Counted : Tally → Type 0 = λ t. IsReclaimerPart script.geometry turns ended t in
-    subst Counted (sym h.counts_so) (subst Made (h.same ∙ made) (routine-agreed (AgreesReclaimer agrees counted a) (λ turns ended. IsReclaimerPart (reclaimer_geometry a) turns ended (counted a.worker)) turns ended (λ turns last k. k.part) h.agreed))
+    let Made : Geometry → Type 0 = λ g. IsReclaimerRun g turns ended (counted a.worker) in
+    let Counted : Tally → Type 0 = λ t. IsReclaimerRun script.geometry turns ended t in
+    subst Counted (sym h.counts_so) (subst Made (h.same ∙ made) (routine-agreed (AgreesReclaimer agrees counted a) (λ turns ended. IsReclaimerRun (reclaimer_geometry a) turns ended (counted a.worker)) turns ended (λ turns last k. record { part = k.part; left = k.empty }) h.agreed))

@@ -55,7 +55,7 @@ not-false : (b : Bool) → not b ≡ false → b ≡ true
 not-false true h = refl
 not-false false h = absurd (true≢false h)
 
-all-ended : (actors : ℕ) (played : List Played) → active_actors actors played ≡ [] → (a : ℕ) → a < actors → has_ended played a ≡ true
+pub all-ended : (actors : ℕ) (played : List Played) → active_actors actors played ≡ [] → (a : ℕ) → a < actors → has_ended played a ≡ true
 all-ended actors played none a there =
     let p : ℕ → Bool = λ b. not (has_ended played b) in
     let there_too : a < length (range_with_len 0 actors) = subst (λ (n : ℕ). a < n) (sym (length-range_with_len 0 actors)) there in

@@ -11,6 +11,7 @@ use Rattle.nm_laws.specs.Facts.{HoldsOfRun}
 use Rattle.nm_sched.specs.Plain.{SimRun}
 use Rattle.nm_sched.specs.Runs.{IsRunOfScript, report_of}
 use Rattle.nm_schedule.specs.Played.{has_ended}
+use Rattle.nm_settled_run.proofs.Settling.{settled-run, unsettled-run}
 use Rattle.nm_top.specs.Output.{HoldsAtStep, HoldsOfSimulation, IsReportOf, IsSummary}
 use Rattle.nm_top.proofs.Processors.{accesses-below}
 
@@ -30,6 +31,8 @@ HoldsOfSimulation-run s run is made =
       steps = λ front rest list. at_step s front (made.simulated.facts front rest list);
       tiers = made.simulated.tiers;
       settled = made.simulated.ends.settled;
+      ended = λ all. made.simulated.ends.settled.1 (settled-run s run is.geometry made all);
+      all_turns = λ unsettled. unsettled-run s run is.geometry made (λ settled. unsettled (made.simulated.ends.settled.1 settled));
     }
 
 -- the report of a run that was made

@@ -15,8 +15,10 @@ use Rattle.nm_transactions.specs.TransactionLaw.{ObeyTransactionLaw}
 use Rattle.nm_laws.specs.Facts.{AreTrueShadows, ArePartition, AreHeldAsSeen}
 use Rattle.nm_gen.specs.Generated.{generated}
 use Rattle.nm_crew.specs.Simulated.{IsTierCounted}
+use Rattle.nm_schedule.specs.Picks.{most_turns}
 use Rattle.nm_sched.specs.Plain.{SimRun}
 use Rattle.nm_sched.specs.Runs.{IsRunOfScript, program_of, report_of, results_of}
+use Rattle.nm_settled_run.specs.AllEnded.{HaveAllEnded}
 
 -- processor cpu made its program, as far as these results go, and all of it where it ended: its accesses among the events, each
 -- once and in order, follow the program with the results
@@ -48,6 +50,10 @@ pub record HoldsOfSimulation (s : Script) (run : SimRun) : Type 0 where
   pub tiers : (tier : ℕ) → tier < length s.geometry.tiers → IsTierCounted (state_after s.geometry run.events) run.end tier
   -- the last line says yes exactly where the end is settled
   pub settled : IsTrue run.end.settled ↔ IsSettled (state_after s.geometry run.events)
+  -- it says yes where every actor has ended
+  pub ended : HaveAllEnded s.geometry run.order → IsTrue run.end.settled
+  -- it says no only after all turns of the schedule
+  pub all_turns : ¬ IsTrue run.end.settled → run.turns ≡ most_turns s.schedule
 
 -- A run of a script as its schedule and the actors say, what is true of it, and a text that tells of it in this way.
 pub record TellsOfRun (s : Script) (told : SimRun → List ℕ) (text : List ℕ) : Type 0 where

@@ -35,7 +35,7 @@ comes-list counts front inner action reply rest more =
     ∙ sym (append_assoc front (uncounted inner) (one ∷ (worked counts rest ++ more)))
 
 -- an action that goes on with a list of the piece of work comes next in a whole sequence
-work-comes : {M X : Type 0} (shape : M → Geometry → Own → X → Type 0) (counts : X → Tally) (left : Ended X → Notes → Unit {0} → Type 0) (whole : Notes → Unit {0} → Type 0) (g : Geometry) (work : M) (front : Notes) (inner : Own) (action : Action)
+work-comes : {M X O : Type 0} (shape : M → Geometry → Own → X → Type 0) (counts : X → Tally) (left : Ended X → Notes → O → Type 0) (whole : Notes → O → Type 0) (g : Geometry) (work : M) (front : Notes) (inner : Own) (action : Action)
     → ((notes : Notes) (end : Ended X) → IsTask shape counts g (Run work) notes end → CanEnd (left end))
     → IsLeft whole front (Follows (IsTask shape counts g (Run work)) left)
     → IsBegunWith (shape work g) inner action → ComesNext whole (front ++ uncounted inner) (turn.Do action)
@@ -46,21 +46,22 @@ work-comes {M} {X} shape counts left whole g work front inner action can due b =
     let done : IsTask shape counts g (Run work) (worked tally own) end = record { own = own; shown = b.begun.whole; is = refl } in
     let e : CanEnd (left end) = can (worked tally own) end done in
     let all = due.carry (worked tally own ++ e.rest) e.outcome (record { end = end; front = worked tally own; back = e.rest; shown = done; rest = e.shown; is = refl }) in
-    let W : Notes → Type 0 = λ l. whole l tt in
+    let W : Notes → Type 0 = λ l. whole l e.outcome in
     record {
       heard = Answer b.reply;
       counts = counts_last tally b.begun.rest;
       rest = worked tally b.begun.rest ++ e.rest;
+      outcome = e.outcome;
       shown = subst W (comes-list tally front inner action b.reply b.begun.rest e.rest) all;
     }
 
 -- its action is the actor's turn
-pub work-given : {P M X : Type 0} (made : P → M) (is_new : P → Type 0) (may_begin : M → Geometry → View → Type 0) (shape : M → Geometry → Own → X → Type 0) (awaits : P → Geometry → View → Own → Action → Type 0) (counts : X → Tally) (knows : View → Task M → Type 0) (left : Ended X → Notes → Unit {0} → Type 0) (whole : Notes → Unit {0} → Type 0) (g : Geometry) (number : ℕ) (piece : P) (work : M) (front : Notes) (inner : Own) (action : Action)
+pub work-given : {P M X O : Type 0} (made : P → M) (is_new : P → Type 0) (may_begin : M → Geometry → View → Type 0) (shape : M → Geometry → Own → X → Type 0) (awaits : P → Geometry → View → Own → Action → Type 0) (counts : X → Tally) (knows : View → Task M → Type 0) (left : Ended X → Notes → O → Type 0) (stop : O) (whole : Notes → O → Type 0) (g : Geometry) (number : ℕ) (piece : P) (work : M) (front : Notes) (inner : Own) (action : Action)
     → made piece ≡ work
     → IsAtTask (knows (turns_view g number (noted_turns front)) (Run work)) (IsTask shape counts g (Run work)) left whole front
     → IsAsked (awaits piece) (shape work) g (turns_view g number (noted_turns front)) inner action
-    → IsTurnGiven made is_new may_begin shape awaits counts knows left whole g number action (Run piece) (turn.Do action) (front ++ uncounted inner)
-work-given {P} {M} made is_new may_begin shape awaits counts knows left whole g number piece work front inner action same run asked =
+    → IsTurnGiven made is_new may_begin shape awaits counts knows left stop whole g number action (Run piece) (turn.Do action) (front ++ uncounted inner)
+work-given {P} {M} made is_new may_begin shape awaits counts knows left stop whole g number piece work front inner action same run asked =
     let R : M → Type 0 = λ m. IsAtWork shape (awaits piece) counts knows left whole g number action (front ++ uncounted inner) action m in
     let A : View → Type 0 = λ view. Allowed g view action in
     let permitted = subst A (sym (view-more g number front (uncounted inner) inner (own-uncounted inner))) asked.permitted in
@@ -71,28 +72,28 @@ work-given {P} {M} made is_new may_begin shape awaits counts knows left whole g 
     }
 
 -- what is due after these notes
-due-after : {X : Type 0} (knows : Type 0) (done : Notes → Ended X → Type 0) (left : Ended X → Notes → Unit {0} → Type 0) (whole : Notes → Unit {0} → Type 0) (notes : Notes)
+due-after : {X O : Type 0} (knows : Type 0) (done : Notes → Ended X → Type 0) (left : Ended X → Notes → O → Type 0) (whole : Notes → O → Type 0) (notes : Notes)
     → IsTaskRun knows done left (λ rest outcome. whole (notes ++ rest) outcome) → IsAtTask knows done left whole notes
 due-after knows done left whole notes h = record { known = h.known; can = h.can; due = record { carry = h.fits } }
 
 -- a piece of work that begins
-pub start-given : {P M X : Type 0} (made : P → M) (is_new : P → Type 0) (may_begin : M → Geometry → View → Type 0) (shape : M → Geometry → Own → X → Type 0) (awaits : P → Geometry → View → Own → Action → Type 0) (counts : X → Tally) (knows : View → Task M → Type 0) (left : Ended X → Notes → Unit {0} → Type 0) (whole : Notes → Unit {0} → Type 0) (g : Geometry) (number : ℕ) (task : Task P) (was piece : P) (action : Action)
+pub start-given : {P M X O : Type 0} (made : P → M) (is_new : P → Type 0) (may_begin : M → Geometry → View → Type 0) (shape : M → Geometry → Own → X → Type 0) (awaits : P → Geometry → View → Own → Action → Type 0) (counts : X → Tally) (knows : View → Task M → Type 0) (left : Ended X → Notes → O → Type 0) (stop : O) (whole : Notes → O → Type 0) (g : Geometry) (number : ℕ) (task : Task P) (was piece : P) (action : Action)
     → task ≡ Run was → made piece ≡ made was
     → ((g : Geometry) (view : View) → may_begin (made was) g view → IsAsked (awaits piece) (shape (made was)) g view [] action)
-    → (notes : Notes) → IsNextTask made is_new may_begin shape counts knows left (λ rest outcome. whole (notes ++ rest) outcome) g (turns_view g number (noted_turns notes)) task
-    → IsTurnGiven made is_new may_begin shape awaits counts knows left whole g number action (Run piece) (turn.Do action) notes
-start-given {P} {M} {X} made is_new may_begin shape awaits counts knows left whole g number task was piece action is same asked notes next =
+    → (notes : Notes) → IsNextTask made is_new may_begin shape counts knows left stop (λ rest outcome. whole (notes ++ rest) outcome) g (turns_view g number (noted_turns notes)) task
+    → IsTurnGiven made is_new may_begin shape awaits counts knows left stop whole g number action (Run piece) (turn.Do action) notes
+start-given {P} {M} {X} made is_new may_begin shape awaits counts knows left stop whole g number task was piece action is same asked notes next =
     let view = turns_view g number (noted_turns notes) in
-    let N : Task P → Type 0 = λ t. IsNextTask made is_new may_begin shape counts knows left (λ rest outcome. whole (notes ++ rest) outcome) g view t in
+    let N : Task P → Type 0 = λ t. IsNextTask made is_new may_begin shape counts knows left stop (λ rest outcome. whole (notes ++ rest) outcome) g view t in
     let run : IsWorkRun (is_new was) (may_begin (made was) g view) (knows view (Run (made was))) (IsTask shape counts g (Run (made was))) left (λ rest outcome. whole (notes ++ rest) outcome) = subst N is next in
-    let G : Notes → Type 0 = λ l. IsTurnGiven made is_new may_begin shape awaits counts knows left whole g number action (Run piece) (turn.Do action) l in
-    subst G (append-nil notes) (work-given made is_new may_begin shape awaits counts knows left whole g number piece (made was) notes [] action same
+    let G : Notes → Type 0 = λ l. IsTurnGiven made is_new may_begin shape awaits counts knows left stop whole g number action (Run piece) (turn.Do action) l in
+    subst G (append-nil notes) (work-given made is_new may_begin shape awaits counts knows left stop whole g number piece (made was) notes [] action same
     (due-after (knows view (Run (made was))) (IsTask shape counts g (Run (made was))) left whole notes run.run) (asked g view run.may_begin))
 
 -- Lanes.
 
 -- a turn with an answer with which its task can end comes next
-lane-comes : {X : Type 0} (done : Notes → Ended X → Type 0) (left : Ended X → Notes → Unit {0} → Type 0) (whole : Notes → Unit {0} → Type 0) (notes : Notes) (note : Noted) (end : Ended X)
+lane-comes : {X O : Type 0} (done : Notes → Ended X → Type 0) (left : Ended X → Notes → O → Type 0) (whole : Notes → O → Type 0) (notes : Notes) (note : Noted) (end : Ended X)
     → ((notes : Notes) (end : Ended X) → done notes end → CanEnd (left end))
     → IsLeft whole notes (Follows done left) → done (note ∷ []) end → ComesNext whole notes note.turn
 lane-comes done left whole notes note end can due shown =
@@ -101,17 +102,18 @@ lane-comes done left whole notes note end can due shown =
       heard = note.heard;
       counts = note.counts;
       rest = e.rest;
+      outcome = e.outcome;
       shown = due.carry (note ∷ e.rest) e.outcome (record { end = end; front = note ∷ []; back = e.rest; shown = shown; rest = e.shown; is = refl });
     }
 
 -- a put
-pub put-given : {P M X : Type 0} (made : P → M) (is_new : P → Type 0) (may_begin : M → Geometry → View → Type 0) (shape : M → Geometry → Own → X → Type 0) (awaits : P → Geometry → View → Own → Action → Type 0) (counts : X → Tally) (knows : View → Task M → Type 0) (left : Ended X → Notes → Unit {0} → Type 0) (whole : Notes → Unit {0} → Type 0) (g : Geometry) (number : ℕ) (kept : Action) (task : Task P) (lane : Lane) (page : ℕ)
+pub put-given : {P M X O : Type 0} (made : P → M) (is_new : P → Type 0) (may_begin : M → Geometry → View → Type 0) (shape : M → Geometry → Own → X → Type 0) (awaits : P → Geometry → View → Own → Action → Type 0) (counts : X → Tally) (knows : View → Task M → Type 0) (left : Ended X → Notes → O → Type 0) (stop : O) (whole : Notes → O → Type 0) (g : Geometry) (number : ℕ) (kept : Action) (task : Task P) (lane : Lane) (page : ℕ)
     → task ≡ Put lane page
-    → (notes : Notes) → IsNextTask made is_new may_begin shape counts knows left (λ rest outcome. whole (notes ++ rest) outcome) g (turns_view g number (noted_turns notes)) task
-    → IsTurnGiven made is_new may_begin shape awaits counts knows left whole g number kept (Put lane page) (turn.Put lane page) notes
-put-given {P} {M} {X} made is_new may_begin shape awaits counts knows left whole g number kept task lane page is notes next =
+    → (notes : Notes) → IsNextTask made is_new may_begin shape counts knows left stop (λ rest outcome. whole (notes ++ rest) outcome) g (turns_view g number (noted_turns notes)) task
+    → IsTurnGiven made is_new may_begin shape awaits counts knows left stop whole g number kept (Put lane page) (turn.Put lane page) notes
+put-given {P} {M} {X} made is_new may_begin shape awaits counts knows left stop whole g number kept task lane page is notes next =
     let view = turns_view g number (noted_turns notes) in
-    let N : Task P → Type 0 = λ t. IsNextTask made is_new may_begin shape counts knows left (λ rest outcome. whole (notes ++ rest) outcome) g view t in
+    let N : Task P → Type 0 = λ t. IsNextTask made is_new may_begin shape counts knows left stop (λ rest outcome. whole (notes ++ rest) outcome) g view t in
     let run = due-after (knows view (Put lane page)) (IsTask shape counts g (Put lane page)) left whole notes (subst N is next) in
     record {
       next = lane-comes (IsTask shape counts g (Put lane page)) left whole notes (record { turn = turn.Put lane page; heard = PutDone; counts = None }) (ended.Put false) run.can run.due (record { is = refl });
@@ -120,13 +122,13 @@ put-given {P} {M} {X} made is_new may_begin shape awaits counts knows left whole
     }
 
 -- a take
-pub take-given : {P M X : Type 0} (made : P → M) (is_new : P → Type 0) (may_begin : M → Geometry → View → Type 0) (shape : M → Geometry → Own → X → Type 0) (awaits : P → Geometry → View → Own → Action → Type 0) (counts : X → Tally) (knows : View → Task M → Type 0) (left : Ended X → Notes → Unit {0} → Type 0) (whole : Notes → Unit {0} → Type 0) (g : Geometry) (number : ℕ) (kept : Action) (task : Task P) (lane : Lane)
+pub take-given : {P M X O : Type 0} (made : P → M) (is_new : P → Type 0) (may_begin : M → Geometry → View → Type 0) (shape : M → Geometry → Own → X → Type 0) (awaits : P → Geometry → View → Own → Action → Type 0) (counts : X → Tally) (knows : View → Task M → Type 0) (left : Ended X → Notes → O → Type 0) (stop : O) (whole : Notes → O → Type 0) (g : Geometry) (number : ℕ) (kept : Action) (task : Task P) (lane : Lane)
     → task ≡ Take lane
-    → (notes : Notes) → IsNextTask made is_new may_begin shape counts knows left (λ rest outcome. whole (notes ++ rest) outcome) g (turns_view g number (noted_turns notes)) task
-    → IsTurnGiven made is_new may_begin shape awaits counts knows left whole g number kept (Take lane) (turn.Take lane) notes
-take-given {P} {M} {X} made is_new may_begin shape awaits counts knows left whole g number kept task lane is notes next =
+    → (notes : Notes) → IsNextTask made is_new may_begin shape counts knows left stop (λ rest outcome. whole (notes ++ rest) outcome) g (turns_view g number (noted_turns notes)) task
+    → IsTurnGiven made is_new may_begin shape awaits counts knows left stop whole g number kept (Take lane) (turn.Take lane) notes
+take-given {P} {M} {X} made is_new may_begin shape awaits counts knows left stop whole g number kept task lane is notes next =
     let view = turns_view g number (noted_turns notes) in
-    let N : Task P → Type 0 = λ t. IsNextTask made is_new may_begin shape counts knows left (λ rest outcome. whole (notes ++ rest) outcome) g view t in
+    let N : Task P → Type 0 = λ t. IsNextTask made is_new may_begin shape counts knows left stop (λ rest outcome. whole (notes ++ rest) outcome) g view t in
     let run = due-after (knows view (Take lane)) (IsTask shape counts g (Take lane)) left whole notes (subst N is next) in
     record {
       next = lane-comes (IsTask shape counts g (Take lane)) left whole notes (record { turn = turn.Take lane; heard = TookNone; counts = None }) (ended.Take None) run.can run.due (record { is = refl });
@@ -137,14 +139,14 @@ take-given {P} {M} {X} made is_new may_begin shape awaits counts knows left whol
 -- The end.
 
 -- nothing more is left
-pub stop-given : {P M X : Type 0} (made : P → M) (is_new : P → Type 0) (may_begin : M → Geometry → View → Type 0) (shape : M → Geometry → Own → X → Type 0) (awaits : P → Geometry → View → Own → Action → Type 0) (counts : X → Tally) (knows : View → Task M → Type 0) (left : Ended X → Notes → Unit {0} → Type 0) (whole : Notes → Unit {0} → Type 0) (g : Geometry) (number : ℕ) (kept : Action) (task : Task P)
+pub stop-given : {P M X O : Type 0} (made : P → M) (is_new : P → Type 0) (may_begin : M → Geometry → View → Type 0) (shape : M → Geometry → Own → X → Type 0) (awaits : P → Geometry → View → Own → Action → Type 0) (counts : X → Tally) (knows : View → Task M → Type 0) (left : Ended X → Notes → O → Type 0) (stop : O) (whole : Notes → O → Type 0) (g : Geometry) (number : ℕ) (kept : Action) (task : Task P)
     → task ≡ Stop
-    → (notes : Notes) → IsNextTask made is_new may_begin shape counts knows left (λ rest outcome. whole (notes ++ rest) outcome) g (turns_view g number (noted_turns notes)) task
-    → IsTurnGiven made is_new may_begin shape awaits counts knows left whole g number kept task turn.End notes
-stop-given {P} {M} {X} made is_new may_begin shape awaits counts knows left whole g number kept task is notes next =
+    → (notes : Notes) → IsNextTask made is_new may_begin shape counts knows left stop (λ rest outcome. whole (notes ++ rest) outcome) g (turns_view g number (noted_turns notes)) task
+    → IsTurnGiven made is_new may_begin shape awaits counts knows left stop whole g number kept task turn.End notes
+stop-given {P} {M} {X} made is_new may_begin shape awaits counts knows left stop whole g number kept task is notes next =
     let view = turns_view g number (noted_turns notes) in
-    let N : Task P → Type 0 = λ t. IsNextTask made is_new may_begin shape counts knows left (λ rest outcome. whole (notes ++ rest) outcome) g view t in
-    let G : Task P → Type 0 = λ t. IsTurnGiven made is_new may_begin shape awaits counts knows left whole g number kept t turn.End notes in
-    let W : Notes → Type 0 = λ l. whole l tt in
-    let stop : IsStop (knows view Stop) (λ rest outcome. whole (notes ++ rest) outcome) = subst N is next in
-    subst G (sym is) (record { next = subst W (append-nil notes) stop.ended; at = stop.known; permitted = tt })
+    let N : Task P → Type 0 = λ t. IsNextTask made is_new may_begin shape counts knows left stop (λ rest outcome. whole (notes ++ rest) outcome) g view t in
+    let G : Task P → Type 0 = λ t. IsTurnGiven made is_new may_begin shape awaits counts knows left stop whole g number kept t turn.End notes in
+    let W : Notes → Type 0 = λ l. whole l stop in
+    let over : IsStop (knows view Stop) stop (λ rest outcome. whole (notes ++ rest) outcome) = subst N is next in
+    subst G (sym is) (record { next = subst W (append-nil notes) over.ended; at = over.known; permitted = tt })

@@ -8,3 +8,4 @@ pub mod Lanes
 pub mod Routing
 pub mod Starting
 pub mod Ending
+pub mod BeginningAgain

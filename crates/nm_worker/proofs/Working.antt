@@ -28,7 +28,7 @@ use Rattle.nm_worker.proofs.NoteLists.{own-uncounted, own-worked, view-more, unc
 use Rattle.nm_worker.proofs.Giving.{work-given}
 
 -- the task that runs is over after these notes
-pub record IsTaskEnded {P M X : Type 0} (made : P → M) (shape : M → Geometry → Own → X → Type 0) (leaves : M → Geometry → View → X → View → Type 0) (ends : P → Geometry → Own → X → Type 0) (knows : View → Task M → Type 0) (left : Ended X → Notes → Unit {0} → Type 0) (whole : Notes → Unit {0} → Type 0) (g : Geometry) (number : ℕ) (spent : Spent) (task : Task P) (notes : Notes) (end : Ended X) : Type 0 where
+pub record IsTaskEnded {P M X O : Type 0} (made : P → M) (shape : M → Geometry → Own → X → Type 0) (leaves : M → Geometry → View → X → View → Type 0) (ends : P → Geometry → Own → X → Type 0) (knows : View → Task M → Type 0) (left : Ended X → Notes → O → Type 0) (whole : Notes → O → Type 0) (g : Geometry) (number : ℕ) (spent : Spent) (task : Task P) (notes : Notes) (end : Ended X) : Type 0 where
   pub now : View
   pub known : knows now (task_data made task)
   pub over : IsTaskOver made shape leaves ends g now (turns_view g number (noted_turns notes)) task end
@@ -36,7 +36,7 @@ pub record IsTaskEnded {P M X : Type 0} (made : P → M) (shape : M → Geometry
   pub due : IsLeft whole notes (left end)
 
 -- the routine can go on
-pub ended-over : {P M X : Type 0} (made : P → M) (shape : M → Geometry → Own → X → Type 0) (leaves : M → Geometry → View → X → View → Type 0) (ends : P → Geometry → Own → X → Type 0) (knows : View → Task M → Type 0) (left : Ended X → Notes → Unit {0} → Type 0) (whole : Notes → Unit {0} → Type 0) (g : Geometry) (number : ℕ) (spent : Spent) (task : Task P) (notes : Notes) (end : Ended X)
+pub ended-over : {P M X O : Type 0} (made : P → M) (shape : M → Geometry → Own → X → Type 0) (leaves : M → Geometry → View → X → View → Type 0) (ends : P → Geometry → Own → X → Type 0) (knows : View → Task M → Type 0) (left : Ended X → Notes → O → Type 0) (whole : Notes → O → Type 0) (g : Geometry) (number : ℕ) (spent : Spent) (task : Task P) (notes : Notes) (end : Ended X)
     → IsTaskEnded made shape leaves ends knows left whole g number spent task notes end → HasTaskOver made shape leaves ends knows g task end spent
 ended-over made shape leaves ends knows left whole g number spent task notes end h = record { now = h.now; later = turns_view g number (noted_turns notes); known = h.known; over = h.over; drawn = h.drawn }
 
@@ -49,18 +49,18 @@ work-fits : (g : Geometry) (number : ℕ) (notes front : Notes) (inner : Own) (a
 work-fits g number notes front inner action reply is f = let F : View → Type 0 = λ view. Fits g view action reply in subst F (work-view g number notes front inner is) f
 
 -- where a piece of work runs
-abbrev WorkAt : {P M X : Type 0} → (P → M) → (P → Type 0) → (M → Geometry → View → Type 0) → (M → Geometry → Own → X → Type 0) → (P → Geometry → View → Own → Action → Type 0) → (X → Tally) → (View → Task M → Type 0) → (Ended X → Notes → Unit {0} → Type 0) → (Notes → Unit {0} → Type 0) → Geometry → ℕ → Action → Notes → Action → P → Type 0
-WorkAt made is_new may_begin shape awaits counts knows left whole g number kept notes action piece = IsAtWork shape (awaits piece) counts knows left whole g number kept notes action (made piece)
+abbrev WorkAt : {P M X O : Type 0} → (P → M) → (P → Type 0) → (M → Geometry → View → Type 0) → (M → Geometry → Own → X → Type 0) → (P → Geometry → View → Own → Action → Type 0) → (X → Tally) → (View → Task M → Type 0) → (Ended X → Notes → O → Type 0) → O → (Notes → O → Type 0) → Geometry → ℕ → Action → Notes → Action → P → Type 0
+WorkAt made is_new may_begin shape awaits counts knows left stop whole g number kept notes action piece = IsAtWork shape (awaits piece) counts knows left whole g number kept notes action (made piece)
 
-at-work : {P M X : Type 0} (made : P → M) (is_new : P → Type 0) (may_begin : M → Geometry → View → Type 0) (shape : M → Geometry → Own → X → Type 0) (awaits : P → Geometry → View → Own → Action → Type 0) (counts : X → Tally) (knows : View → Task M → Type 0) (left : Ended X → Notes → Unit {0} → Type 0) (whole : Notes → Unit {0} → Type 0) (g : Geometry) (number : ℕ) (kept : Action) (notes : Notes) (action : Action) (task : Task P) (piece : P)
-    → task ≡ Run piece → AwaitsTurn made is_new may_begin shape awaits counts knows left whole g number kept notes (Some (turn.Do action)) task → WorkAt made is_new may_begin shape awaits counts knows left whole g number kept notes action piece
-at-work {P} made is_new may_begin shape awaits counts knows left whole g number kept notes action task piece is at = let N : Task P → Type 0 = λ t. AwaitsTurn made is_new may_begin shape awaits counts knows left whole g number kept notes (Some (turn.Do action)) t in subst N is at
+at-work : {P M X O : Type 0} (made : P → M) (is_new : P → Type 0) (may_begin : M → Geometry → View → Type 0) (shape : M → Geometry → Own → X → Type 0) (awaits : P → Geometry → View → Own → Action → Type 0) (counts : X → Tally) (knows : View → Task M → Type 0) (left : Ended X → Notes → O → Type 0) (stop : O) (whole : Notes → O → Type 0) (g : Geometry) (number : ℕ) (kept : Action) (notes : Notes) (action : Action) (task : Task P) (piece : P)
+    → task ≡ Run piece → AwaitsTurn made is_new may_begin shape awaits counts knows left stop whole g number kept notes (Some (turn.Do action)) task → WorkAt made is_new may_begin shape awaits counts knows left stop whole g number kept notes action piece
+at-work {P} made is_new may_begin shape awaits counts knows left stop whole g number kept notes action task piece is at = let N : Task P → Type 0 = λ t. AwaitsTurn made is_new may_begin shape awaits counts knows left stop whole g number kept notes (Some (turn.Do action)) t in subst N is at
 
 -- it hears the reply
-pub work-heard : {P M X : Type 0} (made : P → M) (is_new : P → Type 0) (may_begin : M → Geometry → View → Type 0) (shape : M → Geometry → Own → X → Type 0) (awaits : P → Geometry → View → Own → Action → Type 0) (counts : X → Tally) (knows : View → Task M → Type 0) (left : Ended X → Notes → Unit {0} → Type 0) (whole : Notes → Unit {0} → Type 0) (g : Geometry) (number : ℕ) (kept : Action) (task : Task P) (piece : P) (spent : Spent) (reply : Reply)
-    → task ≡ Run piece → IsWorkHeard (λ notes last. AwaitsTurn made is_new may_begin shape awaits counts knows left whole g number kept notes last task) g number spent reply → IsHeard (awaits piece) reply
-work-heard made is_new may_begin shape awaits counts knows left whole g number kept task piece spent reply is h =
-    let at = at-work made is_new may_begin shape awaits counts knows left whole g number kept h.notes h.action task piece is h.here in
+pub work-heard : {P M X O : Type 0} (made : P → M) (is_new : P → Type 0) (may_begin : M → Geometry → View → Type 0) (shape : M → Geometry → Own → X → Type 0) (awaits : P → Geometry → View → Own → Action → Type 0) (counts : X → Tally) (knows : View → Task M → Type 0) (left : Ended X → Notes → O → Type 0) (stop : O) (whole : Notes → O → Type 0) (g : Geometry) (number : ℕ) (kept : Action) (task : Task P) (piece : P) (spent : Spent) (reply : Reply)
+    → task ≡ Run piece → IsWorkHeard (λ notes last. AwaitsTurn made is_new may_begin shape awaits counts knows left stop whole g number kept notes last task) g number spent reply → IsHeard (awaits piece) reply
+work-heard made is_new may_begin shape awaits counts knows left stop whole g number kept task piece spent reply is h =
+    let at = at-work made is_new may_begin shape awaits counts knows left stop whole g number kept h.notes h.action task piece is h.here in
     record {
       geometry = g;
       view = turns_view g number (noted_turns at.front);
@@ -71,33 +71,33 @@ work-heard made is_new may_begin shape awaits counts knows left whole g number k
     }
 
 -- it goes on
-pub work-more : {P M X : Type 0} (made : P → M) (is_new : P → Type 0) (may_begin : M → Geometry → View → Type 0) (shape : M → Geometry → Own → X → Type 0) (awaits : P → Geometry → View → Own → Action → Type 0) (leaves : M → Geometry → View → X → View → Type 0) (ends : P → Geometry → Own → X → Type 0) (counts : X → Tally) (knows : View → Task M → Type 0) (left : Ended X → Notes → Unit {0} → Type 0) (whole : Notes → Unit {0} → Type 0) (g : Geometry) (number : ℕ) (kept : Action) (task : Task P) (was piece : P) (given : Action) (reply : Reply) (result : Step X) (tally : Tally) (spent : Spent)
+pub work-more : {P M X O : Type 0} (made : P → M) (is_new : P → Type 0) (may_begin : M → Geometry → View → Type 0) (shape : M → Geometry → Own → X → Type 0) (awaits : P → Geometry → View → Own → Action → Type 0) (leaves : M → Geometry → View → X → View → Type 0) (ends : P → Geometry → Own → X → Type 0) (counts : X → Tally) (knows : View → Task M → Type 0) (left : Ended X → Notes → O → Type 0) (stop : O) (whole : Notes → O → Type 0) (g : Geometry) (number : ℕ) (kept : Action) (task : Task P) (was piece : P) (given : Action) (reply : Reply) (result : Step X) (tally : Tally) (spent : Spent)
     → task ≡ Run was → made piece ≡ made was → result ≡ Do given
     → ((g : Geometry) (v : View) (own : Own) (action : Action) → awaits was g v own action → Fits g (view_after g v own) action reply → IsPartStep (awaits piece) (shape (made was)) (leaves (made was)) (ends piece) g v (own ++ (action, reply) ∷ []) result)
-    → (notes : Notes) (action : Action) → AwaitsTurn made is_new may_begin shape awaits counts knows left whole g number kept notes (Some (turn.Do action)) task → Fits g (turns_view g number (noted_turns notes)) action reply → IsDrawn spent (after_of g (turns_view g number (noted_turns notes)) action reply)
-    → IsAnswerNoted (IsTurnGiven made is_new may_begin shape awaits counts knows left whole g number given (Run piece) (turn.Do given)) tally tally notes (turn.Do action) (Answer reply)
-work-more {P} {M} {X} made is_new may_begin shape awaits leaves ends counts knows left whole g number kept task was piece given reply result tally spent is same does after notes action here fits drawn =
-    let at = at-work made is_new may_begin shape awaits counts knows left whole g number kept notes action task was is here in
+    → (notes : Notes) (action : Action) → AwaitsTurn made is_new may_begin shape awaits counts knows left stop whole g number kept notes (Some (turn.Do action)) task → Fits g (turns_view g number (noted_turns notes)) action reply → IsDrawn spent (after_of g (turns_view g number (noted_turns notes)) action reply)
+    → IsAnswerNoted (IsTurnGiven made is_new may_begin shape awaits counts knows left stop whole g number given (Run piece) (turn.Do given)) tally tally notes (turn.Do action) (Answer reply)
+work-more {P} {M} {X} made is_new may_begin shape awaits leaves ends counts knows left stop whole g number kept task was piece given reply result tally spent is same does after notes action here fits drawn =
+    let at = at-work made is_new may_begin shape awaits counts knows left stop whole g number kept notes action task was is here in
     let view = turns_view g number (noted_turns at.front) in
     let step = after g view at.inner action at.awaited (work-fits g number notes at.front at.inner action reply at.is fits) in
     let S : Step X → Type 0 = λ s. IsPartStep (awaits piece) (shape (made was)) (leaves (made was)) (ends piece) g view (at.inner ++ (action, reply) ∷ []) s in
     let note : Noted = record { turn = turn.Do action; heard = Answer reply; counts = None } in
-    let N : Notes → Type 0 = λ l. IsTurnGiven made is_new may_begin shape awaits counts knows left whole g number given (Run piece) (turn.Do given) l in
+    let N : Notes → Type 0 = λ l. IsTurnGiven made is_new may_begin shape awaits counts knows left stop whole g number given (Run piece) (turn.Do given) l in
     record {
       counts = None;
       ends = refl;
       next = subst N (sym (ap (λ (l : Notes). l ++ note ∷ []) at.is ∙ uncounted-push at.front at.inner action reply))
-          (work-given made is_new may_begin shape awaits counts knows left whole g number piece (made was) at.front (at.inner ++ (action, reply) ∷ []) given same at.run (subst S does step));
+          (work-given made is_new may_begin shape awaits counts knows left stop whole g number piece (made was) at.front (at.inner ++ (action, reply) ∷ []) given same at.run (subst S does step));
     }
 
 -- it is over with this reply
-pub work-over : {P M X : Type 0} (made : P → M) (is_new : P → Type 0) (may_begin : M → Geometry → View → Type 0) (shape : M → Geometry → Own → X → Type 0) (awaits : P → Geometry → View → Own → Action → Type 0) (leaves : M → Geometry → View → X → View → Type 0) (ends : P → Geometry → Own → X → Type 0) (counts : X → Tally) (knows : View → Task M → Type 0) (left : Ended X → Notes → Unit {0} → Type 0) (whole : Notes → Unit {0} → Type 0) (g : Geometry) (number : ℕ) (kept : Action) (task : Task P) (was piece : P) (reply : Reply) (result : Step X) (end : X) (spent : Spent)
+pub work-over : {P M X O : Type 0} (made : P → M) (is_new : P → Type 0) (may_begin : M → Geometry → View → Type 0) (shape : M → Geometry → Own → X → Type 0) (awaits : P → Geometry → View → Own → Action → Type 0) (leaves : M → Geometry → View → X → View → Type 0) (ends : P → Geometry → Own → X → Type 0) (counts : X → Tally) (knows : View → Task M → Type 0) (left : Ended X → Notes → O → Type 0) (stop : O) (whole : Notes → O → Type 0) (g : Geometry) (number : ℕ) (kept : Action) (task : Task P) (was piece : P) (reply : Reply) (result : Step X) (end : X) (spent : Spent)
     → task ≡ Run was → made piece ≡ made was → result ≡ Over end
     → ((g : Geometry) (v : View) (own : Own) (action : Action) → awaits was g v own action → Fits g (view_after g v own) action reply → IsPartStep (awaits piece) (shape (made was)) (leaves (made was)) (ends piece) g v (own ++ (action, reply) ∷ []) result)
-    → (notes : Notes) (action : Action) → AwaitsTurn made is_new may_begin shape awaits counts knows left whole g number kept notes (Some (turn.Do action)) task → Fits g (turns_view g number (noted_turns notes)) action reply → IsDrawn spent (after_of g (turns_view g number (noted_turns notes)) action reply)
+    → (notes : Notes) (action : Action) → AwaitsTurn made is_new may_begin shape awaits counts knows left stop whole g number kept notes (Some (turn.Do action)) task → Fits g (turns_view g number (noted_turns notes)) action reply → IsDrawn spent (after_of g (turns_view g number (noted_turns notes)) action reply)
     → IsTaskEnded made shape leaves ends knows left whole g number spent (Run piece) (notes ++ record { turn = turn.Do action; heard = Answer reply; counts = Some (counts end) } ∷ []) (ended.Run end)
-work-over {P} {M} {X} made is_new may_begin shape awaits leaves ends counts knows left whole g number kept task was piece reply result end spent is same does after notes action here fits drawn =
-    let at = at-work made is_new may_begin shape awaits counts knows left whole g number kept notes action task was is here in
+work-over {P} {M} {X} made is_new may_begin shape awaits leaves ends counts knows left stop whole g number kept task was piece reply result end spent is same does after notes action here fits drawn =
+    let at = at-work made is_new may_begin shape awaits counts knows left stop whole g number kept notes action task was is here in
     let view = turns_view g number (noted_turns at.front) in
     let more : Own = at.inner ++ (action, reply) ∷ [] in
     let S : Step X → Type 0 = λ s. IsPartStep (awaits piece) (shape (made was)) (leaves (made was)) (ends piece) g view more s in

@@ -13,7 +13,8 @@ use Rattle.nm_worker.specs.declared.routine.Ended.{Ended}
 use Rattle.nm_worker.specs.declared.routine.Ended.TheVariants as ended
 use Rattle.nm_worker.specs.Notes.{Notes, IsTask}
 
--- In all of these `now` is the view in which a task begins, and `was` the pattern that was left before it.
+-- In all of these `now` is the view in which a task begins, `was` the pattern that was left before it, and `stop` what a whole
+-- sequence shows where the routine stops.
 
 -- a task with its piece of work seen by what that was made with
 abbrev pub task_data : {P M : Type 0} → (P → M) → Task P → Task M
@@ -24,28 +25,28 @@ task_data made Stop = Stop
 
 -- a task runs: what is known holds, the sequence can be finished after each of its ends, and a list of the task with what is
 -- left after it is a list of what was left before
-pub record IsTaskRun {X : Type 0} (knows : Type 0) (done : Notes → Ended X → Type 0) (left : Ended X → Notes → Unit {0} → Type 0) (was : Notes → Unit {0} → Type 0) : Type 0 where
+pub record IsTaskRun {X O : Type 0} (knows : Type 0) (done : Notes → Ended X → Type 0) (left : Ended X → Notes → O → Type 0) (was : Notes → O → Type 0) : Type 0 where
   pub known : knows
   pub can : (notes : Notes) (end : Ended X) → done notes end → CanEnd (left end)
-  pub fits : (notes : Notes) (outcome : Unit {0}) → Follows done left notes outcome → was notes outcome
+  pub fits : (notes : Notes) (outcome : O) → Follows done left notes outcome → was notes outcome
 
 -- a piece of work runs: it has given no action, and may begin
-pub record IsWorkRun {X : Type 0} (new begin knows : Type 0) (done : Notes → Ended X → Type 0) (left : Ended X → Notes → Unit {0} → Type 0) (was : Notes → Unit {0} → Type 0) : Type 0 where
+pub record IsWorkRun {X O : Type 0} (new begin knows : Type 0) (done : Notes → Ended X → Type 0) (left : Ended X → Notes → O → Type 0) (was : Notes → O → Type 0) : Type 0 where
   pub is_new : new
   pub may_begin : begin
   pub run : IsTaskRun knows done left was
 
--- the sequence ends: nothing more was left, and what is known holds
-pub record IsStop (knows : Type 0) (was : Notes → Unit {0} → Type 0) : Type 0 where
+-- the sequence ends: nothing more was left, so it shows this, and what is known holds
+pub record IsStop {O : Type 0} (knows : Type 0) (stop : O) (was : Notes → O → Type 0) : Type 0 where
   pub known : knows
-  pub ended : was [] tt
+  pub ended : was [] stop
 
 -- this task comes next
-abbrev pub IsNextTask : {P M X : Type 0} → (P → M) → (P → Type 0) → (M → Geometry → View → Type 0) → (M → Geometry → Own → X → Type 0) → (X → Tally) → (View → Task M → Type 0) → (Ended X → Notes → Unit {0} → Type 0) → (Notes → Unit {0} → Type 0) → Geometry → View → Task P → Type 0
-IsNextTask made is_new may_begin shape counts knows left was g now (Run piece) = IsWorkRun (is_new piece) (may_begin (made piece) g now) (knows now (Run (made piece))) (IsTask shape counts g (Run (made piece))) left was
-IsNextTask made is_new may_begin shape counts knows left was g now (Put lane page) = IsTaskRun (knows now (Put lane page)) (IsTask shape counts g (Put lane page)) left was
-IsNextTask made is_new may_begin shape counts knows left was g now (Take lane) = IsTaskRun (knows now (Take lane)) (IsTask shape counts g (Take lane)) left was
-IsNextTask made is_new may_begin shape counts knows left was g now Stop = IsStop (knows now Stop) was
+abbrev pub IsNextTask : {P M X O : Type 0} → (P → M) → (P → Type 0) → (M → Geometry → View → Type 0) → (M → Geometry → Own → X → Type 0) → (X → Tally) → (View → Task M → Type 0) → (Ended X → Notes → O → Type 0) → O → (Notes → O → Type 0) → Geometry → View → Task P → Type 0
+IsNextTask made is_new may_begin shape counts knows left stop was g now (Run piece) = IsWorkRun (is_new piece) (may_begin (made piece) g now) (knows now (Run (made piece))) (IsTask shape counts g (Run (made piece))) left was
+IsNextTask made is_new may_begin shape counts knows left stop was g now (Put lane page) = IsTaskRun (knows now (Put lane page)) (IsTask shape counts g (Put lane page)) left was
+IsNextTask made is_new may_begin shape counts knows left stop was g now (Take lane) = IsTaskRun (knows now (Take lane)) (IsTask shape counts g (Take lane)) left was
+IsNextTask made is_new may_begin shape counts knows left stop was g now Stop = IsStop (knows now Stop) stop was
 
 -- a piece of work is over: it has ended so, begun in the view `now` and left in the view `later`
 pub record IsWorkOver {M X : Type 0} (shape : M → Geometry → Own → X → Type 0) (leaves : M → Geometry → View → X → View → Type 0) (ended : Geometry → Own → X → Type 0) (work : M) (g : Geometry) (now later : View) (end : X) : Type 0 where
@@ -73,6 +74,16 @@ pub record HasTaskOver {P M X : Type 0} (made : P → M) (shape : M → Geometry
   pub known : knows now (task_data made task)
   pub over : IsTaskOver made shape leaves ends g now later task end
   pub drawn : IsDrawn spent later
+
+-- the routine has stopped
+pub record HasStopped {M : Type 0} (knows : View → Task M → Type 0) : Type 0 where
+  pub view : View
+  pub known : knows view Stop
+
+-- a routine is begun again: what was left is the beginning of a whole sequence, and the first task comes next
+pub record IsBegunAgain {O : Type 0} (first : Type 0) (was : Notes → O → Type 0) : Type 0 where
+  pub can : CanEnd was
+  pub next : first
 
 -- a task can be begun: its piece of work has given no action, and there are a geometry and a view with which it may begin
 pub record CanBegin (new : Type 0) (may : Geometry → View → Type 0) : Type 0 where

@@ -29,29 +29,29 @@ use Rattle.nm_worker.specs.Routines.{IsNextTask, IsDrawn}
 -- What an actor agrees with.
 
 -- after these notes a turn comes next in a whole sequence
-pub record ComesNext (whole : Notes → Unit {0} → Type 0) (notes : Notes) (given : Turn) : Type 0 where
+pub record ComesNext {O : Type 0} (whole : Notes → O → Type 0) (notes : Notes) (given : Turn) : Type 0 where
   pub heard : Heard
   pub counts : Option Tally
   pub rest : Notes
-  pub shown : whole (notes ++ record { turn = given; heard = heard; counts = counts } ∷ rest) tt
+  pub outcome : O
+  pub shown : whole (notes ++ record { turn = given; heard = heard; counts = counts } ∷ rest) outcome
 
--- the notes and the turn that waits for its answer are the beginning of a whole sequence; where End was given, they are one;
--- where Start is to be heard there are none
-abbrev pub IsContinued : (Notes → Unit {0} → Type 0) → Notes → Option Turn → Type 0
-IsContinued whole notes None = notes ≡ []
-IsContinued whole notes (Some turn.End) = whole notes tt
-IsContinued whole notes (Some given) = ComesNext whole notes given
+-- the notes and the turn that waits for its answer are the beginning of a whole sequence; where End was given, they are one
+abbrev pub IsContinued : {O : Type 0} → O → (Notes → O → Type 0) → Notes → Option Turn → Type 0
+IsContinued stop whole notes None = CanEnd (λ rest outcome. whole (notes ++ rest) outcome)
+IsContinued stop whole notes (Some turn.End) = whole notes stop
+IsContinued stop whole notes (Some given) = ComesNext whole notes given
 
 -- How far it has come.
 
 -- a task runs, after these notes
-pub record IsAtTask {X : Type 0} (knows : Type 0) (done : Notes → Ended X → Type 0) (left : Ended X → Notes → Unit {0} → Type 0) (whole : Notes → Unit {0} → Type 0) (front : Notes) : Type 0 where
+pub record IsAtTask {X O : Type 0} (knows : Type 0) (done : Notes → Ended X → Type 0) (left : Ended X → Notes → O → Type 0) (whole : Notes → O → Type 0) (front : Notes) : Type 0 where
   pub known : knows
   pub can : (notes : Notes) (end : Ended X) → done notes end → CanEnd (left end)
   pub due : IsLeft whole front (Follows done left)
 
 -- a piece of work runs, with this own list so far, and awaits the answer to an action, which is the one that is kept
-pub record IsAtWork {M X : Type 0} (shape : M → Geometry → Own → X → Type 0) (awaits : Geometry → View → Own → Action → Type 0) (counts : X → Tally) (knows : View → Task M → Type 0) (left : Ended X → Notes → Unit {0} → Type 0) (whole : Notes → Unit {0} → Type 0) (g : Geometry) (number : ℕ) (kept : Action) (notes : Notes) (action : Action) (work : M) : Type 0 where
+pub record IsAtWork {M X O : Type 0} (shape : M → Geometry → Own → X → Type 0) (awaits : Geometry → View → Own → Action → Type 0) (counts : X → Tally) (knows : View → Task M → Type 0) (left : Ended X → Notes → O → Type 0) (whole : Notes → O → Type 0) (g : Geometry) (number : ℕ) (kept : Action) (notes : Notes) (action : Action) (work : M) : Type 0 where
   pub front : Notes
   pub inner : Own
   pub is : notes ≡ front ++ uncounted inner
@@ -61,24 +61,24 @@ pub record IsAtWork {M X : Type 0} (shape : M → Geometry → Own → X → Typ
   pub permitted : Allowed g (turns_view g number (noted_turns notes)) action
 
 -- a page is being put or taken, by this turn
-pub record IsAtLane {X : Type 0} (knows : Type 0) (done : Notes → Ended X → Type 0) (left : Ended X → Notes → Unit {0} → Type 0) (whole : Notes → Unit {0} → Type 0) (notes : Notes) (given turn : Turn) : Type 0 where
+pub record IsAtLane {X O : Type 0} (knows : Type 0) (done : Notes → Ended X → Type 0) (left : Ended X → Notes → O → Type 0) (whole : Notes → O → Type 0) (notes : Notes) (given turn : Turn) : Type 0 where
   pub same : given ≡ turn
   pub run : IsAtTask knows done left whole notes
 
--- by the turn that waits for its answer, and the task: where there is none the first task comes next; where the sequence has
--- ended, what was known at its end holds
-abbrev pub AwaitsTurn : {P M X : Type 0} → (P → M) → (P → Type 0) → (M → Geometry → View → Type 0) → (M → Geometry → Own → X → Type 0) → (P → Geometry → View → Own → Action → Type 0) → (X → Tally) → (View → Task M → Type 0) → (Ended X → Notes → Unit {0} → Type 0) → (Notes → Unit {0} → Type 0) → Geometry → ℕ → Action → Notes → Option Turn → Task P → Type 0
-AwaitsTurn made is_new may_begin shape awaits counts knows left whole g number kept notes None task = IsNextTask made is_new may_begin shape counts knows left whole g (opening g number) task
-AwaitsTurn made is_new may_begin shape awaits counts knows left whole g number kept notes (Some (turn.Do action)) (Run piece) = IsAtWork shape (awaits piece) counts knows left whole g number kept notes action (made piece)
-AwaitsTurn made is_new may_begin shape awaits counts knows left whole g number kept notes (Some (turn.Put into b)) (Put lane page) = IsAtLane (knows (turns_view g number (noted_turns notes)) (Put lane page)) (IsTask shape counts g (Put lane page)) left whole notes (turn.Put into b) (turn.Put lane page)
-AwaitsTurn made is_new may_begin shape awaits counts knows left whole g number kept notes (Some (turn.Take from)) (Take lane) = IsAtLane (knows (turns_view g number (noted_turns notes)) (Take lane)) (IsTask shape counts g (Take lane)) left whole notes (turn.Take from) (turn.Take lane)
-AwaitsTurn made is_new may_begin shape awaits counts knows left whole g number kept notes (Some turn.End) Stop = knows (turns_view g number (noted_turns notes)) Stop
-AwaitsTurn made is_new may_begin shape awaits counts knows left whole g number kept notes (Some given) task = ⊥
+-- by the turn that waits for its answer, and the task: where there is none the task comes next; where the sequence has ended,
+-- what was known at its end holds
+abbrev pub AwaitsTurn : {P M X O : Type 0} → (P → M) → (P → Type 0) → (M → Geometry → View → Type 0) → (M → Geometry → Own → X → Type 0) → (P → Geometry → View → Own → Action → Type 0) → (X → Tally) → (View → Task M → Type 0) → (Ended X → Notes → O → Type 0) → O → (Notes → O → Type 0) → Geometry → ℕ → Action → Notes → Option Turn → Task P → Type 0
+AwaitsTurn made is_new may_begin shape awaits counts knows left stop whole g number kept notes None task = IsNextTask made is_new may_begin shape counts knows left stop (λ rest outcome. whole (notes ++ rest) outcome) g (turns_view g number (noted_turns notes)) task
+AwaitsTurn made is_new may_begin shape awaits counts knows left stop whole g number kept notes (Some (turn.Do action)) (Run piece) = IsAtWork shape (awaits piece) counts knows left whole g number kept notes action (made piece)
+AwaitsTurn made is_new may_begin shape awaits counts knows left stop whole g number kept notes (Some (turn.Put into b)) (Put lane page) = IsAtLane (knows (turns_view g number (noted_turns notes)) (Put lane page)) (IsTask shape counts g (Put lane page)) left whole notes (turn.Put into b) (turn.Put lane page)
+AwaitsTurn made is_new may_begin shape awaits counts knows left stop whole g number kept notes (Some (turn.Take from)) (Take lane) = IsAtLane (knows (turns_view g number (noted_turns notes)) (Take lane)) (IsTask shape counts g (Take lane)) left whole notes (turn.Take from) (turn.Take lane)
+AwaitsTurn made is_new may_begin shape awaits counts knows left stop whole g number kept notes (Some turn.End) Stop = knows (turns_view g number (noted_turns notes)) Stop
+AwaitsTurn made is_new may_begin shape awaits counts knows left stop whole g number kept notes (Some given) task = ⊥
 
 -- a turn is given after these notes: it goes on with them, its answer is awaited, and its action is permitted
-pub record IsTurnGiven {P M X : Type 0} (made : P → M) (is_new : P → Type 0) (may_begin : M → Geometry → View → Type 0) (shape : M → Geometry → Own → X → Type 0) (awaits : P → Geometry → View → Own → Action → Type 0) (counts : X → Tally) (knows : View → Task M → Type 0) (left : Ended X → Notes → Unit {0} → Type 0) (whole : Notes → Unit {0} → Type 0) (g : Geometry) (number : ℕ) (kept : Action) (task : Task P) (given : Turn) (notes : Notes) : Type 0 where
-  pub next : IsContinued whole notes (Some given)
-  pub at : AwaitsTurn made is_new may_begin shape awaits counts knows left whole g number kept notes (Some given) task
+pub record IsTurnGiven {P M X O : Type 0} (made : P → M) (is_new : P → Type 0) (may_begin : M → Geometry → View → Type 0) (shape : M → Geometry → Own → X → Type 0) (awaits : P → Geometry → View → Own → Action → Type 0) (counts : X → Tally) (knows : View → Task M → Type 0) (left : Ended X → Notes → O → Type 0) (stop : O) (whole : Notes → O → Type 0) (g : Geometry) (number : ℕ) (kept : Action) (task : Task P) (given : Turn) (notes : Notes) : Type 0 where
+  pub next : IsContinued stop whole notes (Some given)
+  pub at : AwaitsTurn made is_new may_begin shape awaits counts knows left stop whole g number kept notes (Some given) task
   pub permitted : IsPermittedTurn g (turns_view g number (noted_turns notes)) given
 
 -- no more was drawn than a view may
@@ -88,16 +88,16 @@ pub record IsFewDrawn (spent : Spent) : Type 0 where
 
 -- the actor has these answered turns, and this one waits for its answer: they go on as a sequence of the routine, and what is
 -- counted is counted of them
-pub record FollowsRoutine {P M X : Type 0} (made : P → M) (is_new : P → Type 0) (may_begin : M → Geometry → View → Type 0) (shape : M → Geometry → Own → X → Type 0) (awaits : P → Geometry → View → Own → Action → Type 0) (counts : X → Tally) (knows : View → Task M → Type 0) (left : Ended X → Notes → Unit {0} → Type 0) (whole : Notes → Unit {0} → Type 0) (g : Geometry) (number : ℕ) (kept : Action) (task : Task P) (counter : Counter) (tally : Tally) (spent : Spent) (turns : Turns) (last : Option Turn) : Type 0 where
+pub record FollowsRoutine {P M X O : Type 0} (made : P → M) (is_new : P → Type 0) (may_begin : M → Geometry → View → Type 0) (shape : M → Geometry → Own → X → Type 0) (awaits : P → Geometry → View → Own → Action → Type 0) (counts : X → Tally) (knows : View → Task M → Type 0) (left : Ended X → Notes → O → Type 0) (stop : O) (whole : Notes → O → Type 0) (g : Geometry) (number : ℕ) (kept : Action) (task : Task P) (counter : Counter) (tally : Tally) (spent : Spent) (turns : Turns) (last : Option Turn) : Type 0 where
   pub notes : Notes
   pub is : turns ≡ noted_turns notes
-  pub next : IsContinued whole notes last
+  pub next : IsContinued stop whole notes last
   pub events : CountsEvents counter (own_list turns)
   pub ends : tally ≡ notes_tally notes
   pub pages : length counter.locked.items ≡ page_count g
   pub drawn : IsDrawn spent (turns_view g number turns)
   pub few : IsFewDrawn spent
-  pub at : AwaitsTurn made is_new may_begin shape awaits counts knows left whole g number kept notes last task
+  pub at : AwaitsTurn made is_new may_begin shape awaits counts knows left stop whole g number kept notes last task
 
 -- a turn was answered, with what its answer counts, and another is given after it
 pub record IsAnswerNoted (given : Notes → Type 0) (old new : Tally) (notes : Notes) (answered : Turn) (heard : Heard) : Type 0 where
@@ -113,11 +113,17 @@ pub record IsWorkHeard (at : Notes → Option Turn → Type 0) (g : Geometry) (n
   pub fits : Fits g (turns_view g number (noted_turns notes)) action reply
   pub drawn : IsDrawn spent (after_of g (turns_view g number (noted_turns notes)) action reply)
 
--- a worker is new: its first task comes next, and nothing is counted
-pub record IsNewWorker (first : Type 0) (g : Geometry) (number : ℕ) (counter : Counter) (tally : Tally) (spent : Spent) : Type 0 where
+-- a worker is new: there is a whole sequence, its first task comes next, and nothing is counted
+pub record IsNewWorker (some first : Type 0) (g : Geometry) (number : ℕ) (counter : Counter) (tally : Tally) (spent : Spent) : Type 0 where
+  pub can : some
   pub next : first
   pub events : CountsEvents counter []
   pub ends : tally ≡ zero_tally
   pub pages : length counter.locked.items ≡ page_count g
   pub drawn : IsDrawn spent (opening g number)
   pub few : IsFewDrawn spent
+
+-- an actor that agrees with some turns has given End
+pub record HasGivenEnd (agrees : Turns → Option Turn → Type 0) : Type 0 where
+  pub turns : Turns
+  pub agreed : agrees turns (Some turn.End)

@@ -4,5 +4,5 @@
 pub mod routine;
 pub mod worker;
 
-pub use routine::{Ended, Routine, Task};
+pub use routine::{Ended, Resuming, Routine, Task};
 pub use worker::Worker;

@@ -38,6 +38,7 @@ pub trait Routine<P: Piece> {
     ghost use Rattle.nm_action.specs.declared.tally.Tally.{Tally};
     ghost use Rattle.nm_view.specs.Views.{View};
     ghost use Rattle.nm_view.specs.Opening.{opening};
+    ghost use Rattle.nm_part.specs.Patterns.{CanEnd};
     ghost use Rattle.nm_worker.specs.declared.routine.Task.{Task};
     ghost use Rattle.nm_worker.specs.declared.routine.Ended.{Ended};
     ghost use Rattle.nm_worker.specs.Notes.{Notes};
@@ -54,11 +55,15 @@ pub trait Routine<P: Piece> {
 
     ghost number: { Self.Made → ℕ };
 
+    // What a whole sequence shows at its end.
+    ghost Outcome: { Type 0 };
+
     // It has given no task yet.
     ghost is_new: { Self → Type 0 };
 
-    // The shape: which answered turns, each with what is counted at it, are a whole sequence of an actor with this data.
-    ghost shape: { Self.Made → Notes → Unit {0} → Type 0 };
+    // The shape: which answered turns, each with what is counted at it, are a whole sequence of an actor with this data,
+    // and what that shows.
+    ghost shape: { Self.Made → Notes → Outcome → Type 0 };
 
     // What the end of a piece of work counts.
     ghost counts: { P.Outcome → Tally };
@@ -67,13 +72,17 @@ pub trait Routine<P: Piece> {
     ghost knows: { Self → View → Task P.Made → Type 0 };
 
     // What is left of the shape after the task that runs, by how that ends.
-    ghost left: { Self → Ended P.Outcome → Notes → Unit {0} → Type 0 };
+    ghost left: { Self → Ended P.Outcome → Notes → Outcome → Type 0 };
+
+    // What the whole sequence shows where the routine stops.
+    ghost stop: { Self → Outcome };
 
     /// The first task. Condition: the routine has given no task yet.
     fn begin(&mut self) -> Task<P>
         requires { is_new self.old }
         ensures made { made self.new ≡ made self.old }
-        ensures next { IsNextTask P.made P.is_new P.may_begin P.shape counts (knows self.new) (left self.new) (shape (made self.old))
+        ensures can { CanEnd (shape (made self.old)) }
+        ensures next { IsNextTask P.made P.is_new P.may_begin P.shape counts (knows self.new) (left self.new) (stop self.new) (shape (made self.old))
             (geometry (made self.old)) (opening (geometry (made self.old)) (number (made self.old))) result };
 
     /// The task after this one, which has ended so; the actor has drawn so much until then. Conditions: the task can have ended
@@ -82,10 +91,38 @@ pub trait Routine<P: Piece> {
         requires { HasTaskOver P.made P.shape P.leaves P.ended (knows self.old) (geometry (made self.old)) task.now end spent }
         ensures made { made self.new ≡ made self.old }
         ensures next { (now later : View) → knows self.old now (task_data P.made task.now) → IsTaskOver P.made P.shape P.leaves P.ended (geometry (made self.old)) now later task.now end → IsDrawn spent later
-            → IsNextTask P.made P.is_new P.may_begin P.shape counts (knows self.new) (left self.new) (left self.old end) (geometry (made self.old)) later result };
+            → IsNextTask P.made P.is_new P.may_begin P.shape counts (knows self.new) (left self.new) (stop self.new) (left self.old end) (geometry (made self.old)) later result };
 
     /// What the end of a piece of work counts: faults, moves and demotions by how they ended. What the events of the piece
     /// count is no part of it.
     fn counts(end: &P::Outcome) -> Tally
         ensures { result ≡ counts end.now };
+}
+
+/// A routine that can be begun again after it has stopped.
+pub trait Resuming<P: Piece>: Routine<P> {
+    ghost use Rattle.std.specs.Prelude.{◌≡◌, ◌++◌};
+    ghost use Rattle.nm_view.specs.Views.{View};
+    ghost use Rattle.nm_worker.specs.declared.routine.Task.TheVariants.{Stop};
+    ghost use Rattle.nm_worker.specs.Notes.{Notes};
+    ghost use Rattle.nm_worker.specs.Routines.{IsNextTask, HasStopped, IsBegunAgain};
+
+    // It can be begun again.
+    ghost can_resume: { Self → Type 0 };
+
+    // The data of a routine that is begun again.
+    ghost resumed: { Self.Made → Self.Made };
+
+    /// The first task after the routine has stopped: a whole sequence of the routine that is begun again begins with one of
+    /// this routine. Conditions: the routine has stopped, and can be begun again. It takes no memory.
+    fn resume(&mut self) -> Task<P>
+        requires can { can_resume self.old }
+        requires stopped { HasStopped (Self.knows self.old) }
+        ensures made { Self.made self.new ≡ resumed (Self.made self.old) }
+        ensures geometry { Self.geometry (Self.made self.new) ≡ Self.geometry (Self.made self.old) }
+        ensures number { Self.number (Self.made self.new) ≡ Self.number (Self.made self.old) }
+        ensures next { (notes : Notes) (view : View) → Self.knows self.old view Stop → Self.shape (Self.made self.old) notes (Self.stop self.old)
+            → IsBegunAgain
+            (IsNextTask P.made P.is_new P.may_begin P.shape Self.counts (Self.knows self.new) (Self.left self.new) (Self.stop self.new) (λ rest outcome. Self.shape (Self.made self.new) (notes ++ rest) outcome) (Self.geometry (Self.made self.old)) view result)
+            (λ rest outcome. Self.shape (Self.made self.new) (notes ++ rest) outcome) };
 }

@@ -11,14 +11,14 @@ ghost use Rattle.nm_view.specs.Views.{View};
 ghost use Rattle.nm_view.specs.Opening.{opening};
 ghost use Rattle.nm_event.specs.Fitting.{Fits};
 ghost use Rattle.nm_event.specs.After.{after_of};
-ghost use Rattle.nm_part.specs.Patterns.{IsLeft};
+ghost use Rattle.nm_part.specs.Patterns.{IsLeft, CanEnd};
 ghost use Rattle.nm_tally.specs.Counting.{CountsEvents};
 ghost use Rattle.nm_actor.specs.Turns.{Turns, turns_view};
 ghost use Rattle.nm_worker.specs.Notes.{Notes, noted_turns};
 ghost use Rattle.nm_worker.specs.Routines.{task_data, IsNextTask, IsTaskOver, IsDrawn, HasTaskOver, CanBeginTask};
 ghost use Rattle.nm_worker.specs.Workers.{AwaitsTurn, IsTurnGiven, IsAnswerNoted, IsWorkHeard, IsNewWorker};
 
-use crate::routine::{Ended, Routine, Task};
+use crate::routine::{Ended, Resuming, Routine, Task};
 use nm_actor::Actor;
 use nm_base::Geometry;
 use nm_event::{Action, Heard, Reply, Spent, Step, Tally, Turn};
@@ -49,8 +49,8 @@ where
         requires new { R.is_new routine }
         requires geometry { R.geometry (R.made routine) ≡ g.now }
         ensures made { IfOk result (λ w. R.made w.routine ≡ R.made routine) }
-        ensures new { IfOk result (λ w. IsNewWorker
-            (IsNextTask P.made P.is_new P.may_begin P.shape R.counts (R.knows w.routine) (R.left w.routine) (R.shape (R.made w.routine)) (R.geometry (R.made w.routine)) (opening (R.geometry (R.made w.routine)) (R.number (R.made w.routine))) w.task)
+        ensures new { IfOk result (λ w. IsNewWorker (CanEnd (R.shape (R.made w.routine)))
+            (IsNextTask P.made P.is_new P.may_begin P.shape R.counts (R.knows w.routine) (R.left w.routine) (R.stop w.routine) (R.shape (R.made w.routine)) (R.geometry (R.made w.routine)) (opening (R.geometry (R.made w.routine)) (R.number (R.made w.routine))) w.task)
             (R.geometry (R.made w.routine)) (R.number (R.made w.routine)) w.events w.ends w.spent) }
     {
         let events = Counter::new(alloc, g)?;
@@ -81,8 +81,8 @@ where
         ensures ends { self.new.ends ≡ self.old.ends }
         ensures spent { self.new.spent ≡ self.old.spent }
         ensures given { (notes : Notes)
-            → IsNextTask P.made P.is_new P.may_begin P.shape R.counts (R.knows self.old.routine) (R.left self.old.routine) (λ rest outcome. R.shape (R.made self.old.routine) (notes ++ rest) outcome) (R.geometry (R.made self.old.routine)) (turns_view (R.geometry (R.made self.old.routine)) (R.number (R.made self.old.routine)) (noted_turns notes)) self.old.task
-            → IsTurnGiven P.made P.is_new P.may_begin P.shape P.awaits R.counts (R.knows self.old.routine) (R.left self.old.routine) (R.shape (R.made self.old.routine)) (R.geometry (R.made self.old.routine)) (R.number (R.made self.old.routine)) self.new.action self.new.task result notes }
+            → IsNextTask P.made P.is_new P.may_begin P.shape R.counts (R.knows self.old.routine) (R.left self.old.routine) (R.stop self.old.routine) (λ rest outcome. R.shape (R.made self.old.routine) (notes ++ rest) outcome) (R.geometry (R.made self.old.routine)) (turns_view (R.geometry (R.made self.old.routine)) (R.number (R.made self.old.routine)) (noted_turns notes)) self.old.task
+            → IsTurnGiven P.made P.is_new P.may_begin P.shape P.awaits R.counts (R.knows self.old.routine) (R.left self.old.routine) (R.stop self.old.routine) (R.shape (R.made self.old.routine)) (R.geometry (R.made self.old.routine)) (R.number (R.made self.old.routine)) self.new.action self.new.task result notes }
     {
         match &mut self.task {
             Task::Run(piece) => {
@@ -107,7 +107,7 @@ where
             → IsTaskOver P.made P.shape P.leaves P.ended (R.geometry (R.made self.old.routine)) now (turns_view (R.geometry (R.made self.old.routine)) (R.number (R.made self.old.routine)) (noted_turns notes)) self.old.task end
             → IsDrawn self.old.spent (turns_view (R.geometry (R.made self.old.routine)) (R.number (R.made self.old.routine)) (noted_turns notes))
             → IsLeft (R.shape (R.made self.old.routine)) notes (R.left self.old.routine end)
-            → IsTurnGiven P.made P.is_new P.may_begin P.shape P.awaits R.counts (R.knows self.new.routine) (R.left self.new.routine) (R.shape (R.made self.old.routine)) (R.geometry (R.made self.old.routine)) (R.number (R.made self.old.routine)) self.new.action self.new.task result notes }
+            → IsTurnGiven P.made P.is_new P.may_begin P.shape P.awaits R.counts (R.knows self.new.routine) (R.left self.new.routine) (R.stop self.new.routine) (R.shape (R.made self.old.routine)) (R.geometry (R.made self.old.routine)) (R.number (R.made self.old.routine)) self.new.action self.new.task result notes }
     {
         self.task = self.routine.go_on(&self.task, end, self.spent);
         self.give()
@@ -115,15 +115,15 @@ where
 
     /// The turn after a reply to the piece of work that runs.
     fn hear(&mut self, reply: Reply) -> Turn
-        requires { IsWorkHeard (λ notes last. AwaitsTurn P.made P.is_new P.may_begin P.shape P.awaits R.counts (R.knows self.old.routine) (R.left self.old.routine) (R.shape (R.made self.old.routine)) (R.geometry (R.made self.old.routine)) (R.number (R.made self.old.routine)) self.old.action notes last self.old.task) (R.geometry (R.made self.old.routine)) (R.number (R.made self.old.routine)) self.old.spent reply }
+        requires { IsWorkHeard (λ notes last. AwaitsTurn P.made P.is_new P.may_begin P.shape P.awaits R.counts (R.knows self.old.routine) (R.left self.old.routine) (R.stop self.old.routine) (R.shape (R.made self.old.routine)) (R.geometry (R.made self.old.routine)) (R.number (R.made self.old.routine)) self.old.action notes last self.old.task) (R.geometry (R.made self.old.routine)) (R.number (R.made self.old.routine)) self.old.spent reply }
         ensures made { R.made self.new.routine ≡ R.made self.old.routine }
         ensures events { self.new.events ≡ self.old.events }
         ensures spent { self.new.spent ≡ self.old.spent }
         ensures given { (notes : Notes) (action : Action)
-            → AwaitsTurn P.made P.is_new P.may_begin P.shape P.awaits R.counts (R.knows self.old.routine) (R.left self.old.routine) (R.shape (R.made self.old.routine)) (R.geometry (R.made self.old.routine)) (R.number (R.made self.old.routine)) self.old.action notes (Some (turn.Do action)) self.old.task
+            → AwaitsTurn P.made P.is_new P.may_begin P.shape P.awaits R.counts (R.knows self.old.routine) (R.left self.old.routine) (R.stop self.old.routine) (R.shape (R.made self.old.routine)) (R.geometry (R.made self.old.routine)) (R.number (R.made self.old.routine)) self.old.action notes (Some (turn.Do action)) self.old.task
             → Fits (R.geometry (R.made self.old.routine)) (turns_view (R.geometry (R.made self.old.routine)) (R.number (R.made self.old.routine)) (noted_turns notes)) action reply
             → IsDrawn self.old.spent (after_of (R.geometry (R.made self.old.routine)) (turns_view (R.geometry (R.made self.old.routine)) (R.number (R.made self.old.routine)) (noted_turns notes)) action reply)
-            → IsAnswerNoted (IsTurnGiven P.made P.is_new P.may_begin P.shape P.awaits R.counts (R.knows self.new.routine) (R.left self.new.routine) (R.shape (R.made self.old.routine)) (R.geometry (R.made self.old.routine)) (R.number (R.made self.old.routine)) self.new.action self.new.task result) self.old.ends self.new.ends notes (turn.Do action) (Answer reply) }
+            → IsAnswerNoted (IsTurnGiven P.made P.is_new P.may_begin P.shape P.awaits R.counts (R.knows self.new.routine) (R.left self.new.routine) (R.stop self.new.routine) (R.shape (R.made self.old.routine)) (R.geometry (R.made self.old.routine)) (R.number (R.made self.old.routine)) self.new.action self.new.task result) self.old.ends self.new.ends notes (turn.Do action) (Answer reply) }
     {
         let Task::Run(piece) = &mut self.task else {
             unreachable!()
@@ -141,6 +141,32 @@ where
     }
 }
 
+impl<P: Piece + Drop, R: Resuming<P> + Drop> Worker<R, P>
+where
+    P::Outcome: Drop,
+{
+    ghost use Rattle.std.specs.Prelude.{◌≡◌, ◌++◌, Some, None};
+    ghost use Rattle.nm_action.specs.declared.turn.Turn.TheVariants as turn;
+    ghost use Rattle.nm_actor.specs.Turns.{Turns};
+    ghost use Rattle.nm_worker.specs.Workers.{HasGivenEnd, FollowsRoutine};
+
+    /// Begins the routine again, after the actor gave End: it keeps what it has counted and drawn, and is to hear Start. It
+    /// takes no memory. Conditions: the actor gave End, and the routine can be begun again.
+    pub fn resume(&mut self)
+        requires can { R.can_resume self.old.routine }
+        requires ended { HasGivenEnd (FollowsRoutine P.made P.is_new P.may_begin P.shape P.awaits R.counts (R.knows self.old.routine) (R.left self.old.routine) (R.stop self.old.routine) (R.shape (R.made self.old.routine)) (R.geometry (R.made self.old.routine)) (R.number (R.made self.old.routine)) self.old.action self.old.task self.old.events self.old.ends self.old.spent) }
+        ensures made { R.made self.new.routine ≡ R.resumed (R.made self.old.routine) }
+        ensures events { self.new.events ≡ self.old.events }
+        ensures ends { self.new.ends ≡ self.old.ends }
+        ensures spent { self.new.spent ≡ self.old.spent }
+        ensures agrees { (turns : Turns)
+            → FollowsRoutine P.made P.is_new P.may_begin P.shape P.awaits R.counts (R.knows self.old.routine) (R.left self.old.routine) (R.stop self.old.routine) (R.shape (R.made self.old.routine)) (R.geometry (R.made self.old.routine)) (R.number (R.made self.old.routine)) self.old.action self.old.task self.old.events self.old.ends self.old.spent turns (Some turn.End)
+            → FollowsRoutine P.made P.is_new P.may_begin P.shape P.awaits R.counts (R.knows self.new.routine) (R.left self.new.routine) (R.stop self.new.routine) (R.shape (R.made self.new.routine)) (R.geometry (R.made self.new.routine)) (R.number (R.made self.new.routine)) self.new.action self.new.task self.new.events self.new.ends self.new.spent turns None }
+    {
+        self.task = self.routine.resume();
+    }
+}
+
 impl<P: Piece + Drop, R: Routine<P> + Drop> Actor for Worker<R, P>
 where
     P::Outcome: Drop,
@@ -149,6 +175,7 @@ where
 
     ghost use Rattle.std.specs.Prelude.{◌≡◌, [], None, refl};
     ghost use Rattle.nm_view.specs.Opening.{opening};
+    ghost use Rattle.nm_part.specs.Patterns.{CanEnd};
     ghost use Rattle.nm_action.specs.Tally.{sum_of};
     ghost use Rattle.nm_worker.specs.Routines.{IsNextTask};
     ghost use Rattle.nm_worker.specs.Workers.{IsNewWorker, FollowsRoutine};
@@ -159,11 +186,11 @@ where
 
     ghost number = { R.number };
 
-    ghost is_new = { λ w. IsNewWorker
-        (IsNextTask P.made P.is_new P.may_begin P.shape R.counts (R.knows w.routine) (R.left w.routine) (R.shape (R.made w.routine)) (R.geometry (R.made w.routine)) (opening (R.geometry (R.made w.routine)) (R.number (R.made w.routine))) w.task)
+    ghost is_new = { λ w. IsNewWorker (CanEnd (R.shape (R.made w.routine)))
+        (IsNextTask P.made P.is_new P.may_begin P.shape R.counts (R.knows w.routine) (R.left w.routine) (R.stop w.routine) (R.shape (R.made w.routine)) (R.geometry (R.made w.routine)) (opening (R.geometry (R.made w.routine)) (R.number (R.made w.routine))) w.task)
         (R.geometry (R.made w.routine)) (R.number (R.made w.routine)) w.events w.ends w.spent };
 
-    ghost agrees = { λ w. FollowsRoutine P.made P.is_new P.may_begin P.shape P.awaits R.counts (R.knows w.routine) (R.left w.routine) (R.shape (R.made w.routine)) (R.geometry (R.made w.routine)) (R.number (R.made w.routine)) w.action w.task w.events w.ends w.spent };
+    ghost agrees = { λ w. FollowsRoutine P.made P.is_new P.may_begin P.shape P.awaits R.counts (R.knows w.routine) (R.left w.routine) (R.stop w.routine) (R.shape (R.made w.routine)) (R.geometry (R.made w.routine)) (R.number (R.made w.routine)) w.action w.task w.events w.ends w.spent };
 
     ghost counted = { λ w. sum_of w.events.tally w.ends };
 
@@ -186,5 +213,5 @@ where
         self.events.tally().plus(self.ends)
     }
 
-    ghost opens = { λ w new. record { notes = []; is = refl; next = refl; events = new.events; ends = new.ends; pages = new.pages; drawn = new.drawn; few = new.few; at = new.next } };
+    ghost opens = { λ w new. record { notes = []; is = refl; next = new.can; events = new.events; ends = new.ends; pages = new.pages; drawn = new.drawn; few = new.few; at = new.next } };
 }

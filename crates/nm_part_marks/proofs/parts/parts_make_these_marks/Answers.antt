@@ -1,6 +1,7 @@
 use Rattle.std.proofs.Common.{refl, inr}
 use Rattle.nm_marks.specs.Marks.{IsNoMark, IsPendingMark, IsCandidateMark}
 use Rattle.nm_part_marks.specs.Actions.{IsNoAck}
+use Rattle.nm_part_marks.proofs.Asking.{asks-actions}
 use Rattle.nm_part_marks.proofs.Made.{marks-of}
 use Rattle.nm_part_marks.proofs.Moves.{txn-actions, batch-actions, locked-actions, cool-actions}
 use Rattle.nm_part_marks.proofs.Keeping.{demotion-actions, inspection-actions}
@@ -24,6 +25,9 @@ returns-clause-demotion c = λ made g own end h. marks-of IsNoMark own (demotion
 
 pub returns-clause-inspection : goal.returns-clause-inspection
 returns-clause-inspection c = λ made g own end h. marks-of IsNoMark own (inspection-actions IsNoMark IsNoAck made g own end h)
+
+pub returns-clause-ask : goal.returns-clause-ask
+returns-clause-ask c = λ cpus g own all h. marks-of IsNoMark own (asks-actions IsNoMark IsNoAck g 0 cpus own all h)
 
 pub returns-clause-fault : goal.returns-clause-fault
 returns-clause-fault c = λ begun g own end h. marks-of IsNoMark own (fault-actions IsNoMark IsNoAck begun g own end h)

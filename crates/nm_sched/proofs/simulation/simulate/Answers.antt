@@ -1,8 +1,9 @@
-use Rattle.std.proofs.Common.{◌+◌, ℕ, Option, ap, ◌∙◌}
+use Rattle.std.proofs.Common.{◌+◌, ℕ, Bool, false, Option, ap, ◌∙◌}
 use Rattle.nm_base.specs.Geometry.{Geometry}
 use Rattle.nm_script.specs.Plain.{Script}
 use Rattle.nm_programs.proofs.Running.{run-with}
-use Rattle.nm_sched.proofs.Migrators.{migrator-acts, migrator-part}
+use Rattle.nm_migrator.proofs.Acting.{migrator-acts}
+use Rattle.nm_sched.proofs.Migrators.{migrator-part}
 use Rattle.nm_sched.proofs.Ending.{reclaimer-acts, reclaimer-part}
 use Rattle.nm_sched.proofs.simulation.simulate.Goals as goal
 
@@ -33,7 +34,7 @@ run_programs-requires-clause-reclaimer_acts c = λ x h. reclaimer-acts _ _ x h
 pub returns : goal.returns
 returns c =
     let script = c.args.script.now in
-    let pair : Script → Geometry × Option ℕ = λ s. (s.geometry, s.retry) in
-    let made = c.in_ok-migrator.ensures.made ∙ ap pair c.script.view_is in
+    let made_of : Script → Geometry × Option ℕ × Bool = λ s. (s.geometry, s.retry, false) in
+    let made = c.in_ok-migrator.ensures.made ∙ ap made_of c.script.view_is in
     let machine = c.in_ok-reclaimer.ensures.geometry ∙ ap (λ s. s.geometry) c.script.view_is in
     run-with _ _ _ _ script _ (λ turns ended counts h. migrator-part script _ turns ended counts made h) (λ turns ended counts h. reclaimer-part _ _ script _ turns ended counts machine h) c.in_ok-run.ensures

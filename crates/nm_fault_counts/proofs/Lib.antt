@@ -1,0 +1,5 @@
+pub mod Lists
+pub mod Tallies
+pub mod Runs
+pub mod Plain
+pub mod Faults

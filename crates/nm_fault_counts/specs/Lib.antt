@@ -1,0 +1,2 @@
+pub mod FaultTally
+pub mod Counted

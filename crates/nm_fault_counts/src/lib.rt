@@ -1,0 +1,4 @@
+//! What a processor's own list counts of its faults.
+#![tactic(auto)]
+
+pub mod counts;

@@ -1,0 +1,10 @@
+pub mod Asking
+pub mod Among
+pub mod Clearing
+pub mod Lanes
+pub mod Works
+pub mod Heating
+pub mod Moving
+pub mod Planning
+pub mod Unmarking
+pub mod Migrating

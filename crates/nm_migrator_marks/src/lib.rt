@@ -1,0 +1,4 @@
+//! That a migrator that has ended took its marks back.
+#![tactic(auto)]
+
+pub mod marks;

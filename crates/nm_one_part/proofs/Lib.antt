@@ -1,0 +1,4 @@
+pub mod Loads
+pub mod Followed
+pub mod CpuParts
+pub mod RoutineParts

@@ -1,0 +1,3 @@
+pub mod Off
+pub mod Stepping
+pub mod Fitting

@@ -1,0 +1,4 @@
+//! That a reclaimer makes no Mark.
+#![tactic(auto)]
+
+pub mod marks;

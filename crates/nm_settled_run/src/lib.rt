@@ -1,0 +1,4 @@
+//! When the run of a script ends settled.
+#![tactic(auto)]
+
+pub mod settled;
