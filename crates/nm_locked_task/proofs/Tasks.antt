@@ -11,7 +11,9 @@ use Rattle.nm_locked.specs.declared.locked.LockedOver.{LockedOver}
 use Rattle.nm_locked.specs.Chosen.{MayChoose}
 use Rattle.nm_locked.specs.Moves.{IsLockedInMove}
 use Rattle.nm_locked.specs.Leaving.{IsLockedLeft}
-use Rattle.nm_locked_task.specs.Tasks.{LockedMade, LockedRun, IsMoveFor, IsNewMove, AwaitsMove}
+use Rattle.nm_locked_run.specs.declared.run.LockedRun.{LockedRun}
+use Rattle.nm_locked_run.specs.Runs.{LockedMade}
+use Rattle.nm_locked_task.specs.Tasks.{IsMoveFor, IsNewMove, AwaitsMove}
 
 -- the finished lists of the move inside, and of the task
 abbrev MoveShape : LockedMade → Geometry → Own → LockedOver → Type 0

@@ -4,18 +4,10 @@ use Rattle.nm_base.specs.Geometry.{Geometry}
 use Rattle.nm_action.specs.declared.action.Action.{Action}
 use Rattle.nm_action.specs.Own.{Own}
 use Rattle.nm_view.specs.Views.{View}
-use Rattle.nm_compose.specs.declared.composite.Composite.{Composite}
 use Rattle.nm_transfer.specs.Stages.{HoldsWords}
-use Rattle.nm_locked.specs.declared.choose.ChooseMade.{ChooseMade}
-use Rattle.nm_locked.specs.declared.locked.Locked.{Locked}
+use Rattle.nm_locked_run.specs.declared.run.LockedRun.{LockedRun}
 use Rattle.nm_locked_task.specs.declared.task.LockedTask.{LockedTask}
-use Rattle.nm_locked.specs.Pieces.{LockedPiece}
-
-abbrev pub LockedMade : Type 0
-LockedMade = Geometry × ChooseMade
-
-abbrev pub LockedRun : Type 0
-LockedRun = Composite Locked LockedPiece
+use Rattle.nm_locked_run.specs.Runs.{LockedMade}
 
 -- what it was begun with, in which geometry
 abbrev pub locked_task_made : LockedTask → LockedMade

@@ -4,9 +4,9 @@ ghost use Rattle.std.specs.Prelude.{◌≡◌, IfOk};
 ghost use Rattle.nm_locked_task.specs.Tasks.{locked_task_made, IsIdleMove, IsNewMove};
 
 use nm_base::Geometry;
-use nm_compose::Composite;
 use nm_event::{Action, Reply, Spent, Step};
-use nm_locked::{ChooseMade, Locked, LockedEnd, LockedPiece};
+use nm_locked::{ChooseMade, LockedEnd};
+use nm_locked_run::LockedRun;
 use nm_part::{Part, Piece};
 use nm_transfer::TakenWords;
 use std::alloc::{AllocError, Global};
@@ -18,7 +18,7 @@ pub struct LockedTask<'a> {
     geometry: &'a Geometry,
     made: ChooseMade,
     taken: Option<TakenWords>,
-    run: Option<Composite<Locked<'a>, LockedPiece<'a>>>,
+    run: Option<LockedRun<'a>>,
 }
 
 impl<'a> LockedTask<'a> {
@@ -46,14 +46,13 @@ impl<'a> LockedTask<'a> {
         requires { IsIdleMove self.old }
         ensures geometry { self.new.geometry.now ≡ self.old.geometry.now }
         ensures made { locked_task_made self.new ≡ (self.old.geometry.now, record { page = page; count = count; spent = spent }) }
-        ensures new { IsNewMove ⟦<Composite<Locked<'a>, LockedPiece<'a>> as Part>⟧.is_new ⟦<Composite<Locked<'a>, LockedPiece<'a>> as Part>⟧.made (locked_task_made self.new) self.new.run }
+        ensures new { IsNewMove ⟦<LockedRun<'a> as Part>⟧.is_new ⟦<LockedRun<'a> as Part>⟧.made (locked_task_made self.new) self.new.run }
     {
         let Some(taken) = self.taken.take() else {
             unreachable!()
         };
         self.made = ChooseMade { page, count, spent };
-        let plan = Locked::new(self.geometry, page, count, spent, taken);
-        self.run = Some(Composite::new(plan));
+        self.run = Some(LockedRun::new(self.geometry, self.made, taken));
     }
 }
 
@@ -69,7 +68,7 @@ impl<'a> Part for LockedTask<'a> {
 
     ghost made = { locked_task_made };
 
-    ghost is_new = { λ task. IsNewMove ⟦<Composite<Locked<'a>, LockedPiece<'a>> as Part>⟧.is_new ⟦<Composite<Locked<'a>, LockedPiece<'a>> as Part>⟧.made (locked_task_made task) task.run };
+    ghost is_new = { λ task. IsNewMove ⟦<LockedRun<'a> as Part>⟧.is_new ⟦<LockedRun<'a> as Part>⟧.made (locked_task_made task) task.run };
 
     ghost may_begin = { λ made g view. MayChoose made.0 made.1 g view };
 
@@ -77,7 +76,7 @@ impl<'a> Part for LockedTask<'a> {
 
     ghost leaves = { λ made g view outcome left. IsLockedLeft made.1 view outcome left };
 
-    ghost awaits = { λ task. AwaitsMove ⟦<Composite<Locked<'a>, LockedPiece<'a>> as Part>⟧.awaits ⟦<Composite<Locked<'a>, LockedPiece<'a>> as Part>⟧.made (locked_task_made task) task.run };
+    ghost awaits = { λ task. AwaitsMove ⟦<LockedRun<'a> as Part>⟧.awaits ⟦<LockedRun<'a> as Part>⟧.made (locked_task_made task) task.run };
 
     ghost ended = { λ task g own outcome. IsIdleMove task };
 

@@ -15,25 +15,18 @@ use Rattle.nm_looks.specs.declared.seen.Seen.{Seen}
 use Rattle.nm_looks.specs.Seeing.{LooksData, IsLooks, MayLooks, HasLooked}
 use Rattle.nm_looks.specs.Parts.{LooksPart, looks_part_data, IsNewLooksPart, page_looks}
 use Rattle.nm_txn.specs.declared.end.TxnEnd.{TxnEnd}
-use Rattle.nm_txn.specs.Batches.{IsBatch}
 use Rattle.nm_txn.specs.Tasks.{ActAwaits}
 use Rattle.nm_cool.specs.declared.cool.Cooled.{Cooled}
 use Rattle.nm_cool.specs.Cooling.{CoolData, IsCooling, MayCool, IsCooledLeft}
-use Rattle.nm_batch.specs.Leaving.{MayBatch, IsBatchLeft}
-use Rattle.nm_batch.specs.Places.{batch_made}
 use Rattle.nm_locked.specs.declared.locked.LockedOver.{LockedOver}
-use Rattle.nm_locked.specs.Chosen.{MayChoose}
-use Rattle.nm_locked.specs.Moves.{IsLockedInMove}
-use Rattle.nm_locked.specs.Leaving.{IsLockedLeft}
 use Rattle.nm_ended.specs.Asking.{AskPart, MayAsk, IsAsking, ask_left, ask_stages}
 use Rattle.nm_compose.specs.Composites.{HasFirst, IsRunning}
 use Rattle.nm_compose.specs.Stages.{IsPieceAt}
-use Rattle.nm_migrator_work.specs.declared.parts.CoolWork.{CoolWork}
-use Rattle.nm_migrator_work.specs.declared.parts.BatchWork.{BatchWork}
-use Rattle.nm_migrator_work.specs.declared.parts.MoveWork.{MoveWork}
-use Rattle.nm_migrator_work.specs.Wrapped.{BatchData, MoveData, cool_work_made, IsNewCoolWork, batch_work_made, IsNewBatchWork, move_work_made, IsNewMoveWork, LooksAwaits, AwaitsCoolWork, AwaitsBatchWork, AwaitsMoveWork}
+use Rattle.nm_migrator_parts.specs.declared.parts.CoolWork.{CoolWork}
+use Rattle.nm_migrator_parts.specs.declared.parts.BatchWork.{BatchWork}
+use Rattle.nm_migrator_parts.specs.declared.parts.MoveWork.{MoveWork}
+use Rattle.nm_migrator_parts.specs.Wrapped.{BatchData, MoveData, cool_work_made, IsNewCoolWork, batch_work_made, IsNewBatchWork, MayBatchWork, IsBatchWork, BatchWorkLeaves, move_work_made, IsNewMoveWork, MayMoveWork, IsMoveWork, MoveWorkLeaves, LooksAwaits, AwaitsCoolWork, AwaitsBatchWork, AwaitsMoveWork}
 use Rattle.nm_drawing.specs.declared.drawing.Drawn.{Drawn}
-use Rattle.nm_drawing.specs.Draws.{MayDraw, IsDrawingList, IsDrawnLeft}
 use Rattle.nm_migrator_work.specs.declared.work.MigratorWork.{MigratorWork}
 use Rattle.nm_migrator_work.specs.declared.work.MigratorWork.TheVariants as works
 use Rattle.nm_migrator_work.specs.Kinds.{made_by, IsNewBy, MayBy, IsListBy, LeavesBy, AwaitsBy, EndedBy}
@@ -87,28 +80,6 @@ made_ask g = works.Ask g.cpus
 
 abbrev pub MigratorWorkEnd : Type 0
 MigratorWorkEnd = MigratorWork Reply Seen Cooled (Drawn (List TxnEnd)) (Drawn LockedOver) Bool
-
--- A batch that draws.
-
-abbrev pub MayBatchWork : BatchData → Geometry → View → Type 0
-MayBatchWork made g view = MayDraw (MayBatch made.0.0 (batch_made made.0.1) g view) made.1 view
-
-abbrev pub IsBatchWork : BatchData → Geometry → Own → Drawn (List TxnEnd) → Type 0
-IsBatchWork made g own told = IsDrawingList (λ ends. IsBatch (batch_made made.0.1) g own ends) made.1 own told
-
-abbrev pub BatchWorkLeaves : BatchData → Geometry → View → Drawn (List TxnEnd) → View → Type 0
-BatchWorkLeaves made g view told left = IsDrawnLeft (λ ends. IsBatchLeft (batch_made made.0.1) view ends left) left told
-
--- A locked move that draws.
-
-abbrev pub MayMoveWork : MoveData → Geometry → View → Type 0
-MayMoveWork made g view = MayDraw (MayChoose made.0.0 made.0.1 g view) made.1 view
-
-abbrev pub IsMoveWork : MoveData → Geometry → Own → Drawn LockedOver → Type 0
-IsMoveWork made g own told = IsDrawingList (λ over. IsLockedInMove made.0.1 g own over.end) made.1 own told
-
-abbrev pub MoveWorkLeaves : MoveData → Geometry → View → Drawn LockedOver → View → Type 0
-MoveWorkLeaves made g view told left = IsDrawnLeft (λ over. IsLockedLeft made.0.1 view over.end left) left told
 
 -- a work may begin
 abbrev pub MayMigratorWork : MigratorWorkMade → Geometry → View → Type 0

@@ -4,7 +4,6 @@ ghost use Rattle.std.specs.Prelude.{◌≡◌, ◌≢◌, []};
 ghost use Rattle.nm_vpages.specs.VPages.{vpages_of};
 ghost use Rattle.nm_migrator_work.specs.Works.{migrator_work_made, made_mark, made_looks, made_cool, made_batch, made_move, made_ask, IsNewMigratorWork};
 
-use crate::parts::{BatchWork, CoolWork, MoveWork};
 use crate::work::MigratorWork;
 use nm_base::Geometry;
 use nm_batch::PieceList;
@@ -15,6 +14,7 @@ use nm_ended::{AskEnded, AskPart};
 use nm_event::{Action, Reply, Spent};
 use nm_locked::LockedOver;
 use nm_looks::{Looks, LooksPart, Seen};
+use nm_migrator_parts::{BatchWork, CoolWork, MoveWork};
 use nm_transfer::TakenWords;
 use nm_txn::TxnEnd;
 use nm_vpages::VPageSet;

@@ -18,13 +18,18 @@ use nm_schedule::SimTurn;
 use nm_script::Script;
 use std::alloc::{AllocError, Global};
 use std::marker::Model;
+use std::mem::size_of;
+
+// The lists of a run grow with it, so their entries are small.
+const _: () = prove!(size_of::<Event>() <= 64);
+const _: () = prove!(size_of::<SimTurn>() <= 32);
 
 /// The run of a script.
 #[derive(Debug, Drop)]
 pub struct SimRun {
-    /// The events, in order.
+    /// The events, in order, each of at most 64 bytes.
     pub events: Vec<Event>,
-    /// The turns, in order.
+    /// The turns, in order, each of at most 32 bytes.
     pub order: Vec<SimTurn>,
     /// For each processor what the lines of its program gave, in order, as far as they were made.
     pub results: Vec<Vec<LineResult>>,

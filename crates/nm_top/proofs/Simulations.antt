@@ -32,7 +32,7 @@ HoldsOfSimulation-run s run is made =
       tiers = made.simulated.tiers;
       settled = made.simulated.ends.settled;
       ended = λ all. made.simulated.ends.settled.1 (settled-run s run is.geometry made all);
-      all_turns = λ no. unsettled-run s run is.geometry made (λ settled. no (made.simulated.ends.settled.1 settled));
+      all_turns = λ unsettled. unsettled-run s run is.geometry made (λ settled. unsettled (made.simulated.ends.settled.1 settled));
     }
 
 -- the report of a run that was made

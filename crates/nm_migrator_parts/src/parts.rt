@@ -1,18 +1,20 @@
 //! The larger parts of the migrator's work: each tells of itself by names.
 
 ghost use Rattle.std.specs.Prelude.{◌≡◌, ◌≢◌, []};
-ghost use Rattle.nm_migrator_work.specs.Wrapped.{cool_work_made, IsNewCoolWork, batch_work_made, IsNewBatchWork, move_work_made, IsNewMoveWork};
+ghost use Rattle.nm_migrator_parts.specs.Wrapped.{cool_work_made, IsNewCoolWork, batch_work_made, IsNewBatchWork, move_work_made, IsNewMoveWork};
 
 use nm_base::Geometry;
-use nm_batch::{Batch, BatchAsked, PieceList};
+use nm_batch::{BatchAsked, PieceList};
+use nm_batch_run::BatchRun;
 use nm_compose::Composite;
 use nm_cool::{Cool, CoolPiece, Cooled};
 use nm_drawing::{Drawing, Drawn};
 use nm_event::{Action, Reply, Spent, Step};
-use nm_locked::{ChooseMade, Locked, LockedOver, LockedPiece};
+use nm_locked::{ChooseMade, LockedOver};
+use nm_locked_run::LockedRun;
 use nm_part::{Part, Piece};
 use nm_transfer::TakenWords;
-use nm_txn::{TxnEnd, TxnPiece};
+use nm_txn::TxnEnd;
 
 /// The cooling of a candidate, as a part.
 #[derive(Drop)]
@@ -23,18 +25,18 @@ pub struct CoolWork<'a> {
 /// A batch of transactions, as a part that tells what it has drawn.
 #[derive(Drop)]
 pub struct BatchWork<'a> {
-    run: Drawing<Composite<Batch<'a>, TxnPiece<'a>>>,
+    run: Drawing<BatchRun<'a>>,
 }
 
 /// A locked move, as a part that tells what it has drawn.
 #[derive(Drop)]
 pub struct MoveWork<'a> {
-    run: Drawing<Composite<Locked<'a>, LockedPiece<'a>>>,
+    run: Drawing<LockedRun<'a>>,
 }
 
 impl<'a> CoolWork<'a> {
     /// The cooling of a page.
-    pub(crate) fn new(g: &'a Geometry, page: u32) -> CoolWork<'a>
+    pub fn new(g: &'a Geometry, page: u32) -> CoolWork<'a>
         ensures made { cool_work_made result ≡ record { 0 = g.now; 1 = page } }
         ensures new { IsNewCoolWork result }
     {
@@ -46,21 +48,21 @@ impl<'a> CoolWork<'a> {
 
 impl<'a> BatchWork<'a> {
     /// The batch of these pieces, by an actor that has drawn so much. Condition: there is a piece.
-    pub(crate) fn new(g: &'a Geometry, pieces: PieceList<(u32, u32)>, spent: Spent) -> BatchWork<'a>
+    pub fn new(g: &'a Geometry, pieces: PieceList<(u32, u32)>, spent: Spent) -> BatchWork<'a>
         requires { pieces ≢ [] }
         ensures made { batch_work_made result ≡ record { 0 = record { 0 = g.now; 1 = record { pieces = pieces; spent = spent } }; 1 = spent } }
         ensures new { IsNewBatchWork result }
     {
-        let plan = Batch::new(g, BatchAsked { pieces, spent });
+        let run = BatchRun::new(g, BatchAsked { pieces, spent });
         BatchWork {
-            run: Drawing::new(Composite::new(plan), spent),
+            run: Drawing::new(run, spent),
         }
     }
 }
 
 impl<'a> MoveWork<'a> {
     /// The locked move of a page with this count, by an actor that has drawn so much.
-    pub(crate) fn new(
+    pub fn new(
         g: &'a Geometry,
         page: u32,
         count: u32,
@@ -70,9 +72,9 @@ impl<'a> MoveWork<'a> {
         ensures made { move_work_made result ≡ record { 0 = record { 0 = g.now; 1 = record { page = page; count = count; spent = spent } }; 1 = spent } }
         ensures new { IsNewMoveWork result }
     {
-        let plan = Locked::new(g, page, count, spent, taken);
+        let run = LockedRun::new(g, ChooseMade { page, count, spent }, taken);
         MoveWork {
-            run: Drawing::new(Composite::new(plan), spent),
+            run: Drawing::new(run, spent),
         }
     }
 }
@@ -83,7 +85,7 @@ impl<'a> Part for CoolWork<'a> {
     type Made = (Geometry, u32);
 
     ghost use Rattle.nm_cool.specs.Cooling.{IsCooling, MayCool, IsCooledLeft};
-    ghost use Rattle.nm_migrator_work.specs.Wrapped.{cool_work_made, IsNewCoolWork, AwaitsCoolWork};
+    ghost use Rattle.nm_migrator_parts.specs.Wrapped.{cool_work_made, IsNewCoolWork, AwaitsCoolWork};
 
     ghost made = { cool_work_made };
 
@@ -119,8 +121,7 @@ impl<'a> Part for BatchWork<'a> {
 
     type Made = ((Geometry, BatchAsked), Spent);
 
-    ghost use Rattle.nm_migrator_work.specs.Works.{MayBatchWork, IsBatchWork, BatchWorkLeaves};
-    ghost use Rattle.nm_migrator_work.specs.Wrapped.{batch_work_made, IsNewBatchWork, AwaitsBatchWork};
+    ghost use Rattle.nm_migrator_parts.specs.Wrapped.{batch_work_made, IsNewBatchWork, MayBatchWork, IsBatchWork, BatchWorkLeaves, AwaitsBatchWork};
 
     ghost made = { batch_work_made };
 
@@ -156,8 +157,7 @@ impl<'a> Part for MoveWork<'a> {
 
     type Made = ((Geometry, ChooseMade), Spent);
 
-    ghost use Rattle.nm_migrator_work.specs.Works.{MayMoveWork, IsMoveWork, MoveWorkLeaves};
-    ghost use Rattle.nm_migrator_work.specs.Wrapped.{move_work_made, IsNewMoveWork, AwaitsMoveWork};
+    ghost use Rattle.nm_migrator_parts.specs.Wrapped.{move_work_made, IsNewMoveWork, MayMoveWork, IsMoveWork, MoveWorkLeaves, AwaitsMoveWork};
 
     ghost made = { move_work_made };
 

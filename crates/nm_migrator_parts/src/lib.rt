@@ -1,0 +1,6 @@
+//! The larger parts of the migrator's work.
+#![tactic(auto)]
+
+pub mod parts;
+
+pub use parts::{BatchWork, CoolWork, MoveWork};

@@ -1,0 +1,4 @@
+pub mod Actors
+pub mod Ends
+pub mod OneSim
+pub mod Routines

@@ -1,0 +1,4 @@
+//! A script has one run.
+#![tactic(auto)]
+
+pub mod single;
