@@ -1,6 +1,5 @@
 //! A migrator that is resumed after its End.
 
-
 use nm_action::{Heard, Tally, Turn};
 use nm_actor::Actor;
 use nm_base::Geometry;
