@@ -15,7 +15,9 @@ use Rattle.nm_demote_task.specs.declared.task.DemoteTask.{DemoteTask}
 use Rattle.nm_demote.specs.Selections.{MayDemote}
 use Rattle.nm_demote.specs.Demotions.{IsDemotion}
 use Rattle.nm_demote.specs.Leaving.{IsDemoteLeft}
-use Rattle.nm_demote_task.specs.Tasks.{DemoteData, DemoteRun, demote_task_made, IsDemotionFor, IsNewDemoteRun, AwaitsDemoteRun, CountsFreed, IsDemotionAwaited, IsDemotionEnded}
+use Rattle.nm_demote_run.specs.declared.run.DemoteRun.{DemoteRun}
+use Rattle.nm_demote_run.specs.Runs.{DemoteData}
+use Rattle.nm_demote_task.specs.Tasks.{demote_task_made, IsDemotionFor, HasNewDemotion, AwaitsDemoteRun, CountsFreed, IsDemotionAwaited, IsDemotionEnded}
 
 -- the finished lists of the demotion inside, and of the task
 abbrev pub RunShape : DemoteData → Geometry → Own → DemoteOver → Type 0
@@ -26,8 +28,8 @@ TaskShape made g own end = IsDemotion made.1 g own end
 
 -- the demotion of new work is for that work
 pub new-run : (is_new : DemoteRun → Type 0) (made_by : DemoteRun → DemoteData) (made : DemoteData) (work : Option DemoteRun) (run : DemoteRun)
-    → work ≡ Some run → IsNewDemoteRun is_new made_by made work → IsDemotionFor (is_new run) made (made_by run)
-new-run is_new made_by made work run is new = let W : Option DemoteRun → Type 0 = λ w. IsNewDemoteRun is_new made_by made w in subst W is new
+    → work ≡ Some run → HasNewDemotion is_new made_by made work → IsDemotionFor (is_new run) made (made_by run)
+new-run is_new made_by made work run is new = let W : Option DemoteRun → Type 0 = λ w. HasNewDemotion is_new made_by made w in subst W is new
 
 -- what is awaited, the demotion awaits
 pub awaited-run : (awaits : DemoteRun → Geometry → View → Own → Action → Type 0) (made_by : DemoteRun → DemoteData) (made : DemoteData) (work : Option DemoteRun) (run : DemoteRun) (g : Geometry) (view : View) (own : Own) (action : Action)

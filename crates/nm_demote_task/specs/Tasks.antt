@@ -4,19 +4,11 @@ use Rattle.nm_base.specs.Geometry.{Geometry}
 use Rattle.nm_action.specs.declared.action.Action.{Action}
 use Rattle.nm_action.specs.Own.{Own}
 use Rattle.nm_view.specs.Views.{View}
-use Rattle.nm_compose.specs.declared.composite.Composite.{Composite}
 use Rattle.nm_obtain.specs.FreedCounts.{HasCounted}
 use Rattle.nm_transfer.specs.Stages.{HoldsWords}
-use Rattle.nm_demote.specs.declared.select.DemoteMade.{DemoteMade}
-use Rattle.nm_demote.specs.declared.demote.Demote.{Demote}
+use Rattle.nm_demote_run.specs.declared.run.DemoteRun.{DemoteRun}
+use Rattle.nm_demote_run.specs.Runs.{DemoteData}
 use Rattle.nm_demote_task.specs.declared.task.DemoteTask.{DemoteTask}
-use Rattle.nm_demote.specs.Pieces.{DemotePiece}
-
-abbrev pub DemoteData : Type 0
-DemoteData = Geometry × DemoteMade
-
-abbrev pub DemoteRun : Type 0
-DemoteRun = Composite Demote DemotePiece
 
 -- what it was begun with, in which geometry
 abbrev pub demote_task_made : DemoteTask → DemoteData
@@ -35,9 +27,9 @@ pub record IsDemotionFor (holds : Type 0) (made run : DemoteData) : Type 0 where
   pub for : run ≡ made
 
 -- it has given no action
-abbrev pub IsNewDemoteRun : (DemoteRun → Type 0) → (DemoteRun → DemoteData) → DemoteData → Option DemoteRun → Type 0
-IsNewDemoteRun is_new made_by made None = ⊥
-IsNewDemoteRun is_new made_by made (Some run) = IsDemotionFor (is_new run) made (made_by run)
+abbrev pub HasNewDemotion : (DemoteRun → Type 0) → (DemoteRun → DemoteData) → DemoteData → Option DemoteRun → Type 0
+HasNewDemotion is_new made_by made None = ⊥
+HasNewDemotion is_new made_by made (Some run) = IsDemotionFor (is_new run) made (made_by run)
 
 -- it awaits the answer to an action
 abbrev pub AwaitsDemoteRun : (DemoteRun → Geometry → View → Own → Action → Type 0) → (DemoteRun → DemoteData) → DemoteData → Option DemoteRun → Geometry → View → Own → Action → Type 0
@@ -51,7 +43,7 @@ pub record CountsFreed (t : DemoteTask) (own : Own) : Type 0 where
 
 -- the demotion has given no action
 pub record IsNewDemotion (is_new : DemoteRun → Type 0) (made_by : DemoteRun → DemoteData) (t : DemoteTask) : Type 0 where
-  pub run : IsNewDemoteRun is_new made_by (demote_task_made t) t.run
+  pub run : HasNewDemotion is_new made_by (demote_task_made t) t.run
   pub counts : CountsFreed t []
 
 -- the demotion awaits the answer to an action, which the task gave last

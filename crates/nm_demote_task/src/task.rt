@@ -6,16 +6,13 @@ ghost use Rattle.nm_obtain.specs.Freed.{freed_inside};
 ghost use Rattle.nm_demote_task.specs.Tasks.{demote_task_made, IsDemoteIdle, IsNewDemotion, CountsFreed};
 
 use nm_base::Geometry;
-use nm_compose::Composite;
-use nm_demote::{Demote, DemoteEnd, DemoteMade, DemotePiece};
+use nm_demote::{DemoteEnd, DemoteMade};
+use nm_demote_run::DemoteRun;
 use nm_event::{Action, Reply, Spent, Step};
 use nm_obtain::FreedCount;
 use nm_part::{Part, Piece};
 use nm_transfer::TakenWords;
 use std::alloc::{AllocError, Global};
-
-/// The demotion that a task runs.
-pub type DemoteRun<'a> = Composite<Demote<'a>, DemotePiece<'a>>;
 
 /// A demotion of a page: it is moved to a slower tier while it is out of the table, by its shadow where it has one. It is
 /// begun once for each demotion. It takes memory when it is made, for the words that a demotion takes, and none after that.
@@ -61,8 +58,7 @@ impl<'a> DemoteTask<'a> {
         };
         self.made = DemoteMade { page, spent };
         self.freed = FreedCount::new(page);
-        let plan = Demote::new(self.geometry, page, spent, taken);
-        self.run = Some(Composite::new(plan));
+        self.run = Some(DemoteRun::new(self.geometry, page, spent, taken));
     }
 
     /// How many shadows were reclaimed in the search for a frame so far, by the own list since the work began; a count that
