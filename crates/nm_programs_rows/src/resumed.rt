@@ -1,5 +1,7 @@
 //! A migrator that is resumed after its End.
 
+ghost use Rattle.std.specs.Prelude.{◌≡◌};
+
 use nm_action::{Heard, Tally, Turn};
 use nm_actor::Actor;
 use nm_base::Geometry;
