@@ -1,0 +1,4 @@
+//! The run of a script is the only one.
+#![tactic(auto)]
+
+pub mod script;
