@@ -22,6 +22,7 @@ use std::mem::size_of;
 
 // The lists of a run grow with it, so their entries are small.
 const _: () = prove!(size_of::<Event>() <= 64);
+
 const _: () = prove!(size_of::<SimTurn>() <= 32);
 
 /// The run of a script.

@@ -2,4 +2,6 @@
 #![tactic(auto)]
 
 #[cfg(test)]
+mod resumed;
+#[cfg(test)]
 mod rows;

@@ -3,9 +3,11 @@
 ghost use Rattle.std.specs.Prelude.{◌≡◌};
 ghost use Rattle.nm_schedule_rows.specs.Listed.{IsSmall};
 
+use crate::resumed::ResumedOnce;
 use nm_action::{Action, Turn};
 use nm_actor::Actor;
 use nm_base::Geometry;
+use nm_migrator::MigratorActor;
 use nm_programs::run_programs;
 use nm_report::{Report, print};
 use nm_schedule_rows::listed::Listed;
@@ -50,6 +52,28 @@ fn reported(rt: &impl Abort, alloc: Global, text: &[u8]) -> Result<Vec<u8>, Fail
     Ok(print(alloc, &report)?)
 }
 
+/// The same, with the migrator itself, which is resumed once after its End.
+fn resumed(rt: &impl Abort, alloc: Global, text: &[u8]) -> Result<Vec<u8>, Fail> {
+    assert!(rt; text.len() < 1000000);
+    let script = parse(alloc, text)?;
+    let g = &script.geometry;
+    assert!(rt; g.cpus == 1);
+    assert!(rt; g.vpages.len() == 1);
+    let migrator = ResumedOnce {
+        migrator: MigratorActor::new(alloc, g, script.retry)?,
+        again: false,
+    };
+    let reclaimer = waiting(g, 2);
+    let run = run_programs(alloc, &script, migrator, reclaimer)?;
+    let report = Report {
+        script: &script,
+        results: &run.results,
+        end: &run.end,
+        tally: run.tally,
+    };
+    Ok(print(alloc, &report)?)
+}
+
 /// The lines of a report after those of the processor.
 const REST: &[u8] = b"tier 0 free 3 mapped 1 shadow 0 held 0 of 4
 tier 1 free 8 mapped 0 shadow 0 held 0 of 8
@@ -74,6 +98,8 @@ fn reports(rt: &impl Abort, alloc: Global, program: &[u8], made: &[u8]) -> Resul
     report.extend_from_slice(REST)?;
     let found = reported(rt, alloc, &text)?;
     assert!(rt; found == report);
+    let again = resumed(rt, alloc, &text)?;
+    assert!(rt; again == report);
     Ok(())
 }
 

@@ -12,6 +12,7 @@ use Rattle.nm_sched.specs.Plain.{SimRun}
 use Rattle.nm_sched.specs.Runs.{IsRunOfScript, report_of}
 use Rattle.nm_schedule.specs.Played.{has_ended}
 use Rattle.nm_settled_run.proofs.Settling.{settled-run, unsettled-run}
+use Rattle.nm_one_script.proofs.OneScript.{one-script}
 use Rattle.nm_top.specs.Output.{HoldsAtStep, HoldsOfSimulation, IsReportOf, IsSummary}
 use Rattle.nm_top.proofs.Processors.{accesses-below}
 
@@ -37,7 +38,7 @@ HoldsOfSimulation-run s run is made =
 
 -- the report of a run that was made
 pub IsReportOf-made : (s : Script) (run : SimRun) (r : Report) (text : List ℕ) → IsRunOfScript s run → HoldsOfSimulation s run → r ≡ report_of s run → text ≡ report_text r → IsReportOf s text
-IsReportOf-made s run r text made holds same is = record { run = run; scheduled = made; holds = holds; printed = is ∙ ap report_text same }
+IsReportOf-made s run r text made holds same is = record { run = run; scheduled = made; only = λ other h. one-script s other run h made; holds = holds; printed = is ∙ ap report_text same }
 
 -- the summary of a run that was made
 pub IsSummary-made : (n size : ℕ) (s : Script) (run : SimRun) (r : Report) (text : List ℕ) → s ≡ generated n size → IsRunOfScript s run → HoldsOfSimulation s run → r ≡ report_of s run
@@ -45,6 +46,7 @@ pub IsSummary-made : (n size : ℕ) (s : Script) (run : SimRun) (r : Report) (te
 IsSummary-made n size s run r text drawn made holds same is = record {
   run = run;
   scheduled = subst (λ (t : Script). IsRunOfScript t run) drawn made;
+  only = subst (λ (t : Script). (other : SimRun) → IsRunOfScript t other → other ≡ run) drawn (λ other h. one-script s other run h made);
   holds = subst (λ (t : Script). HoldsOfSimulation t run) drawn holds;
   printed = is ∙ ap (summary_text n size) (same ∙ ap (λ (t : Script). report_of t run) drawn);
 }

@@ -55,10 +55,12 @@ pub record HoldsOfSimulation (s : Script) (run : SimRun) : Type 0 where
   -- it says no only after all turns of the schedule
   pub all_turns : ¬ IsTrue run.end.settled → run.turns ≡ most_turns s.schedule
 
--- A run of a script as its schedule and the actors say, what is true of it, and a text that tells of it in this way.
+-- The run of a script as its schedule and the actors say, what is true of it, and a text that tells of it in this way.
 pub record TellsOfRun (s : Script) (told : SimRun → List ℕ) (text : List ℕ) : Type 0 where
   pub run : SimRun
   pub scheduled : IsRunOfScript s run
+  -- a script has one run
+  pub only : (other : SimRun) → IsRunOfScript s other → other ≡ run
   pub holds : HoldsOfSimulation s run
   pub printed : text ≡ told run
 

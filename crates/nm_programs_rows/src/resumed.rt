@@ -1,0 +1,50 @@
+//! A migrator that is resumed after its End.
+
+use nm_action::{Heard, Tally, Turn};
+use nm_actor::Actor;
+use nm_base::Geometry;
+use nm_migrator::MigratorActor;
+
+/// A migrator that is resumed once, when it gives End: its End is the second one.
+#[derive(Drop)]
+pub(crate) struct ResumedOnce<'a> {
+    pub(crate) migrator: MigratorActor<'a>,
+    /// Whether it was resumed.
+    pub(crate) again: bool,
+}
+
+impl<'a> Actor for ResumedOnce<'a> {
+    type Made = Geometry;
+
+    ghost use Rattle.std.specs.Prelude.{[], refl};
+    ghost use Rattle.nm_migrator.specs.Parts.{migrator_made, migrator_number, worker_counted, IsNewMigrator, AgreesMigrator};
+
+    ghost made = { λ r. (migrator_made r.migrator).0 };
+
+    ghost geometry = { λ g. g };
+
+    ghost number = { migrator_number };
+
+    ghost is_new = { λ r. IsNewMigrator r.migrator };
+
+    ghost agrees = { λ r. AgreesMigrator r.migrator };
+
+    ghost counted = { λ r. worker_counted r.migrator.worker };
+
+    fn next(&mut self, heard: Heard) -> Turn {
+        let turn = self.migrator.next(heard);
+        let Turn::End = turn else { return turn };
+        if self.again {
+            return turn;
+        }
+        self.again = true;
+        self.migrator.resume();
+        self.migrator.next(Heard::Start)
+    }
+
+    fn tally(&self) -> Tally {
+        self.migrator.tally()
+    }
+
+    ghost opens = { λ r new. record { worker = record { notes = []; is = refl; next = new.worker.can; events = new.worker.events; ends = new.worker.ends; pages = new.worker.pages; drawn = new.worker.drawn; few = new.worker.few; at = new.worker.next }; part = new.part; empty = tt } };
+}
