@@ -105,7 +105,7 @@ pub record TookThen (page : ℕ) (old new : Known) : Type 0 where
   pub first : slice_get (pages_at old between) 0 ≡ Some page
   pub is : new ≡ with_move (took page) between old
 
--- at a moment the queue held so many pages
+-- after some history that goes on so the queue holds so many pages; where the pass is alone that is the history itself
 pub record HeldThen (n : ℕ) (k : Known) : Type 0 where
   pub between : History
   pub moment : IsMoment k between
@@ -116,7 +116,7 @@ pub record IsPushed (capacity page : ℕ) (old new : PassState) : Type 0 where
   pub known : PutThen capacity page old.known new.known
   pub is : new ≡ record old { known = new.known }
 
--- a push found the queue full at a moment of the call: the count of these is one more, and nothing else has changed
+-- a push was refused: after some history the queue is full, the count of these is one more, and nothing else has changed
 pub record IsPushRefused (capacity : ℕ) (old new : PassState) : Type 0 where
   pub full : HeldThen capacity old.known
   pub is : new ≡ record old { fulls = next_count old.fulls }
@@ -131,7 +131,7 @@ pub record IsPopped (page : ℕ) (old new : PassState) : Type 0 where
   pub known : TookThen page old.known new.known
   pub is : new ≡ record old { known = new.known }
 
--- a pop found the queue empty at a moment of the call: the count of these is one more, and nothing else has changed
+-- a pop was refused: after some history the queue is empty, the count of these is one more, and nothing else has changed
 pub record IsPopRefused (old new : PassState) : Type 0 where
   pub empty : HeldThen 0 old.known
   pub is : new ≡ record old { empties = next_count old.empties }
