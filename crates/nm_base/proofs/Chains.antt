@@ -20,21 +20,6 @@ mapped_below vs page v e = elim (cases_lt v (length vs)) [
   | inr past ↦ absurd (none_past vs page v past e)
 ]
 
-get_or-none : (n i : ℕ) → get_or (replicate {A = Option ℕ} n None) i None ≡ None
-get_or-none n i = elim (cases_lt i n) [
-  | inl low ↦ get_or-replicate n i None None low
-  | inr past ↦ get_or_past (replicate {A = Option ℕ} n None) i None (omega (arith, length-replicate {A = Option ℕ} n None, past))
-]
-
--- nothing is linked yet
-pub chains-start : (vs : List (Option VPage)) → AreChains vs (length vs) (replicate (pages_of vs) None) (replicate (length vs) None)
-chains-start vs = record {
-  pages = length-replicate (pages_of vs) None;
-  vpages = length-replicate (length vs) None;
-  least = λ page. subst (IsNextIn vs page (length vs)) (sym (get_or-none (pages_of vs) page)) (λ v past. none_past vs page v past);
-  after = λ v page past e. absurd (none_past vs page v past e);
-}
-
 -- what there is from one virtual page on, where that one is not of the page
 next-skips : (vs : List (Option VPage)) (page i : ℕ) (next : Option ℕ) → backing_among vs i ≢ Some page → IsNextIn vs page (i + 1) next → IsNextIn vs page i next
 next-skips vs page i None other h = λ v ge e. elim (cases_eq v i) [
@@ -49,20 +34,6 @@ next-skips vs page i (Some n) other h = record {
     | inr differ ↦ h.least u (omega arith) e
   ];
 }
-
--- a virtual page that is not mapped is not linked
-pub chains-skip : (vs : List (Option VPage)) (i : ℕ) (first next : List (Option ℕ)) → get_or vs i None ≡ None → AreChains vs (i + 1) first next → AreChains vs i first next
-chains-skip vs i first next none h =
-    let nothing : backing_among vs i ≡ None = ap (option_map (λ (p : VPage). p.page)) none in
-    record {
-      pages = h.pages;
-      vpages = h.vpages;
-      least = λ page. next-skips vs page i (get_or first page None) (λ e. cc) (h.least page);
-      after = λ v page ge e. elim (cases_eq v i) [
-        | inl same ↦ let here : backing_among vs i ≡ Some page = subst (λ (n : ℕ). backing_among vs n ≡ Some page) same e in absurd (cc)
-        | inr differ ↦ h.after v page (omega arith) e
-      ];
-    }
 
 -- the first virtual page is itself the next one from it on
 next-here : (vs : List (Option VPage)) (page i : ℕ) → backing_among vs i ≡ Some page → IsNextIn vs page i (Some i)
@@ -138,4 +109,4 @@ pub chains-linked : (vs : List (Option VPage)) (i j : ℕ) (first next now then 
     → now ≡ set first p.page (Some i) → then ≡ set next i (get_or first p.page None) → AreChains vs i now then
 chains-linked vs i j first next now then p e is h f n =
     subst (λ (l : List (Option ℕ)). AreChains vs i l then) (sym f)
-        (subst (AreChains vs i (set first p.page (Some i))) (sym n) (chains-link vs i first next p is (subst (λ (k : ℕ). AreChains vs k first next) e h)))
+    (subst (AreChains vs i (set first p.page (Some i))) (sym n) (chains-link vs i first next p is (subst (λ (k : ℕ). AreChains vs k first next) e h)))

@@ -2,7 +2,7 @@
 use Rattle.std.proofs.Common.{◌≡◌, ◌≢◌, ℕ, zero, suc, ◌+◌, ◌-◌, ◌<◌, ◌≤◌, cond, Bool, true, false, inl, inr, List, [], ◌∷◌, ◌++◌, length, get_or, take, Option, Some, None, refl, sym, ap, ◌∙◌, subst, arith}
 use Rattle.std.proofs.Math.Seq.{take-length}
 use Rattle.std.proofs.lemmas.Bool.{cases_lt}
-use Rattle.std.proofs.lemmas.Grind.{nat_tests}
+use Rattle.std.proofs.lemmas.Bool.Decides.{nat_tests}
 use Rattle.std.proofs.lemmas.List.{take_more, append-nil, get_or_past}
 use Rattle.std.proofs.lemmas.List.Elements.{All-nil, All-cons}
 use Rattle.std.proofs.Common.{length-take-le}
@@ -64,7 +64,7 @@ vpages-skip page vs i (suc n) low none =
     let not = mapped-no page (get_or vs (i + n) None) (none (i + n) (omega arith) (omega arith)) in
     ap (λ (k : ℕ). vpages_among page (take k vs) 0) at
     ∙ more
-    ∙ ap (λ (t : Bool). vpages_among page (take (i + n) vs) 0 ++ cond t (i + n ∷ []) []) not
+    ∙ ap (λ (t : Bool). vpages_among page (take (i + n) vs) 0 ++ cond t ((i + n) ∷ []) []) not
     ∙ append-nil (vpages_among page (take (i + n) vs) 0)
     ∙ vpages-skip page vs i n (omega arith) (λ v ge lt. none v ge (omega arith))
 

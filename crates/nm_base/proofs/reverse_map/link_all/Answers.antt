@@ -9,5 +9,5 @@ link-requires-clause-page c = omega (arith, mapped_below_pages c.args.vpages.now
 pub loop-vpage-preserved-in-Some : goal.loop-vpage-preserved-in-Some
 loop-vpage-preserved-in-Some c =
     let chains = chains-linked c.args.vpages.now (c.loop-vpage.vpage - 1) c.loop-vpage.vpage c.loop-vpage.first c.loop-vpage.next c.link.new.first c.link.new.next c.in-Some.mapped
-        (omega (arith, c.loop-vpage-test.true)) c.in-Some.is c.loop-vpage.invariant.chains c.link.ensures.first c.link.ensures.next in
+    (omega (arith, c.loop-vpage-test.true)) c.in-Some.is c.loop-vpage.invariant.chains c.link.ensures.first c.link.ensures.next in
     record { within = omega (arith, c.loop-vpage.invariant.within); chains = chains }

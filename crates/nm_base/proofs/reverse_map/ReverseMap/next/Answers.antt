@@ -9,7 +9,7 @@ loop-at-smaller c =
     let there = come_to vs c.args.page c.args.from c.in-Some.vpage c.loop-at.at c.loop-at.invariant c.in-Some.is in
     let after = next-after vs m.first.items m.next.items c.args.page c.in-Some.vpage c.index-at.result.now c.requires.map there c.index-at.ensures in
     subst (λ (at : Option ℕ). left_at (length vs) c.index-at.result.now < left_at (length vs) at) (sym c.in-Some.is)
-        (left_at-less vs c.args.page c.in-Some.vpage c.index-at.result.now (mapped_below vs c.args.page c.in-Some.vpage there) after)
+    (left_at-less vs c.args.page c.in-Some.vpage c.index-at.result.now (mapped_below vs c.args.page c.in-Some.vpage there) after)
 
 pub loop-at-preserved : goal.loop-at-preserved
 loop-at-preserved c =

@@ -18,4 +18,4 @@ pub loop-vpage-smaller : goal.loop-vpage-smaller
 loop-vpage-smaller c = omega (arith, vpage-within c.args.g.now.vpages c.args.page c.loop-vpage.from c.in-Some.vpage c.in-Some.ensures.some, c.in-Some.ensures.some.from)
 
 pub returns : goal.returns
-returns c = let h = c.loop-vpage-test in ?
+returns c = c.loop-vpage.invariant.pages ∙ vpages-over c.args.page c.args.g.now.vpages c.loop-vpage.from c.loop-vpage.invariant.within c.in_default.ensures.none
