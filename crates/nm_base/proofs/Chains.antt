@@ -1,10 +1,10 @@
 -- The virtual pages of each backing page, in chains.
-use Rattle.std.proofs.Common.{◌≡◌, ◌≢◌, ℕ, ◌+◌, ◌-◌, ◌<◌, ◌≤◌, List, length, get_or, set, replicate, Option, Some, None, inl, inr, refl, sym, ap, ◌∙◌, subst, arith, length-set}
+use Rattle.std.proofs.Common.{◌≡◌, ◌≢◌, ℕ, ◌+◌, ◌-◌, ◌<◌, ◌≤◌, List, length, get_or, set, Option, Some, None, inl, inr, sym, ap, ◌∙◌, subst, arith, length-set}
 use Rattle.std.proofs.lemmas.Bool.{cases_eq, cases_lt}
-use Rattle.std.proofs.lemmas.List.{length-replicate, get_or-replicate, get_or-set_same, get_or-set_other, get_or_past, get_or_default}
+use Rattle.std.proofs.lemmas.List.{get_or-set_same, get_or-set_other, get_or_past, get_or_default}
 use Rattle.std.specs.Prelude.{option_map}
 use Rattle.nm_base.specs.declared.geometry.VPage.{VPage}
-use Rattle.nm_base.specs.Geometry.{IsNextVPage, backing_among, pages_of}
+use Rattle.nm_base.specs.Geometry.{backing_among}
 use Rattle.nm_base.specs.Chains.{IsNextIn, IsNextFromBelow, AreChains}
 use Rattle.nm_base.proofs.Pages.{backing_among-lt}
 

@@ -1,4 +1,4 @@
-use Rattle.std.proofs.Common.{◌≡◌, ◌<◌, ℕ, length, Option, sym, subst, arith}
+use Rattle.std.proofs.Common.{◌<◌, ℕ, length, Option, sym, subst, arith}
 use Rattle.nm_base.proofs.Chains.{left_at, left_at-less, come_to, mapped_below, next-after, start-after}
 use Rattle.nm_base.proofs.reverse_map.ReverseMap.next.Goals as goal
 
