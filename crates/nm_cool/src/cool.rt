@@ -158,7 +158,7 @@ fn arms<'a>(plan: VisitPlan) -> CoolPiece<'a>
     ensures made { cool_piece_made result ≡ Or.Other (Or.Other plan.made) }
     ensures new { IsNewCoolPiece result }
 {
-    Or::Other(Or::Other(Composite::new(plan)))
+    Or::Other(Or::Other(Visits::new(plan)))
 }
 
 impl<'a> Plan<CoolPiece<'a>> for Cool<'a> {
