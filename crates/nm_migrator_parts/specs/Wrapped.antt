@@ -16,7 +16,7 @@ use Rattle.nm_txn.specs.declared.end.TxnEnd.{TxnEnd}
 use Rattle.nm_txn.specs.Tasks.{ActAwaits, VisitsAwaits}
 use Rattle.nm_cool.specs.Cooling.{CoolData, IsCooling, MayCool}
 use Rattle.nm_cool.specs.Stages.{cool_data, cool_piece_made, IsNewCoolPiece, MayCoolPiece, IsCoolPiece, cool_left, cool_stages}
-use Rattle.nm_batch_run.specs.Runs.{BatchRunMade, batch_run_made, IsNewBatchRun, MayBatchRun, IsBatchRunList, BatchRunLeaves, AwaitsBatchRun}
+use Rattle.nm_batch.specs.Runs.{BatchRunMade, batch_run_made, IsNewBatchRun, MayBatchRun, IsBatchRunList, BatchRunLeaves, AwaitsBatchRun}
 use Rattle.nm_locked.specs.declared.locked.LockedOver.{LockedOver}
 use Rattle.nm_locked_run.specs.Runs.{LockedMade, locked_run_made, IsNewLockedRun, MayLockedRun, IsLockedRunList, LockedRunLeaves, AwaitsLockedRun}
 use Rattle.nm_drawing.specs.declared.drawing.Drawn.{Drawn}

@@ -4,8 +4,7 @@ ghost use Rattle.std.specs.Prelude.{◌≡◌, ◌≢◌, []};
 ghost use Rattle.nm_migrator_parts.specs.Wrapped.{cool_work_made, IsNewCoolWork, batch_work_made, IsNewBatchWork, move_work_made, IsNewMoveWork};
 
 use nm_base::Geometry;
-use nm_batch::{BatchAsked, PieceList};
-use nm_batch_run::BatchRun;
+use nm_batch::{BatchAsked, BatchRun, PieceList};
 use nm_compose::Composite;
 use nm_cool::{Cool, CoolPiece, Cooled};
 use nm_drawing::{Drawing, Drawn};

@@ -14,7 +14,7 @@ use Rattle.nm_batch.specs.declared.batch.BatchAsked.{BatchAsked}
 use Rattle.nm_batch.specs.Leaving.{MayBatch, IsBatchLeft}
 use Rattle.nm_batch.specs.Opened.{BatchKnown}
 use Rattle.nm_batch.specs.Places.{batch_made, batch_piece_at, batch_left}
-use Rattle.nm_batch_run.specs.declared.run.BatchRun.{BatchRun}
+use Rattle.nm_batch.specs.declared.run.BatchRun.{BatchRun}
 
 -- what a batch is made with, in which geometry
 abbrev pub BatchRunMade : Type 0

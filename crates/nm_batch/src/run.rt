@@ -1,10 +1,11 @@
 //! The batch of transactions that runs.
 
 ghost use Rattle.std.specs.Prelude.{◌≡◌, ◌≢◌, []};
-ghost use Rattle.nm_batch_run.specs.Runs.{batch_run_made, IsNewBatchRun};
+ghost use Rattle.nm_batch.specs.Runs.{batch_run_made, IsNewBatchRun};
 
+use crate::batch::{Batch, BatchAsked};
+use crate::list::PieceList;
 use nm_base::Geometry;
-use nm_batch::{Batch, BatchAsked, PieceList};
 use nm_compose::Composite;
 use nm_event::{Action, Reply, Step};
 use nm_part::{Part, Piece};
@@ -35,7 +36,7 @@ impl<'a> Part for BatchRun<'a> {
 
     type Made = (Geometry, BatchAsked);
 
-    ghost use Rattle.nm_batch_run.specs.Runs.{batch_run_made, IsNewBatchRun, MayBatchRun, IsBatchRunList, BatchRunLeaves, AwaitsBatchRun};
+    ghost use Rattle.nm_batch.specs.Runs.{batch_run_made, IsNewBatchRun, MayBatchRun, IsBatchRunList, BatchRunLeaves, AwaitsBatchRun};
 
     ghost made = { batch_run_made };
 
