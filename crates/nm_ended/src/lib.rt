@@ -4,5 +4,5 @@
 pub mod ask;
 pub mod run;
 
-pub use ask::{AskEnded, AskPart};
+pub use ask::AskEnded;
 pub use run::AskRun;

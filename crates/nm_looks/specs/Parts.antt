@@ -8,10 +8,7 @@ use Rattle.nm_compose.specs.Acts.{MayAct, IsAct}
 use Rattle.nm_compose.specs.Composites.{HasFirst, IsRunning}
 use Rattle.nm_compose.specs.Stages.{IsPieceAt}
 use Rattle.nm_compose.specs.declared.act.Act.{Act}
-use Rattle.nm_compose.specs.declared.composite.Composite.{Composite}
 use Rattle.nm_vpages.specs.VPages.{vpages_of}
-use Rattle.nm_looks.specs.declared.looks.Looks.{Looks}
-use Rattle.nm_looks.specs.declared.softens.Softens.{Softens}
 use Rattle.nm_looks.specs.declared.run.LooksRun.{LooksRun}
 use Rattle.nm_looks.specs.declared.run.SoftensRun.{SoftensRun}
 use Rattle.nm_looks.specs.Seeing.{LooksData, tier_looks_made, IsLooks, MayLooks}
@@ -47,20 +44,3 @@ IsNewSoftensRun r = HasFirst (λ (a : Act). a.action) (λ a. Unit {0}) (λ actio
 
 abbrev pub AwaitsSoftensRun : SoftensRun → Geometry → View → Own → Action → Type 0
 AwaitsSoftensRun r = IsRunning IsAct (AwaitsAct r.run.piece) (IsPieceAt softens_stages r.run.plan.pages r.run.plan.at) (softens_left r.run.plan.pages r.run.plan.at) (IsSoftens r.run.plan.pages) r.run.piece.action
-
--- The same of composites of these.
-
-abbrev pub LooksPart : Type 0
-LooksPart = Composite Looks Act
-
-abbrev pub looks_part_data : LooksPart → LooksData
-looks_part_data c = looks_data c.plan
-
-abbrev pub IsNewLooksPart : LooksPart → Type 0
-IsNewLooksPart c = HasFirst (λ (a : Act). a.action) (λ a. Unit {0}) (λ action g view. MayAct g view action) IsAct (IsPieceAt looks_stages (looks_data c.plan) (looks_place c.plan)) (looks_left (looks_data c.plan) (looks_place c.plan)) MayLooks IsLooks (looks_data c.plan) c.piece
-
-abbrev pub SoftensPart : Type 0
-SoftensPart = Composite Softens Act
-
-abbrev pub IsNewSoftensPart : SoftensPart → Type 0
-IsNewSoftensPart c = HasFirst (λ (a : Act). a.action) (λ a. Unit {0}) (λ action g view. MayAct g view action) IsAct (IsPieceAt softens_stages c.plan.pages c.plan.at) (softens_left c.plan.pages c.plan.at) MaySoften IsSoftens c.plan.pages c.piece

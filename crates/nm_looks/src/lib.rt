@@ -6,7 +6,7 @@ pub mod run;
 pub mod seen;
 pub mod softens;
 
-pub use looks::{Looks, LooksMade, LooksPart};
+pub use looks::{Looks, LooksMade};
 pub use run::{LooksRun, SoftensRun};
 pub use seen::Seen;
-pub use softens::{Softens, SoftensPart};
+pub use softens::Softens;

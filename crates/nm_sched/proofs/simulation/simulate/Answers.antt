@@ -1,4 +1,4 @@
-use Rattle.std.proofs.Common.{◌+◌, ℕ, Bool, false, Option, ap, ◌∙◌}
+use Rattle.std.proofs.Common.{◌+◌, ℕ, Option, ap, ◌∙◌}
 use Rattle.nm_base.specs.Geometry.{Geometry}
 use Rattle.nm_script.specs.Plain.{Script}
 use Rattle.nm_programs.proofs.Running.{run-with}
@@ -34,7 +34,7 @@ run_programs-requires-clause-reclaimer_acts c = λ x h. reclaimer-acts _ _ x h
 pub returns : goal.returns
 returns c =
     let script = c.args.script.now in
-    let made_of : Script → Geometry × Option ℕ × Bool = λ s. (s.geometry, s.retry, false) in
+    let made_of : Script → Geometry × Option ℕ × ℕ = λ s. (s.geometry, s.retry, 0) in
     let made = c.in_ok-migrator.ensures.made ∙ ap made_of c.script.view_is in
     let machine = c.in_ok-reclaimer.ensures.geometry ∙ ap (λ s. s.geometry) c.script.view_is in
     run-with _ _ _ _ script _ (λ turns ended counts h. migrator-part script _ turns ended counts made h) (λ turns ended counts h. reclaimer-part _ _ script _ turns ended counts machine h) c.in_ok-run.ensures
