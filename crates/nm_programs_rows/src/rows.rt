@@ -8,6 +8,7 @@ use nm_action::{Action, Turn};
 use nm_actor::Actor;
 use nm_base::Geometry;
 use nm_migrator::MigratorActor;
+use nm_play::Silent;
 use nm_programs::run_programs;
 use nm_report::{Report, print};
 use nm_schedule_rows::listed::Listed;
@@ -42,7 +43,7 @@ fn reported(rt: &impl Abort, alloc: Global, text: &[u8]) -> Result<Vec<u8>, Fail
     assert!(rt; g.vpages.len() == 1);
     let migrator = waiting(g, 1);
     let reclaimer = waiting(g, 2);
-    let run = run_programs(alloc, &script, migrator, reclaimer)?;
+    let run = run_programs(alloc, &script, migrator, reclaimer, Silent)?;
     let report = Report {
         script: &script,
         results: &run.results,
@@ -64,7 +65,7 @@ fn resumed(rt: &impl Abort, alloc: Global, text: &[u8]) -> Result<Vec<u8>, Fail>
         again: false,
     };
     let reclaimer = waiting(g, 2);
-    let run = run_programs(alloc, &script, migrator, reclaimer)?;
+    let run = run_programs(alloc, &script, migrator, reclaimer, Silent)?;
     let report = Report {
         script: &script,
         results: &run.results,
