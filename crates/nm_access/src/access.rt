@@ -256,7 +256,7 @@ impl<'a, F: Faults<'a> + Drop> Access<'a, F> {
         }
     }
 
-    /// MarksCandidate the page where that is due, and else makes the access.
+    /// Marks the page candidate where that is due, and else makes the access.
     fn mark(&mut self, word: u64) -> AccessStep
         requires { frame_of word < frame_count self.old.geometry.now }
         ensures stage { self.new ≡ record self.old { stage = marked_stage (is_marked self.old.geometry.now self.old.hinted word) } }

@@ -1,7 +1,7 @@
 -- What a chair tells of a lane, and what a put and a take change of it.
-use Rattle.std.specs.Prelude.{◌≡◌, ℕ, ◌<◌, ◌≤◌, List, [], ◌∷◌, ◌++◌, length, Option, Some, None, IfSome, Result, Ok, Err}
+use Rattle.std.specs.Prelude.{◌≡◌, ℕ, ◌<◌, List, [], ◌∷◌, ◌++◌, length, Option, Some, None, IfSome, Result, Ok, Err}
 use Rattle.std.specs.Option.{option_map}
-use Rattle.nm_io.specs.Count.{Rose}
+use Rattle.nm_io.specs.Count.{next_count}
 use Rattle.nm_action.specs.declared.turn.Full.{Full}
 
 -- a page that an actor put into a lane, or took from it
@@ -36,12 +36,10 @@ pub record IsPagePut (page : ℕ) (old new : LaneState) : Type 0 where
   pub room : IfSome old.held (λ h. length h.pages < h.capacity)
   pub is : new ≡ record old { moves = old.moves ++ put page ∷ []; held = option_map (held_with page) old.held }
 
--- a put found the lane full
+-- a put found the lane full: the count of these is one more, and nothing else has changed
 pub record IsFull (old new : LaneState) : Type 0 where
   pub full : IfSome old.held (λ h. length h.pages ≡ h.capacity)
-  pub rose : Rose old.fulls new.fulls
-  pub kept : old.fulls ≤ new.fulls
-  pub is : new ≡ record old { fulls = new.fulls }
+  pub is : new ≡ record old { fulls = next_count old.fulls }
 
 -- what a put answers
 abbrev pub IsPutAnswer : ℕ → LaneState → LaneState → Result Unit Full → Type 0
@@ -67,12 +65,10 @@ pub record IsPageTaken (page : ℕ) (old new : LaneState) : Type 0 where
   pub held : IsHeldWithout page old.held new.held
   pub is : new ≡ record old { moves = old.moves ++ took page ∷ []; held = new.held }
 
--- a take found the lane empty
+-- a take found the lane empty: the count of these is one more, and nothing else has changed
 pub record IsEmpty (old new : LaneState) : Type 0 where
   pub empty : IfSome old.held (λ h. h.pages ≡ [])
-  pub rose : Rose old.empties new.empties
-  pub kept : old.empties ≤ new.empties
-  pub is : new ≡ record old { empties = new.empties }
+  pub is : new ≡ record old { empties = next_count old.empties }
 
 -- what a take answers
 abbrev pub IsTakeAnswer : LaneState → LaneState → Option ℕ → Type 0

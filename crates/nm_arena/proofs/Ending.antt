@@ -1,8 +1,8 @@
 -- The end of a running machine: the state that its words and views are, and the own lists that make it.
-use Rattle.std.proofs.Common.{◌≡◌, ◌≢◌, ℕ, ◌+◌, ◌<◌, ◌≤◌, ◌==◌, if◌then◌else◌, Bool, true, false, List, [], ◌∷◌, length, map, get_or, Option, Some, None, All, refl, sym, ap, subst, ◌∙◌, inl, inr, arith}
-use Rattle.std.specs.Prelude.{IfSome}
+use Rattle.std.proofs.Common.{◌≡◌, ◌≢◌, ℕ, ◌+◌, ◌<◌, ◌≤◌, ◌==◌, if◌then◌else◌, Bool, true, false, List, [], ◌∷◌, ◌++◌, length, map, take, get_or, Option, Some, None, refl, sym, ap, subst, ◌∙◌, inl, inr, arith}
+use Rattle.std.specs.Prelude.{IsSomeAnd}
 use Rattle.std.proofs.lemmas.Bool.{cases_lt, ne_eqb}
-use Rattle.std.proofs.lemmas.List.{length-map, get_or-map, get_or_past, get_or_default}
+use Rattle.std.proofs.lemmas.List.{length-map, get_or-map, get_or_past, take_more, take_all}
 use Rattle.std.proofs.Math.ListN as seq
 use mathlib.Core.List.{IsPrefix}
 use Rattle.atomic_table.specs.Seated.{TableId}
@@ -127,21 +127,31 @@ gathered g key seat k last slots words kept keys is final sizes list count are b
     let end : IsEnd g k last = ends g seat k last slots (subst (λ m. Final (Seen (Shows m) seat k) last slots) keys final) in
     gathered_at g k last words kept is end sizes list count are back
 
--- What is said of all views.
+-- The views, one after the other.
 
-pub some-each : (P : View → Type 0) (kept : List (Option View)) → kept ≡ map Some (views_in kept) → All (λ v. IfSome v P) kept → All P (views_in kept)
-some-each P kept whole all i d lt =
+-- where all views are there, each is
+pub there_in : (kept : List (Option View)) (i : ℕ) (view : Option View) → kept ≡ map Some (views_in kept) → i < length kept → view ≡ get_or kept i None → IsSomeAnd view (λ _. Unit {0})
+there_in kept i view whole lt is =
     let size : length kept ≡ length (views_in kept) = ap length whole ∙ length-map (views_in kept) Some in
-    let is : get_or kept i None ≡ Some (get_or (views_in kept) i d) = ap (λ vs. get_or vs i None) whole ∙ get_or-map Some (views_in kept) i d None lt in
-    subst (λ v. IfSome v P) is (all i None (omega (arith, lt, size)))
+    let some : View = opening no_geometry 0 in
+    let has : view ≡ Some (get_or (views_in kept) i some) = is ∙ ap (λ vs. get_or vs i None) whole ∙ get_or-map Some (views_in kept) i some None (omega (arith, lt, size)) in
+    subst (λ v. IsSomeAnd v (λ _. Unit {0})) (sym has) tt
 
-pub each-some : (P : View → Type 0) (kept : List (Option View)) → kept ≡ map Some (views_in kept) → All P (views_in kept) → All (λ v. IfSome v P) kept
-each-some P kept whole all i d lt =
+-- one view more
+pub views_more : (kept : List (Option View)) (i : ℕ) (view : View) → kept ≡ map Some (views_in kept) → i < length kept → Some view ≡ get_or kept i None → take (i + 1) (views_in kept) ≡ take i (views_in kept) ++ view ∷ []
+views_more kept i view whole lt is =
     let size : length kept ≡ length (views_in kept) = ap length whole ∙ length-map (views_in kept) Some in
     let within : i < length (views_in kept) = omega (arith, lt, size) in
     let some : View = opening no_geometry 0 in
-    let is : get_or kept i d ≡ Some (get_or (views_in kept) i some) = get_or_default kept i d None lt ∙ ap (λ vs. get_or vs i None) whole ∙ get_or-map Some (views_in kept) i some None within in
-    subst (λ v. IfSome v P) (sym is) (all i some within)
+    let has : Some view ≡ Some (get_or (views_in kept) i some) = is ∙ ap (λ vs. get_or vs i None) whole ∙ get_or-map Some (views_in kept) i some None within in
+    let same : get_or (views_in kept) i some ≡ view = cc in
+    take_more (views_in kept) i some within ∙ ap (λ v. take i (views_in kept) ++ v ∷ []) same
+
+-- and they are all
+pub views_all : (kept : List (Option View)) (i : ℕ) → kept ≡ map Some (views_in kept) → i ≡ length kept → take i (views_in kept) ≡ views_in kept
+views_all kept i whole e =
+    let size : length kept ≡ length (views_in kept) = ap length whole ∙ length-map (views_in kept) Some in
+    take_all i (views_in kept) (omega (arith, e, size))
 
 -- the end words are those of a run that merges the own lists of the first seat
 pub end_of : (g other : Geometry) (k : Knowledge) (words : Words) (kept : List (Option View)) (views : _) (table : TableId) (s : SeatFace) (end : EndWords) → IsGathered g k words kept → IsEndOf (state_of g words (views_in kept)) end → g ≡ other → seat_face (First views) table k ≡ s → IsEndOfRun other s end

@@ -1,5 +1,5 @@
 -- The views of a machine's actors, as far as they are there.
-use Rattle.std.specs.Prelude.{◌≡◌, List, [], ◌∷◌, Option, Some, None}
+use Rattle.std.specs.Prelude.{List, [], ◌∷◌, Option, Some, None}
 use Rattle.nm_view.specs.Views.{View}
 
 -- the views that are there, in their order
@@ -7,10 +7,6 @@ abbrev pub views_in : List (Option View) → List View
 views_in [] = []
 views_in (Some v ∷ views) = v ∷ views_in views
 views_in (None ∷ views) = views_in views
-
--- a view has no operation and no owned frame
-abbrev pub IsIdle : View → Type 0
-IsIdle v = (v.ops ≡ []) × (v.owned ≡ [])
 
 -- a view is there
 abbrev pub IsThere : Option View → Type 0

@@ -13,12 +13,11 @@ ghost use Rattle.nm_arena.specs.Ends.{IsEndOfRun};
 
 use crate::exchanging::{Board, exchange, split_off};
 use crate::layout::Layout;
-use crate::reading::{copied, listed, opening_views, read_back};
+use crate::reading::{all_views, copied, listed, opening_views, read_back, room_for_views};
 use crate::seat::{Held, Seat};
-use crate::stopped::Stopped;
 use nm_action::{Action, Reply};
 use nm_base::Geometry;
-use nm_core::EndWords;
+use nm_core::{EndWords, State};
 use nm_rule::TakenBack;
 use nm_shape::advance;
 use nm_step::{exchange_of, reply_of};
@@ -35,6 +34,7 @@ pub struct Arena {
     layout: Layout,
     board: Board,
     words: Words,
+    room: Vec<ActorView>,
 }
 
 impl Model for Arena {
@@ -42,11 +42,12 @@ impl Model for Arena {
 
     ghost Value = { ArenaFace };
 
+    ghost use Rattle.std.specs.Vec.{vec_capacity};
     ghost use Rattle.nm_arena.specs.Standing.{IsArenaKept};
 
     ghost view = { λ a. record { geometry = a.geometry; table = a.board.shared.table_id } };
 
-    ghost invariant = { λ a. IsArenaKept a.geometry a.layout a.board.shared.key a.board.shared.table_id a.words };
+    ghost invariant = { λ a. IsArenaKept a.geometry a.layout a.board.shared.key a.board.shared.table_id a.words a.room.items (vec_capacity a.room) };
 }
 
 impl Arena {
@@ -64,11 +65,13 @@ impl Arena {
         let list = listed(alloc, g, &layout, &words)?;
         let (board, place) = Board::of_words(alloc, &list, g)?;
         let held = Held::First(opening_views(alloc, g)?);
+        let room = room_for_views(alloc, g)?;
         let arena = Arena {
             geometry,
             layout,
             board,
             words,
+            room,
         };
         Ok((arena, Seat { place, held }))
     }
@@ -160,6 +163,7 @@ impl Arena {
             layout,
             board,
             mut words,
+            room,
         } = self;
         let Seat { place, held } = seat;
         let Held::First(views) = held else {
@@ -168,12 +172,9 @@ impl Arena {
         let closed = board.close_with(place);
         read_back(&closed, &geometry, &layout, &mut words);
         closed.free();
-        let stopped = Stopped {
-            geometry,
-            words,
-            views,
-        };
-        stopped.end_words(into);
+        let views = all_views(views, room);
+        let state = State::of_parts(geometry, words, views);
+        state.end_words(into);
     }
 }
 

@@ -7,7 +7,6 @@ mod exchanging;
 mod layout;
 mod reading;
 pub mod seat;
-mod stopped;
 
 pub use arena::Arena;
 pub use seat::Seat;

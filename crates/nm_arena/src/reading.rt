@@ -1,7 +1,8 @@
-//! The words of a machine, laid out in one list and read back; and what a machine begins with.
+//! The words of a machine, laid out in one list and read back; its views, gathered; and what a machine begins with.
 
-ghost use Rattle.std.specs.Prelude.{◌≡◌, length, map, Some, IfOk};
+ghost use Rattle.std.specs.Prelude.{◌≡◌, ◌≤◌, [], length, map, Some, IfOk};
 ghost use Rattle.std.specs.List.{range_with_len};
+ghost use Rattle.std.specs.Vec.{vec_capacity};
 ghost use Rattle.std.specs.Slots.{slots_items, slots_len, IsFull};
 ghost use Rattle.nm_base.specs.Geometry.{IsGeometry};
 ghost use Rattle.nm_view.specs.Opening.{opening};
@@ -9,6 +10,7 @@ ghost use Rattle.nm_core.specs.State.{actor_count};
 ghost use Rattle.nm_words.specs.Flat.{flat, total_words};
 ghost use Rattle.nm_words.specs.Words.{HasSizes};
 ghost use Rattle.nm_arena.specs.Layouts.{IsLayoutOf};
+ghost use Rattle.nm_arena.specs.Views.{views_in};
 
 use crate::layout::Layout;
 use atomic_table::Closed;
@@ -71,6 +73,33 @@ pub(crate) fn opening_views(
         views.push_reserved(Some(view));
     }
     Ok(views)
+}
+
+/// An empty list with room for the views of all actors.
+pub(crate) fn room_for_views(alloc: Global, g: &Geometry) -> Result<Vec<ActorView>, AllocError>
+    ensures empty { IfOk result (λ views. views.items ≡ []) }
+    ensures room { IfOk result (λ views. actor_count g.now ≤ vec_capacity views) }
+{
+    let actors = g.cpus + 2;
+    Vec::with_capacity(alloc, actors as usize)
+}
+
+/// The views of all actors, each of which is there, in a list that has room for them. It takes no memory.
+pub(crate) fn all_views(views: Vec<Option<ActorView>>, room: Vec<ActorView>) -> Vec<ActorView>
+    requires there { views.items ≡ map Some (views_in views.items) }
+    requires empty { room.items ≡ [] }
+    requires room { length views.items ≤ vec_capacity room }
+    ensures { result.items ≡ views_in views.items }
+{
+    let mut left = views;
+    let mut all = room;
+    for actor in 0..left.len() {
+        let Some(view) = left[actor].take() else {
+            unreachable!()
+        };
+        all.push_reserved(view);
+    }
+    all
 }
 
 /// A geometry of its own with the same fields.

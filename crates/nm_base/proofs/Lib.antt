@@ -1,3 +1,4 @@
+pub mod Chains
 pub mod Pages
 pub mod ShadowWords
 pub mod TableWords

@@ -1,5 +1,5 @@
 -- That words in the layout of table words stay in it, and keep a frame in range, where flags are cleared, set or turned.
-use Rattle.std.proofs.Common.{◌≡◌, ℕ, ◌+◌, ◌*◌, ◌/◌, ◌%◌, ◌^◌, ◌<◌, ◌≤◌, Bool, true, false, bit_and, bit_or, bit_xor, sym, refl, ap, ◌∙◌, inl, inr, arith}
+use Rattle.std.proofs.Common.{◌≡◌, ℕ, ◌+◌, ◌/◌, ◌%◌, ◌^◌, ◌<◌, ◌≤◌, Bool, true, false, bit_and, bit_or, bit_xor, sym, ap, ◌∙◌, inl, inr, arith}
 use Rattle.std.specs.Int.{bit_at}
 use Rattle.std.specs.Int.Bits.{or_zero_r, xor_zero_r}
 use Rattle.std.proofs.lemmas.Nat.{pow-add, and_shr, and_le_l, or_shr, xor_shr}

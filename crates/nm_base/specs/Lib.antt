@@ -1,3 +1,4 @@
+pub mod Chains
 pub mod FreeWords
 pub mod Geometry
 pub mod HomeWord

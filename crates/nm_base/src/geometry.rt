@@ -3,7 +3,9 @@
 ghost use Rattle.std.specs.Prelude.{◌≡◌, ◌≢◌, ℕ, ◌^◌, ◌<◌, ◌≤◌, ◌↔◌, length, sum, All, IsTrue, IfOk, IfErr, IfSome, IfNone, Some, Err, MatchOption, option_map};
 ghost use Rattle.nm_base.specs.Geometry.{IsGeometry, HasRanges, IsFirstOutside, IsCrowded, AreTiers, AreVPages, made, IsPageSize, page_count, frame_count, pages_of, page_end, tier_of, tier_among, first_frame, backing_page, backing_among, IsInTier, IsNextVPage, IsWritable};
 ghost use Rattle.nm_base.specs.Ranges.{IsVPage, IsTier};
+ghost use Rattle.nm_base.specs.Chains.{IsReverseMap};
 
+use crate::reverse_map::ReverseMap;
 use std::alloc::{AllocError, Global};
 use std::marker::Model;
 use thiserror::Error;
@@ -57,6 +59,7 @@ pub struct Geometry {
     pub vpages: Vec<Option<VPage>>,
     pages: u32,
     frames: u32,
+    reverse: ReverseMap,
 }
 
 impl Model for Geometry {
@@ -111,6 +114,7 @@ impl Geometry {
             return Err(GeometryRefusal::TooManyPages(pages));
         }
         let tiers = copied(alloc, tiers)?;
+        let reverse = reversed(alloc, vpages, pages)?;
         let vpages = copied(alloc, vpages)?;
         Ok(Geometry {
             words,
@@ -119,6 +123,7 @@ impl Geometry {
             vpages,
             pages,
             frames,
+            reverse,
         })
     }
 
@@ -198,7 +203,7 @@ impl Geometry {
         ensures some { IfSome result (IsNextVPage self.now.vpages page from) }
         ensures none { IfNone result ((v : ℕ) → from ≤ v → backing_page self.now v ≢ Some page) }
     {
-        next_mapped(&self.vpages, page, from)
+        self.reverse.next(&self.vpages, page, from)
     }
 }
 
@@ -228,22 +233,8 @@ fn tier_among(tiers: &[u32], frame: u32) -> u32
     tier
 }
 
-/// The least virtual page from `from` on that is mapped to a backing page.
-fn next_mapped(vpages: &[Option<VPage>], page: u32, from: u32) -> Option<u32>
-    requires { length vpages.now ≤ 4096 }
-    ensures some { IfSome result (IsNextVPage vpages.now page from) }
-    ensures none { IfNone result ((v : ℕ) → from ≤ v → backing_among vpages.now v ≢ Some page) }
-{
-    for v in from..vpages.len() as u32 {
-        if is_mapped_to(vpages[v as usize], page) {
-            return Some(v);
-        }
-    }
-    None
-}
-
 /// Whether a virtual page is mapped to a backing page.
-fn is_mapped_to(vpage: Option<VPage>, page: u32) -> bool
+pub(crate) fn is_mapped_to(vpage: Option<VPage>, page: u32) -> bool
     ensures { IsTrue result ↔ (option_map (λ p. p.page) vpage ≡ Some page) }
 {
     match vpage {
@@ -345,4 +336,18 @@ fn copied<T: Copy>(alloc: Global, items: &[T]) -> Result<Vec<T>, GeometryRefusal
     ensures memory { IfErr result (λ e. e ≡ GeometryRefusal.Memory) }
 {
     Vec::from_slice(alloc, items).map_err(|_| GeometryRefusal::Memory)
+}
+
+/// The virtual pages of each backing page, of which there are so many.
+fn reversed(
+    alloc: Global,
+    vpages: &[Option<VPage>],
+    pages: u32,
+) -> Result<ReverseMap, GeometryRefusal>
+    requires few { length vpages.now ≤ 4096 }
+    requires pages { pages ≡ pages_of vpages.now }
+    ensures ok { IfOk result (IsReverseMap vpages.now) }
+    ensures memory { IfErr result (λ e. e ≡ GeometryRefusal.Memory) }
+{
+    ReverseMap::of(alloc, vpages, pages).map_err(|_| GeometryRefusal::Memory)
 }

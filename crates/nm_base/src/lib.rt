@@ -6,6 +6,7 @@ pub mod free_words;
 pub mod geometry;
 pub mod home_word;
 pub mod page_word;
+mod reverse_map;
 pub mod shadow_word;
 pub mod table_word;
 

@@ -26,11 +26,11 @@ use Rattle.nm_txn.proofs.Ops.{flushed-taken}
 use Rattle.nm_txn.proofs.Runs.{decide-run}
 use Rattle.nm_batch.specs.declared.batch.BatchPlace.{BatchPlace}
 use Rattle.nm_batch.specs.declared.batch.BatchStage.TheVariants.{Deciding}
-use Rattle.nm_batch.specs.Leaving.{most_pieces, asked_page, spoiled_each, flush_bumps, IsBatchLeft}
+use Rattle.nm_batch.specs.Leaving.{most_pieces, asked_page, spoiled_each, flush_bumps, IsBatchLeft, count_decided}
 use Rattle.nm_batch.specs.Places.{batch_piece_at, decide_stage_by, decide_stage, DecidesFrom}
 use Rattle.nm_batch.specs.Opened.{OpenPiece, open_ready, open_page, open_op, open_word, open_made, owned_with, with_open, IsOpenPiece, HasOpen, IsTakenOpen, IsSwappedOpen, IsUnderway, IsBatchTaken, HasDecidedSome, IsBatchDeciding, idle, BatchKnown}
 use Rattle.nm_batch.proofs.Lists.{absent-head, absent-tail, drop-next, drop-within, drop-over, empty-list, erase-middle}
-use Rattle.nm_batch.proofs.Pieces.{ready-count, ends-count, made-taken, taken-length}
+use Rattle.nm_batch.proofs.Pieces.{ready-count, ends-count, made-taken, taken-length, decided-count}
 use Rattle.nm_batch.proofs.Opened.{op-at, fill-at, with_op, ops-mapped, owned-mapped, open-mapped, ready-mapped, word-mapped, copied-kept, owned-spoiled, apart-spoiled, apart-rest, owned-rest}
 use Rattle.nm_batch.proofs.Ending.{can-decide}
 use Rattle.nm_batch.proofs.Steps.{RunsBatch, BatchGoes}
@@ -129,9 +129,9 @@ all-ended made place g first now h none =
     let ready : length place.ready ≡ length (ready_of made.pieces place.prepared) = ap length h.underway.ready_is in
     let some : count_ready place.prepared ≤ length place.decided = omega arith in
     let ends : length (ends_of place.prepared place.decided) ≡ length place.prepared = ends-count place.prepared place.decided some in
-    let few : length place.ready ≤ length place.prepared = h.underway.few in
     let count : length (ends_of place.prepared place.decided) ≡ length made.pieces = omega arith in
-    let fits : length place.ready ≤ length made.pieces = omega arith in
+    let many : count_decided (ends_of place.prepared place.decided) ≡ count_ready place.prepared = decided-count place.prepared place.decided some in
+    let same : length place.ready ≡ count_decided (ends_of place.prepared place.decided) = omega arith in
     let closed : length h.held ≡ 0 = sym (length-map h.held open_made) ∙ ap length (h.rest ∙ none) in
     let there : 0 < length place.ready = h.underway.some in
     let even : length place.words ≡ length place.ready = h.even in
@@ -139,10 +139,9 @@ all-ended made place g first now h none =
       count = count;
       pages = h.has.pages;
       of = h.has.named;
-      decided = length place.ready;
-      few = fits;
       scan = h.has.scan;
-      is = h.has.is ∙ all-closed h.held closed (spoiled_each h.has.pages first.owned) h.has.scan first (length place.ready) (length place.words) there even h.has.may.alone;
+      is = h.has.is ∙ (all-closed h.held closed (spoiled_each h.has.pages first.owned) h.has.scan first (length place.ready) (length place.words) there even h.has.may.alone
+          ∙ ap (λ (n : ℕ). record first { owned = spoiled_each h.has.pages first.owned; scan = h.has.scan; bumps = first.bumps + flush_bumps n; raises = first.raises + 2 * n }) same);
     }
 
 -- The next step.

@@ -3,14 +3,17 @@ use Rattle.std.proofs.Common.{◌≡◌, ℕ, zero, suc, ◌≤◌, List, [], �
 use Rattle.nm_action.specs.declared.spent.Spent.{Spent}
 use Rattle.nm_prepare.specs.declared.prepare.Prepared.{Prepared}
 use Rattle.nm_prepare.specs.declared.prepare.Prepared.TheVariants.{Busy, Closed, Ready}
+use Rattle.nm_prepare.specs.declared.prepare.Early.TheVariants.{NoFrame, Gone, Worn}
 use Rattle.nm_commit.specs.declared.decide.DecideMade.{DecideMade}
 use Rattle.nm_commit.specs.declared.decide.Decided.{Decided}
+use Rattle.nm_commit.specs.declared.decide.Decided.TheVariants.{Committed, Aborted}
 use Rattle.nm_txn.specs.declared.batch.ReadyPiece.{ReadyPiece}
 use Rattle.nm_txn.specs.Batches.{count_ready, drawn_after, drawn_with, ready_with, ready_of, taken_of, ends_of}
 use Rattle.nm_batch.specs.declared.batch.BatchPlace.{BatchPlace}
 use Rattle.nm_batch.specs.declared.batch.BatchStage.TheVariants.{Deciding}
 use Rattle.nm_batch.specs.Places.{decide_stage_by, decide_stage}
 use Rattle.nm_batch.specs.Opened.{OpenPiece, open_ready, open_word, open_made}
+use Rattle.nm_batch.specs.Leaving.{count_decided}
 
 -- what is drawn after one piece more
 pub drawn-more : (spent : Spent) (ends : List Prepared) (end : Prepared) → drawn_with spent (ends ++ end ∷ []) ≡ drawn_after (drawn_with spent ends) end
@@ -77,6 +80,20 @@ ends-first (Ready home frame) ends (d ∷ ds) step h = let less : count_ready en
 pub ends-count : (ends : List Prepared) (decided : List Decided) → count_ready ends ≤ length decided → length (ends_of ends decided) ≡ length ends
 ends-count [] decided h = refl
 ends-count (e ∷ ends) decided h = ends-first e ends decided (λ d few. ends-count ends d few) h
+
+decided-first : (end : Prepared) (ends : List Prepared) (decided : List Decided) → ((d : List Decided) → count_ready ends ≤ length d → count_decided (ends_of ends d) ≡ count_ready ends) → count_ready (end ∷ ends) ≤ length decided → count_decided (ends_of (end ∷ ends) decided) ≡ count_ready (end ∷ ends)
+decided-first Busy ends decided step h = step decided h
+decided-first (Closed (NoFrame free)) ends decided step h = step decided h
+decided-first (Closed Gone) ends decided step h = step decided h
+decided-first (Closed Worn) ends decided step h = step decided h
+decided-first (Ready home frame) ends [] step h = let bad : ⊥ = omega (arith, h) in absurd bad
+decided-first (Ready home frame) ends (Committed ∷ ds) step h = let less : count_ready ends ≤ length ds = omega (arith, h) in ap suc (step ds less)
+decided-first (Ready home frame) ends (Aborted word ∷ ds) step h = let less : count_ready ends ≤ length ds = omega (arith, h) in ap suc (step ds less)
+
+-- the ends of decided pieces are those of the ready ones, where all of these were decided
+pub decided-count : (ends : List Prepared) (decided : List Decided) → count_ready ends ≤ length decided → count_decided (ends_of ends decided) ≡ count_ready ends
+decided-count [] decided h = refl
+decided-count (e ∷ ends) decided h = decided-first e ends decided (λ d few. decided-count ends d few) h
 
 -- The next stage of a decision.
 

@@ -1,5 +1,5 @@
 -- The pieces of a batch are prepared, one after the other.
-use Rattle.std.proofs.Common.{◌≡◌, ◌≢◌, ℕ, suc, ◌+◌, ◌^◌, ◌<◌, ◌≤◌, false, List, [], ◌∷◌, ◌++◌, length, drop, map, All, Some, None, IsSome, IsTrue, ◌⊎◌, inl, inr, refl, sym, ap, ◌∙◌, subst, arith, length-append}
+use Rattle.std.proofs.Common.{◌≡◌, ◌≢◌, ℕ, suc, ◌+◌, ◌*◌, ◌^◌, ◌<◌, ◌≤◌, false, List, [], ◌∷◌, ◌++◌, length, drop, map, All, Some, None, IsSome, IsTrue, ◌⊎◌, inl, inr, refl, sym, ap, ◌∙◌, subst, arith, length-append}
 use Rattle.std.proofs.lemmas.List.{map-append, length-map, append-nil}
 use Rattle.nm_base.specs.Geometry.{Geometry}
 use Rattle.nm_base.specs.Ranges.{IsPage}
@@ -30,11 +30,11 @@ use Rattle.nm_txn.proofs.Frames.{apart-by-tiers}
 use Rattle.nm_txn.proofs.Runs.{prepare-run, flush-run}
 use Rattle.nm_batch.specs.declared.batch.BatchPlace.{BatchPlace}
 use Rattle.nm_batch.specs.declared.batch.BatchStage.TheVariants.{Preparing, Flushing}
-use Rattle.nm_batch.specs.Leaving.{most_pieces, asked_page, MayBatch, spoiled_each, IsBatchLeft}
+use Rattle.nm_batch.specs.Leaving.{most_pieces, asked_page, MayBatch, spoiled_each, IsBatchLeft, flush_bumps, count_decided}
 use Rattle.nm_batch.specs.Places.{new_batch_place, batch_piece_at, piece_noted, CanNoteEnd, CanNotePiece, prepare_stage_by, prepare_stage, PreparesFrom}
 use Rattle.nm_batch.specs.Opened.{OpenPiece, open_ready, open_page, open_op, owned_with, with_open, IsOpenPiece, HasOpen, IsReadyOpen, IsUnworn, HasPrepared, IsBatchReady, IsBatchPreparing, idle, BatchKnown}
 use Rattle.nm_batch.proofs.Lists.{absent-made, absent-all, absent-head, absent-tail, all-with, all-origin, drop-next, drop-within, drop-over, once-drop, all-drop, found-drop, empty-list}
-use Rattle.nm_batch.proofs.Pieces.{drawn-more, ready-more, ready-count, ends-count}
+use Rattle.nm_batch.proofs.Pieces.{drawn-more, ready-more, ready-count, ends-count, decided-count}
 use Rattle.nm_batch.proofs.Opened.{owned-joined, apart-joined, apart-spoiled, owned-spoiled, raw-kept}
 use Rattle.nm_batch.proofs.Ending.{can-prepare, can-copy}
 use Rattle.nm_batch.proofs.Steps.{RunsBatch, BatchGoes}
@@ -93,15 +93,15 @@ over-early made place g first now h none empty =
     let some : count_ready place.prepared ≤ length place.decided = omega arith in
     let ends : length (ends_of place.prepared place.decided) ≡ length place.prepared = ends-count place.prepared place.decided some in
     let count : length (ends_of place.prepared place.decided) ≡ length made.pieces = omega arith in
-    let few : 0 ≤ length made.pieces = omega arith in
+    let many : count_decided (ends_of place.prepared place.decided) ≡ count_ready place.prepared = decided-count place.prepared place.decided some in
+    let same : 0 ≡ count_decided (ends_of place.prepared place.decided) = omega arith in
     record {
       count = count;
       pages = h.has.pages;
       of = h.has.named;
-      decided = 0;
-      few = few;
       scan = h.has.scan;
-      is = h.has.is ∙ none-open h.held open-none (spoiled_each h.has.pages first.owned) h.has.scan first h.has.may.alone;
+      is = h.has.is ∙ (none-open h.held open-none (spoiled_each h.has.pages first.owned) h.has.scan first h.has.may.alone
+          ∙ ap (λ (n : ℕ). record first { owned = spoiled_each h.has.pages first.owned; scan = h.has.scan; bumps = first.bumps + flush_bumps n; raises = first.raises + 2 * n }) same);
     }
 
 -- The first flush.

@@ -10,6 +10,7 @@ use Rattle.nm_event.specs.After.{spoiled}
 use Rattle.nm_prepare.specs.Ready.{spent_by}
 use Rattle.nm_txn.specs.declared.end.TxnEnd.{TxnEnd}
 use Rattle.nm_txn.specs.Batches.{BatchMade}
+use Rattle.nm_txn.specs.declared.end.TxnEnd.TheVariants.{Committed, Aborted, NoFrame, Gone, Worn, Busy}
 
 -- a batch has at most so many pieces
 abbrev pub most_pieces : ℕ
@@ -41,13 +42,21 @@ abbrev pub flush_bumps : ℕ → ℕ
 flush_bumps zero = 0
 flush_bumps (suc n) = 2
 
--- it leaves each piece with an end, and no operation and no frame of its own; some of its pieces were decided, each with two
--- raises
+-- how many of these ends are those of pieces that were decided: they committed or aborted
+abbrev pub count_decided : List TxnEnd → ℕ
+count_decided [] = 0
+count_decided (Committed ∷ ends) = suc (count_decided ends)
+count_decided (Aborted word ∷ ends) = suc (count_decided ends)
+count_decided (NoFrame free ∷ ends) = count_decided ends
+count_decided (Gone ∷ ends) = count_decided ends
+count_decided (Worn ∷ ends) = count_decided ends
+count_decided (Busy ∷ ends) = count_decided ends
+
+-- it leaves each piece with an end, and no operation and no frame of its own; the pieces that committed or aborted were
+-- decided, each with two raises
 pub record IsBatchLeft (made : BatchMade) (view : View) (ends : List TxnEnd) (left : View) : Type 0 where
   pub count : length ends ≡ length made.pieces
   pub pages : List ℕ
   pub of : All (λ b. IsSome (find asked_page b made.pieces)) pages
-  pub decided : ℕ
-  pub few : decided ≤ length made.pieces
   pub scan : Scanned
-  pub is : left ≡ record view { owned = spoiled_each pages view.owned; scan = scan; bumps = view.bumps + flush_bumps decided; raises = view.raises + 2 * decided }
+  pub is : left ≡ record view { owned = spoiled_each pages view.owned; scan = scan; bumps = view.bumps + flush_bumps (count_decided ends); raises = view.raises + 2 * count_decided ends }

@@ -2,3 +2,4 @@ pub mod Places
 pub mod Leaving
 pub mod Opened
 pub mod Tasks
+pub mod Runs

@@ -8,11 +8,11 @@ ghost use Rattle.nm_batch.specs.Places.{batch_made, new_batch_place, batch_piece
 
 use crate::list::PieceList;
 use nm_base::Geometry;
-use nm_commit::{Decide, DecideMade, Decided, UnmapOne};
-use nm_compose::{Composite, Next, Or, Plan};
-use nm_copying::Copies;
+use nm_commit::{Decide, DecideMade, DecideRun, Decided, UnmapOne, UnmapRun};
+use nm_compose::{Next, Or, Plan};
+use nm_copying::{Copies, CopiesRun};
 use nm_event::Spent;
-use nm_prepare::{Prepare, Prepared};
+use nm_prepare::{Prepare, PrepareRun, Prepared};
 use nm_shoot::Shoot;
 use nm_txn::{ReadyPiece, TxnEnd, TxnPiece, TxnPieceEnd, txn_word_in};
 
@@ -100,21 +100,21 @@ impl<'a> Batch<'a> {
         let g = self.geometry;
         let spent = self.place.drawn;
         match stage {
-            BatchStage::Idle => Or::This(Composite::new(Prepare::new(g, 0, 0, spent))),
+            BatchStage::Idle => Or::This(PrepareRun::new(Prepare::new(g, 0, 0, spent))),
             BatchStage::Preparing { page, vpage } => {
-                Or::This(Composite::new(Prepare::new(g, page, vpage, spent)))
+                Or::This(PrepareRun::new(Prepare::new(g, page, vpage, spent)))
             }
             BatchStage::Flushing | BatchStage::FlushingAgain => {
                 Or::Other(Or::This(Shoot::new(g.cpus)))
             }
-            BatchStage::Copying { piece, .. } => Or::Other(Or::Other(Or::This(Composite::new(
+            BatchStage::Copying { piece, .. } => Or::Other(Or::Other(Or::This(CopiesRun::new(
                 Copies::new(g, piece.page, piece.frame),
             )))),
-            BatchStage::Unmapping(piece) => Or::Other(Or::Other(Or::Other(Or::This(Composite::new(
+            BatchStage::Unmapping(piece) => Or::Other(Or::Other(Or::Other(Or::This(UnmapRun::new(
                 UnmapOne::new(piece.page, piece.vpage),
             ))))),
             BatchStage::Deciding(made) => {
-                Or::Other(Or::Other(Or::Other(Or::Other(Composite::new(Decide::new(g, made))))))
+                Or::Other(Or::Other(Or::Other(Or::Other(DecideRun::new(Decide::new(g, made))))))
             }
         }
     }

@@ -3,8 +3,10 @@
 
 pub mod batch;
 pub mod list;
+pub mod run;
 pub mod task;
 
 pub use batch::{Batch, BatchAsked, ends_of};
 pub use list::PieceList;
+pub use run::BatchRun;
 pub use task::BatchTask;

@@ -2,15 +2,15 @@
 
 ghost use Rattle.std.specs.Prelude.{◌≡◌, ◌≢◌, ◌+◌, ◌<◌, ◌≤◌, [], ◌∷◌, length, drop, IfOk};
 ghost use Rattle.nm_batch.specs.Leaving.{most_pieces};
-ghost use Rattle.nm_batch.specs.Tasks.{batch_of};
+ghost use Rattle.nm_batch.specs.Tasks.{batch_of, IsNewBatchTask};
 
-use crate::batch::{Batch, BatchAsked};
+use crate::batch::BatchAsked;
 use crate::list::PieceList;
+use crate::run::BatchRun;
 use nm_base::Geometry;
-use nm_compose::Composite;
 use nm_event::{Action, Reply, Spent, Step};
 use nm_part::{Part, Piece};
-use nm_txn::{TxnEnd, TxnPiece};
+use nm_txn::TxnEnd;
 use std::alloc::{AllocError, Global};
 
 /// A batch of transactions: up to 8 pages, each with one of its virtual pages, are moved to the next faster tier together,
@@ -18,7 +18,7 @@ use std::alloc::{AllocError, Global};
 #[derive(Drop)]
 pub struct BatchTask<'a> {
     geometry: &'a Geometry,
-    run: Composite<Batch<'a>, TxnPiece<'a>>,
+    run: BatchRun<'a>,
     ends: Box<PieceList<TxnEnd>>,
 }
 
@@ -27,7 +27,8 @@ impl<'a> BatchTask<'a> {
     /// drawn nothing. The only error is want of memory.
     pub fn new(alloc: Global, g: &'a Geometry) -> Result<BatchTask<'a>, AllocError>
         ensures geometry { IfOk result (λ t. t.geometry.now ≡ g.now) }
-        ensures new { IfOk result (λ t. ⟦<Composite<Batch<'a>, TxnPiece<'a>> as Part>⟧.is_new t.run) }
+        ensures made { IfOk result (λ t. batch_of t ≡ record { 0 = g.now; 1 = record { pieces = (0, 0) ∷ []; spent = record { bumps = 0; raises = 0 } } }) }
+        ensures new { IfOk result IsNewBatchTask }
     {
         let asked = BatchAsked {
             pieces: PieceList::of(&[(0, 0)]),
@@ -36,7 +37,7 @@ impl<'a> BatchTask<'a> {
         let ends = Box::new(alloc, PieceList::new())?;
         Ok(BatchTask {
             geometry: g,
-            run: Composite::new(Batch::new(g, asked)),
+            run: BatchRun::new(g, asked),
             ends,
         })
     }
@@ -49,13 +50,13 @@ impl<'a> BatchTask<'a> {
         requires few { length pieces.now ≤ most_pieces }
         ensures geometry { self.new.geometry.now ≡ self.old.geometry.now }
         ensures made { batch_of self.new ≡ record { 0 = self.old.geometry.now; 1 = record { pieces = pieces.now; spent = spent } } }
-        ensures new { ⟦<Composite<Batch<'a>, TxnPiece<'a>> as Part>⟧.is_new self.new.run }
+        ensures new { IsNewBatchTask self.new }
     {
         let asked = BatchAsked {
             pieces: PieceList::of(pieces),
             spent,
         };
-        self.run = Composite::new(Batch::new(self.geometry, asked));
+        self.run = BatchRun::new(self.geometry, asked);
     }
 
     /// How a piece has ended, counted from 0. Conditions: the batch is over, and there are more than so many pieces.
@@ -75,21 +76,21 @@ impl<'a> Part for BatchTask<'a> {
 
     type Made = (Geometry, BatchAsked);
 
-    ghost use Rattle.nm_batch.specs.Leaving.{MayBatch};
     ghost use Rattle.nm_batch.specs.Places.{batch_made};
-    ghost use Rattle.nm_batch.specs.Tasks.{batch_of, HasBatchEnds, IsBatchTaskLeft, IsToldEnds};
+    ghost use Rattle.nm_batch.specs.Runs.{MayBatchRun};
+    ghost use Rattle.nm_batch.specs.Tasks.{batch_of, IsNewBatchTask, AwaitsBatchTask, HasBatchEnds, IsBatchTaskLeft, IsToldEnds};
 
     ghost made = { batch_of };
 
-    ghost is_new = { λ t. ⟦<Composite<Batch<'a>, TxnPiece<'a>> as Part>⟧.is_new t.run };
+    ghost is_new = { IsNewBatchTask };
 
-    ghost may_begin = { λ made g view. MayBatch made.0 (batch_made made.1) g view };
+    ghost may_begin = { MayBatchRun };
 
     ghost shape = { λ made g own count. HasBatchEnds (batch_made made.1) g own count };
 
     ghost leaves = { λ made g view count left. IsBatchTaskLeft (batch_made made.1) view count left };
 
-    ghost awaits = { λ t. ⟦<Composite<Batch<'a>, TxnPiece<'a>> as Part>⟧.awaits t.run };
+    ghost awaits = { AwaitsBatchTask };
 
     ghost ended = { λ t g own count. IsToldEnds (batch_made (batch_of t).1) t.ends.value g own count };
 

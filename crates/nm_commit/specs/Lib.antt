@@ -1,3 +1,4 @@
 pub mod Unmapping
 pub mod Deciding
 pub mod Stages
+pub mod Runs

@@ -125,7 +125,7 @@ remapped g made o = mapped_at made.vpage (moved_word g made.frame made.word) (sh
 abbrev pub frames_left : DecideMade → View → List Owned
 frames_left made view = erase owned_frame made.frame view.owned
 
--- it may go on from the first view, which has page_changed so
+-- it may go on from the first view, which has changed so
 pub record IsAt (made : DecideMade) (g : Geometry) (view now is : View) : Type 0 where
   pub may : MayDecide g made g view
   pub same : now ≡ is

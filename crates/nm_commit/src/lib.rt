@@ -2,7 +2,11 @@
 #![tactic(auto)]
 
 pub mod decide;
+pub mod decide_run;
 pub mod unmap;
+pub mod unmap_run;
 
 pub use decide::{Decide, DecideMade, DecidePiece, Decided};
+pub use decide_run::DecideRun;
 pub use unmap::{UnmapMade, UnmapOne};
+pub use unmap_run::UnmapRun;

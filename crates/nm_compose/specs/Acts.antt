@@ -10,6 +10,7 @@ use Rattle.nm_step.specs.Table.{change_of, IsReplyTo}
 use Rattle.nm_event.specs.Fitting.{Fits}
 use Rattle.nm_action.specs.Own.{Own}
 use Rattle.nm_part.specs.Parts.{IsQuiet}
+use Rattle.nm_compose.specs.declared.act.Act.{Act}
 
 -- the action is quiet, and the view permits it
 pub record MayAct (g : Geometry) (view : View) (action : Action) : Type 0 where
@@ -25,3 +26,7 @@ pub record IsAct (action : Action) (g : Geometry) (own : Own) (reply : Reply) : 
 pub record IsActed (g : Geometry) (view : View) (action : Action) (reply : Reply) (left : View) : Type 0 where
   pub fits : Fits g view action reply
   pub is : left ≡ after_of g view action reply
+
+-- it awaits the answer to its action, the first of its list
+abbrev pub AwaitsAct : Act → Geometry → View → Own → Action → Type 0
+AwaitsAct p g view own action = (own ≡ []) × (action ≡ p.action)

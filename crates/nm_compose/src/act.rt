@@ -25,9 +25,8 @@ impl Part for Act {
 
     type Made = Action;
 
-    ghost use Rattle.std.specs.Prelude.{◌≡◌, []};
     ghost use Rattle.nm_part.specs.Parts.{NothingTold};
-    ghost use Rattle.nm_compose.specs.Acts.{MayAct, IsAct, IsActed};
+    ghost use Rattle.nm_compose.specs.Acts.{MayAct, IsAct, IsActed, AwaitsAct};
 
     ghost made = { λ p. p.action };
 
@@ -40,7 +39,7 @@ impl Part for Act {
 
     ghost leaves = { λ action g view reply left. IsActed g view action reply left };
 
-    ghost awaits = { λ p g view own action. (own ≡ []) × (action ≡ p.action) };
+    ghost awaits = { AwaitsAct };
 
     ghost ended = { λ p g own reply. NothingTold g own reply };
 

@@ -1,2 +1,3 @@
 pub mod Cooling
 pub mod Stages
+pub mod Runs

@@ -12,20 +12,19 @@ use Rattle.nm_view.specs.Opening.{opened}
 use Rattle.nm_part.specs.Patterns.{Ends}
 use Rattle.nm_compose.specs.Acts.{MayAct, IsAct, IsActed}
 use Rattle.nm_compose.specs.Choices.{or_made, IsNewOr, MayBeginOr, IsOr, LeavesOr}
-use Rattle.nm_compose.specs.Composites.{HasFirst}
-use Rattle.nm_compose.specs.Stages.{Stages, IsPieceAt}
+use Rattle.nm_compose.specs.Stages.{Stages}
 use Rattle.nm_compose.specs.declared.act.Act.{Act}
-use Rattle.nm_compose.specs.declared.composite.Composite.{Composite}
 use Rattle.nm_compose.specs.declared.or.Or.{Or}
 use Rattle.nm_compose.specs.declared.or.Or.TheVariants.{This, Other}
 use Rattle.nm_vpages.specs.VPages.{vpages_of}
 use Rattle.nm_mappings.specs.Visits.{IsVisits, MayVisit, IsVisited, arms_made}
-use Rattle.nm_mappings.specs.Visiting.{visit_place, visit_left, visit_stages}
 use Rattle.nm_mappings.specs.declared.visits.VisitsMade.{VisitsMade}
-use Rattle.nm_mappings.specs.declared.visits.VisitPlan.{VisitPlan}
+use Rattle.nm_mappings.specs.declared.run.Visits.{Visits}
+use Rattle.nm_mappings.specs.Runs.{visits_made, IsNewVisitsRun}
 use Rattle.nm_looks.specs.declared.seen.Seen.{Seen}
 use Rattle.nm_looks.specs.Seeing.{LooksData, IsLooks, MayLooks, HasLooked}
-use Rattle.nm_looks.specs.Parts.{page_looks, LooksPart, looks_part_data, IsNewLooksPart}
+use Rattle.nm_looks.specs.declared.run.LooksRun.{LooksRun}
+use Rattle.nm_looks.specs.Parts.{page_looks, looks_run_made, IsNewLooksRun}
 use Rattle.nm_cool.specs.declared.cool.Cool.{Cool}
 use Rattle.nm_cool.specs.declared.cool.CoolStage.{CoolStage}
 use Rattle.nm_cool.specs.declared.cool.CoolStage.TheVariants.{New, Locking, Looking, Arming, Marking, Unlocking}
@@ -54,20 +53,20 @@ abbrev pub CoolPieceLeaves : CoolPieceMade → Geometry → View → CoolPieceEn
 CoolPieceLeaves = LeavesOr (λ action g view reply left. IsActed g view action reply left) (LeavesOr (λ made g view seen left. HasLooked made view seen left) (λ made g view found left. IsVisited made view found left))
 
 abbrev pub ArmsPart : Type 0
-ArmsPart = Composite VisitPlan Act
+ArmsPart = Visits
 
 abbrev pub CoolPiece : Type 0
-CoolPiece = Or Act (Or LooksPart ArmsPart)
+CoolPiece = Or Act (Or LooksRun ArmsPart)
 
 -- the data of a piece, and that it has given no action
 abbrev pub cool_piece_made : CoolPiece → CoolPieceMade
-cool_piece_made = or_made (λ a. a.action) (or_made looks_part_data (λ c. c.plan.made))
+cool_piece_made = or_made (λ a. a.action) (or_made looks_run_made visits_made)
 
 abbrev pub IsNewArmsPart : ArmsPart → Type 0
-IsNewArmsPart c = HasFirst (λ (a : Act). a.action) (λ a. Unit {0}) (λ action g view. MayAct g view action) IsAct (IsPieceAt visit_stages c.plan.made (visit_place c.plan)) (visit_left c.plan.made (visit_place c.plan)) MayVisit IsVisits c.plan.made c.piece
+IsNewArmsPart = IsNewVisitsRun
 
 abbrev pub IsNewCoolPiece : CoolPiece → Type 0
-IsNewCoolPiece = IsNewOr (λ a. Unit {0}) (IsNewOr IsNewLooksPart IsNewArmsPart)
+IsNewCoolPiece = IsNewOr (λ a. Unit {0}) (IsNewOr IsNewLooksRun IsNewArmsPart)
 
 -- the reply with which an action ended, and the virtual pages that Looks saw outside tier 0 (of other pieces nothing is
 -- claimed by these)

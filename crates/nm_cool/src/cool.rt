@@ -10,7 +10,7 @@ ghost use Rattle.nm_cool.specs.Stages.{cool_data, cool_piece, cool_piece_made, I
 use nm_base::Geometry;
 use nm_compose::{Act, Composite, Next, Or, Plan};
 use nm_event::{Action, Reply};
-use nm_looks::{Looks, LooksPart, Seen};
+use nm_looks::{Looks, LooksRun, Seen};
 use nm_mappings::{VisitPlan, Visits};
 use nm_vpages::VPageSet;
 use std::mem;
@@ -32,7 +32,7 @@ pub enum Cooled {
 }
 
 /// How far the steps have come.
-#[derive(Debug, Drop)]
+#[derive(Drop)]
 pub(crate) enum CoolStage {
     /// They have not begun.
     New,
@@ -49,7 +49,7 @@ pub(crate) enum CoolStage {
 }
 
 /// A piece of the steps: an action, Looks at the page's virtual pages, or Arms of them.
-pub type CoolPiece<'a> = Or<Act, Or<LooksPart<'a>, Visits>>;
+pub type CoolPiece<'a> = Or<Act, Or<LooksRun<'a>, Visits>>;
 
 /// How a piece ends.
 pub type CoolEnd = Or<Reply, Or<Seen, VPageSet>>;
@@ -149,7 +149,7 @@ fn looks<'a>(plan: Looks<'a>) -> CoolPiece<'a>
     ensures made { cool_piece_made result ≡ Or.Other (Or.This (looks_data plan.entry)) }
     ensures new { IsNewCoolPiece result }
 {
-    Or::Other(Or::This(Composite::new(plan)))
+    Or::Other(Or::This(LooksRun::new(plan)))
 }
 
 /// The piece that arms virtual pages.
@@ -158,7 +158,7 @@ fn arms<'a>(plan: VisitPlan) -> CoolPiece<'a>
     ensures made { cool_piece_made result ≡ Or.Other (Or.Other plan.made) }
     ensures new { IsNewCoolPiece result }
 {
-    Or::Other(Or::Other(Composite::new(plan)))
+    Or::Other(Or::Other(Visits::new(plan)))
 }
 
 impl<'a> Plan<CoolPiece<'a>> for Cool<'a> {

@@ -2,5 +2,7 @@
 #![tactic(auto)]
 
 pub mod cool;
+pub mod run;
 
 pub use cool::{Cool, CoolEnd, CoolPiece, Cooled};
+pub use run::CoolRun;

@@ -123,6 +123,19 @@ impl State {
         })
     }
 
+    /// The state of these parts: the words and the views of a machine of this geometry. Condition: they are what a state can
+    /// have. It takes no memory.
+    pub fn of_parts(geometry: Geometry, words: Words, views: Vec<ActorView>) -> State
+        requires { IsKept (state_of geometry words views.items) }
+        ensures { result ≡ state_of geometry words views.items }
+    {
+        State {
+            geometry,
+            words,
+            views,
+        }
+    }
+
     /// The geometry of the machine.
     pub fn geometry(&self) -> &Geometry
         ensures same { result.now ≡ self.now.geometry }

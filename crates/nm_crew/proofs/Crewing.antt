@@ -11,11 +11,11 @@ use Rattle.nm_script.specs.declared.schedule.Schedule.{Schedule}
 use Rattle.nm_script.specs.Script.{IsSchedule}
 use Rattle.nm_schedule.specs.declared.turn.Played.{Played}
 use Rattle.nm_schedule.specs.declared.turn.SimTurn.{SimTurn}
-use Rattle.nm_schedule.specs.Played.{turns_by}
+use Rattle.nm_schedule.specs.Played.{sim_turn, turns_by}
 use Rattle.nm_play.specs.Crews.{AtActor}
-use Rattle.nm_play.specs.Played.{HasPlayed, IsRunOf}
+use Rattle.nm_play.specs.Played.{HasPlayed, IsRunOf, IsWatchedRun}
 use Rattle.nm_play.proofs.Members.{Kind, Says, machine_of, Agrees, at-cpu, at-migrator, at-reclaimer, at-never}
-use Rattle.nm_crew.specs.Crewed.{AtEach, IsAgreedAt, IsCrewRun}
+use Rattle.nm_crew.specs.Crewed.{AtEach, IsAgreedAt, IsCrewRun, IsWatchedCrewRun}
 use Rattle.nm_crew.proofs.Simulating.{simulated-of}
 
 -- ---- at the beginning
@@ -109,4 +109,16 @@ crew-run kc km kr g schedule cpus m r state events order turns end many is says 
   each = each-played kc km kr g run.played cpus m r many run.actors;
   migrator = migrator-played kc km kr g run.played cpus m r many run.actors;
   reclaimer = reclaimer-played kc km kr g run.played cpus m r many run.actors;
+}
+
+-- the run of a crew that was watched
+pub watched-run : {C CMade M MMade R RMade : Type 0} (kc : Kind C CMade) (km : Kind M MMade) (kr : Kind R RMade) (g : Geometry) (schedule : Schedule) (cpus : List C) (m : M) (r : R) (state : State) (kept : List Played → Type 0) (turns : ℕ) (end : EndWords)
+    → length cpus ≡ g.cpus → IsGeometry g → IsSchedule g.cpus schedule → (run : IsWatchedRun g schedule (Agrees kc km kr cpus m r) state kept turns) → IsEndOf state end
+    → IsWatchedCrewRun kc.agrees (km.agrees m) (kr.agrees r) g schedule cpus kept turns end
+unfolding crew-run
+watched-run kc km kr g schedule cpus m r state kept turns end many is says run ends = record {
+  events = run.events;
+  order = run.order;
+  run = crew-run kc km kr g schedule cpus m r state run.events run.order turns end many is says run.run (run.many ∙ sym (ap length run.run.ordered ∙ length-map run.run.played sim_turn)) ends;
+  told = run.told;
 }

@@ -45,6 +45,14 @@ pub record IsCrewRun {C : Type 0} (cpu_agrees : C → Turns → Option Turn → 
   pub migrator : IsAgreedAt migrator_agrees played g.cpus
   pub reclaimer : IsAgreedAt reclaimer_agrees played (g.cpus + 1)
 
+-- such a simulation, of which a watcher keeps what it may: some events and some order are those of it, and what is kept agrees
+-- with its turns
+pub record IsWatchedCrewRun {C : Type 0} (cpu_agrees : C → Turns → Option Turn → Type 0) (migrator_agrees reclaimer_agrees : Turns → Option Turn → Type 0) (g : Geometry) (schedule : Schedule) (cpus : List C) (kept : List Played → Type 0) (turns : ℕ) (end : EndWords) : Type 0 where
+  pub events : List Event
+  pub order : List SimTurn
+  pub run : IsCrewRun cpu_agrees migrator_agrees reclaimer_agrees g schedule cpus events order turns end
+  pub told : kept run.played
+
 -- the counts so far with those of some actors, each count at most 2^64 - 1
 abbrev pub tallies_from : Tally → List Tally → Tally
 tallies_from tally [] = tally

@@ -3,24 +3,21 @@
 ghost use Rattle.std.specs.Prelude.{◌≡◌, ℕ, ◌+◌, [], map, length, IfOk, Some};
 ghost use Rattle.nm_action.specs.declared.turn.Turn.TheVariants as turn;
 ghost use Rattle.nm_script.specs.Script.{IsSchedule};
-ghost use Rattle.nm_crew.specs.Crewed.{AtEach, IsNewAt, IsCrewRun, tally_of, crew_tallies};
+ghost use Rattle.nm_crew.specs.Crewed.{AtEach, IsNewAt, IsWatchedCrewRun, tally_of, crew_tallies};
 
-use nm_action::{Event, Tally};
+use nm_action::Tally;
 use nm_actor::Actor;
 use nm_base::Geometry;
 use nm_core::EndWords;
-use nm_play::{Actors, run_schedule};
-use nm_schedule::SimTurn;
+use nm_play::{Actors, Watcher, run_schedule};
 use nm_script::Schedule;
 use std::alloc::{AllocError, Global};
 
 /// A simulation of processors, a migrator and a reclaimer.
 #[derive(Drop)]
-pub struct CrewRun<C, M, R> {
-    /// The events, in order.
-    pub events: Vec<Event>,
-    /// The turns, in order.
-    pub order: Vec<SimTurn>,
+pub struct CrewRun<C, M, R, W> {
+    /// What heard the turns.
+    pub watcher: W,
     /// The actors after their turns.
     pub crew: Actors<C, M, R>,
     /// The words at the end.
@@ -54,12 +51,13 @@ fn counts_of_all<C: Actor, M: Actor, R: Actor>(crew: &Actors<C, M, R>) -> Tally
 /// Conditions: each actor is the one of its place in this machine, the processors from 0, the migrator behind them, the
 /// reclaimer last, and has given no turn; no actor ends at once, whatever state of it that is; the schedule is one that a script
 /// can say.
-pub fn run_crew<C: Actor + Drop, M: Actor + Drop, R: Actor + Drop>(
+pub fn run_crew<C: Actor + Drop, M: Actor + Drop, R: Actor + Drop, W: Watcher + Drop>(
     alloc: Global,
     g: &Geometry,
     schedule: &Schedule,
     crew: Actors<C, M, R>,
-) -> Result<CrewRun<C, M, R>, AllocError>
+    watcher: W,
+) -> Result<CrewRun<C, M, R, W>, AllocError>
     requires many { length crew.cpus.items ≡ g.now.cpus }
     requires each { AtEach (λ cpu c. IsNewAt C.geometry C.number (C.made c) (C.is_new c) g.now cpu) crew.cpus.items }
     requires migrator { IsNewAt M.geometry M.number (M.made crew.migrator) (M.is_new crew.migrator) g.now g.now.cpus }
@@ -67,27 +65,26 @@ pub fn run_crew<C: Actor + Drop, M: Actor + Drop, R: Actor + Drop>(
     requires cpu_acts { (c : C) → ¬ C.agrees c [] (Some turn.End) }
     requires migrator_acts { (m : M) → ¬ M.agrees m [] (Some turn.End) }
     requires reclaimer_acts { (r : R) → ¬ R.agrees r [] (Some turn.End) }
+    requires nothing { W.kept watcher g.now [] }
     requires schedule { IsSchedule g.now.cpus schedule.now }
     ensures cpus { IfOk result (λ run. map C.made run.crew.cpus.items ≡ map C.made crew.cpus.items) }
     ensures migrator { IfOk result (λ run. M.made run.crew.migrator ≡ M.made crew.migrator) }
     ensures reclaimer { IfOk result (λ run. R.made run.crew.reclaimer ≡ R.made crew.reclaimer) }
-    ensures run { IfOk result (λ run. IsCrewRun C.agrees (M.agrees run.crew.migrator) (R.agrees run.crew.reclaimer)
-        g.now schedule.now run.crew.cpus.items run.events.items run.order.items run.turns run.end) }
+    ensures run { IfOk result (λ run. IsWatchedCrewRun C.agrees (M.agrees run.crew.migrator) (R.agrees run.crew.reclaimer)
+        g.now schedule.now run.crew.cpus.items (W.kept run.watcher g.now) run.turns run.end) }
     ensures tally { IfOk result (λ run. run.tally ≡ tally_of (crew_tallies (map C.counted run.crew.cpus.items) (M.counted run.crew.migrator) (R.counted run.crew.reclaimer))) }
 {
     // The limits of the geometry are those of an open one.
     let _cpus = g.cpus;
-    let run = run_schedule(alloc, g, schedule, crew)?;
+    let run = run_schedule(alloc, g, schedule, crew, watcher)?;
     let mut end = EndWords::with_room(alloc, g)?;
     run.state.end_words(&mut end);
     let tally = counts_of_all(&run.crew);
-    let turns = run.order.len() as u32;
     Ok(CrewRun {
-        events: run.events,
-        order: run.order,
+        watcher: run.watcher,
         crew: run.crew,
         end,
         tally,
-        turns,
+        turns: run.turns,
     })
 }

@@ -22,7 +22,8 @@ use Rattle.nm_demote.specs.declared.select.Selected.{Selected}
 use Rattle.nm_demote.specs.declared.select.Select.{Select}
 use Rattle.nm_demote.specs.declared.select.Stage.{Stage}
 use Rattle.nm_demote.specs.Selections.{IsSelected}
-use Rattle.nm_demote.specs.Stages.{ObtainData, SelectParts, SelectPieceEnd, MayObtainOf, IsObtainOf, MaySelectPiece, IsSelectPiece, SelectPieceLeaves, select_piece, select_left, SelectKnown}
+use Rattle.nm_demote.specs.Stages.{SelectParts, SelectPieceEnd, MaySelectPiece, IsSelectPiece, SelectPieceLeaves, select_piece, select_left, SelectKnown}
+use Rattle.nm_obtain.specs.Runs.{ObtainData, MayObtainOf, IsObtainOf}
 
 abbrev IsOthers : Or VisitsMade ObtainData → Geometry → Own → Or (List ℕ) Obtained → Type 0
 IsOthers = IsOr IsVisits IsObtainOf

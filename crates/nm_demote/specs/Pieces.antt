@@ -18,7 +18,8 @@ use Rattle.nm_transfer.specs.declared.transfer.TransferMade.{TransferMade}
 use Rattle.nm_transfer.specs.Transferring.{IsTransfer}
 use Rattle.nm_transfer.specs.Moving.{MayTransfer, IsTransferred}
 use Rattle.nm_locked.specs.Stages.{IsPoolOf}
-use Rattle.nm_locked.specs.Pieces.{TransferPart, IsNewTransferPart}
+use Rattle.nm_transfer.specs.declared.run.TransferRun.{TransferRun}
+use Rattle.nm_transfer.specs.Runs.{transfer_run_made, IsNewTransferRun}
 use Rattle.nm_demote.specs.declared.select.DemoteMade.{DemoteMade}
 use Rattle.nm_demote.specs.declared.select.Selected.{Selected}
 use Rattle.nm_demote.specs.Selections.{IsSelected}
@@ -43,11 +44,11 @@ DemotePieceLeaves = LeavesOr (λ made g view outcome left. IsSelected made.1 g v
     (LeavesOr (λ action g view reply left. IsActed g view action reply left) (λ made g view end left. Leaves g made.job view end left)))
 
 abbrev pub DemotePiece : Type 0
-DemotePiece = Or SelectTask (Or TransferPart (Or Act PoolTask))
+DemotePiece = Or SelectTask (Or TransferRun (Or Act PoolTask))
 
 -- the data of a piece, and that it has given no action
 abbrev pub demote_parts : DemotePiece → DemoteParts
-demote_parts = or_made select_of (or_made (λ c. c.plan.made) (or_made (λ a. a.action) made_of))
+demote_parts = or_made select_of (or_made transfer_run_made (or_made (λ a. a.action) made_of))
 
 abbrev pub IsNewDemotePiece : DemotePiece → Type 0
-IsNewDemotePiece = IsNewOr IsNewSelection (IsNewOr IsNewTransferPart (IsNewOr (λ a. Unit {0}) IsNewPool))
+IsNewDemotePiece = IsNewOr IsNewSelection (IsNewOr IsNewTransferRun (IsNewOr (λ a. Unit {0}) IsNewPool))

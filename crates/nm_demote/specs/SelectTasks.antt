@@ -4,25 +4,18 @@ use Rattle.nm_base.specs.Geometry.{Geometry}
 use Rattle.nm_action.specs.declared.action.Action.{Action}
 use Rattle.nm_action.specs.Own.{Own}
 use Rattle.nm_view.specs.Views.{View}
-use Rattle.nm_compose.specs.Acts.{IsAct}
 use Rattle.nm_compose.specs.Choices.{AwaitsOr}
 use Rattle.nm_compose.specs.Composites.{HasFirst, IsRunning}
-use Rattle.nm_compose.specs.Stages.{IsPieceAt}
-use Rattle.nm_compose.specs.declared.act.Act.{Act}
-use Rattle.nm_pool.specs.Stages.{AwaitsPool}
-use Rattle.nm_reclaim.specs.Sweeping.{sweep_piece_made, IsSweepPiece, IsSweep, sweep_stages, sweep_left}
-use Rattle.nm_obtain.specs.Obtains.{IsObtain}
-use Rattle.nm_obtain.specs.Searching.{SweepPart, sweep_part_made, obtain_parts, IsObtainPiece, obtain_made, obtain_left, obtain_stages}
-use Rattle.nm_mappings.specs.Visits.{IsVisits}
-use Rattle.nm_mappings.specs.Visiting.{visit_place, visit_left, visit_stages}
+use Rattle.nm_compose.specs.Acts.{AwaitsAct}
+use Rattle.nm_obtain.specs.Runs.{AwaitsObtainRun}
+use Rattle.nm_mappings.specs.Runs.{AwaitsVisits}
 use Rattle.nm_prepare.specs.Placing.{IsPlanPlaced}
 use Rattle.nm_demote.specs.declared.select.DemoteMade.{DemoteMade}
 use Rattle.nm_demote.specs.declared.select.Selected.{Selected}
 use Rattle.nm_demote.specs.declared.select_task.SelectTask.{SelectTask}
 use Rattle.nm_demote.specs.Selecting.{IsSelecting}
 use Rattle.nm_demote.specs.Selections.{MayDemote}
-use Rattle.nm_obtain.specs.Searching.{ObtainPart}
-use Rattle.nm_demote.specs.Stages.{VisitsPart, select_piece_made, IsNewSelectPiece, MaySelectPiece, IsSelectPiece, select_piece, select_left, SelectKnown}
+use Rattle.nm_demote.specs.Stages.{select_piece_made, IsNewSelectPiece, MaySelectPiece, IsSelectPiece, select_piece, select_left, SelectKnown}
 
 -- what it was begun with, in which geometry
 abbrev pub select_of : SelectTask → Geometry × DemoteMade
@@ -40,19 +33,6 @@ IsNewSelection t = HasFirst select_piece_made IsNewSelectPiece MaySelectPiece Is
     MaySelectOf IsSelectingOf (select_of t) t.run.piece
 
 -- it awaits the answer that its piece awaits
-
-abbrev pub ActAwaited : Act → Geometry → View → Own → Action → Type 0
-ActAwaited p g view own action = (own ≡ []) × (action ≡ p.action)
-
-abbrev pub LooksAwaited : VisitsPart → Geometry → View → Own → Action → Type 0
-LooksAwaited c = IsRunning IsAct (ActAwaited c.piece) (IsPieceAt visit_stages c.plan.made (visit_place c.plan)) (visit_left c.plan.made (visit_place c.plan)) (IsVisits c.plan.made) c.piece.action
-
-abbrev pub SweepAwaited : SweepPart → Geometry → View → Own → Action → Type 0
-SweepAwaited c = IsRunning IsSweepPiece (AwaitsOr ActAwaited AwaitsPool c.piece) (IsPieceAt sweep_stages (sweep_part_made c) c.plan.place) (sweep_left (sweep_part_made c) c.plan.place) (IsSweep (sweep_part_made c)) (sweep_piece_made c.piece)
-
-abbrev pub ObtainAwaited : ObtainPart → Geometry → View → Own → Action → Type 0
-ObtainAwaited c = IsRunning IsObtainPiece (AwaitsOr AwaitsPool SweepAwaited c.piece) (IsPieceAt obtain_stages (obtain_made c.plan.geometry.now c.plan.made) c.plan.stage) (obtain_left (obtain_made c.plan.geometry.now c.plan.made) c.plan.stage) (λ g own outcome. IsObtain c.plan.made g own outcome) (obtain_parts c.piece)
-
 abbrev pub AwaitsSelection : SelectTask → Geometry → View → Own → Action → Type 0
-AwaitsSelection t = IsRunning IsSelectPiece (AwaitsOr ActAwaited (AwaitsOr LooksAwaited ObtainAwaited) t.run.piece) (IsPlanPlaced select_piece SelectKnown t.run.plan.geometry.now t.run.plan.made t.run.plan.stage) (select_left t.run.plan.made t.run.plan.stage)
+AwaitsSelection t = IsRunning IsSelectPiece (AwaitsOr AwaitsAct (AwaitsOr AwaitsVisits AwaitsObtainRun) t.run.piece) (IsPlanPlaced select_piece SelectKnown t.run.plan.geometry.now t.run.plan.made t.run.plan.stage) (select_left t.run.plan.made t.run.plan.stage)
     (λ g own outcome. IsSelecting t.run.plan.made g own outcome) (select_piece_made t.run.piece)

@@ -19,22 +19,18 @@ use Rattle.nm_base.specs.ShadowWord.{shadow_frame}
 use Rattle.nm_part.specs.Patterns.{Ends}
 use Rattle.nm_compose.specs.Acts.{MayAct, IsAct, IsActed}
 use Rattle.nm_compose.specs.Choices.{or_made, IsNewOr, MayBeginOr, IsOr, LeavesOr}
-use Rattle.nm_compose.specs.Composites.{HasFirst}
-use Rattle.nm_compose.specs.Stages.{IsPieceAt}
 use Rattle.nm_compose.specs.declared.act.Act.{Act}
-use Rattle.nm_compose.specs.declared.composite.Composite.{Composite}
 use Rattle.nm_compose.specs.declared.or.Or.{Or}
 use Rattle.nm_compose.specs.declared.or.Or.TheVariants.{This, Other}
 use Rattle.nm_vpages.specs.VPages.{vpages_of}
 use Rattle.nm_mappings.specs.Visits.{IsVisits, MayVisit, IsVisited, looks_made}
-use Rattle.nm_mappings.specs.Visiting.{visit_place, visit_left, visit_stages}
 use Rattle.nm_mappings.specs.declared.visits.VisitsMade.{VisitsMade}
-use Rattle.nm_mappings.specs.declared.visits.VisitPlan.{VisitPlan}
+use Rattle.nm_mappings.specs.declared.run.Visits.{Visits}
+use Rattle.nm_mappings.specs.Runs.{visits_made, IsNewVisitsRun}
 use Rattle.nm_copying.specs.Copying.{told}
-use Rattle.nm_obtain.specs.Obtains.{IsObtain}
-use Rattle.nm_obtain.specs.Obtaining.{MayObtain, IsObtained}
-use Rattle.nm_obtain.specs.Searching.{ObtainPart, obtain_parts, IsNewObtainPiece, MayObtainPiece, IsObtainPiece, obtain_made, obtain_left, obtain_stages}
-use Rattle.nm_obtain.specs.declared.obtain.ObtainMade.{ObtainMade}
+use Rattle.nm_obtain.specs.Obtaining.{IsObtained}
+use Rattle.nm_obtain.specs.declared.run.ObtainRun.{ObtainRun}
+use Rattle.nm_obtain.specs.Runs.{ObtainData, MayObtainOf, IsObtainOf, obtain_run_made, IsNewObtainRun}
 use Rattle.nm_obtain.specs.declared.obtain.Obtained.{Obtained}
 use Rattle.nm_obtain.specs.declared.obtain.Obtained.TheVariants.{AtFloor}
 use Rattle.nm_prepare.specs.Worn.{is_worn}
@@ -51,20 +47,11 @@ use Rattle.nm_demote.specs.Selections.{MayDemote, IsFastHome, HasSeenToDemote}
 
 -- The pieces.
 
-abbrev pub ObtainData : Type 0
-ObtainData = Geometry × ObtainMade
-
 abbrev pub SelectParts : Type 0
 SelectParts = Or Action (Or VisitsMade ObtainData)
 
 abbrev pub SelectPieceEnd : Type 0
 SelectPieceEnd = Or Reply (Or (List ℕ) Obtained)
-
-abbrev pub MayObtainOf : ObtainData → Geometry → View → Type 0
-MayObtainOf made g view = MayObtain made.0 made.1 g view
-
-abbrev pub IsObtainOf : ObtainData → Geometry → Own → Obtained → Type 0
-IsObtainOf made g own outcome = IsObtain made.1 g own outcome
 
 abbrev pub MaySelectPiece : SelectParts → Geometry → View → Type 0
 MaySelectPiece = MayBeginOr (λ action g view. MayAct g view action) (MayBeginOr MayVisit MayObtainOf)
@@ -75,25 +62,15 @@ IsSelectPiece = IsOr IsAct (IsOr IsVisits IsObtainOf)
 abbrev pub SelectPieceLeaves : SelectParts → Geometry → View → SelectPieceEnd → View → Type 0
 SelectPieceLeaves = LeavesOr (λ action g view reply left. IsActed g view action reply left) (LeavesOr (λ made g view found left. IsVisited made view found left) (λ (made : ObtainData) g view outcome left. IsObtained made.1 g view outcome left))
 
-abbrev pub VisitsPart : Type 0
-VisitsPart = Composite VisitPlan Act
-
 abbrev pub SelectPiece : Type 0
-SelectPiece = Or Act (Or VisitsPart ObtainPart)
+SelectPiece = Or Act (Or Visits ObtainRun)
 
 -- the data of a piece, and that it has given no action
 abbrev pub select_piece_made : SelectPiece → SelectParts
-select_piece_made = or_made (λ a. a.action) (or_made (λ c. c.plan.made) (λ c. obtain_made c.plan.geometry.now c.plan.made))
-
-abbrev pub IsNewDemoteLooks : VisitsPart → Type 0
-IsNewDemoteLooks c = HasFirst (λ (a : Act). a.action) (λ a. Unit {0}) (λ action g view. MayAct g view action) IsAct (IsPieceAt visit_stages c.plan.made (visit_place c.plan)) (visit_left c.plan.made (visit_place c.plan)) MayVisit IsVisits c.plan.made c.piece
-
-abbrev pub IsNewDemoteObtain : ObtainPart → Type 0
-IsNewDemoteObtain c = HasFirst obtain_parts IsNewObtainPiece MayObtainPiece IsObtainPiece (IsPieceAt obtain_stages (obtain_made c.plan.geometry.now c.plan.made) c.plan.stage) (obtain_left (obtain_made c.plan.geometry.now c.plan.made) c.plan.stage)
-    MayObtainOf IsObtainOf (obtain_made c.plan.geometry.now c.plan.made) c.piece
+select_piece_made = or_made (λ a. a.action) (or_made visits_made obtain_run_made)
 
 abbrev pub IsNewSelectPiece : SelectPiece → Type 0
-IsNewSelectPiece = IsNewOr (λ a. Unit {0}) (IsNewOr IsNewDemoteLooks IsNewDemoteObtain)
+IsNewSelectPiece = IsNewOr (λ a. Unit {0}) (IsNewOr IsNewVisitsRun IsNewObtainRun)
 
 -- the reply with which an action ended, the word that it carries, the virtual pages that visits found, and how the search for
 -- a frame ended (of other pieces nothing is claimed by these)

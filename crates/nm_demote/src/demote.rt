@@ -17,10 +17,10 @@ ghost use Rattle.nm_demote.specs.Places.{IsDemoteOverWith};
 use crate::select::{DemoteMade, Early, Selected};
 use crate::select_task::SelectTask;
 use nm_base::Geometry;
-use nm_compose::{Act, Composite, Next, Or, Plan};
+use nm_compose::{Act, Next, Or, Plan};
 use nm_event::{Action, Reply, Spent};
 use nm_pool::{PoolEnd, PoolTask};
-use nm_transfer::{Rights, Source, TakenWords, Transfer, TransferPiece};
+use nm_transfer::{Rights, Source, TakenWords, Transfer, TransferRun};
 use nm_vpages::VPageSet;
 use std::mem;
 
@@ -78,10 +78,7 @@ pub(crate) enum DemoteStage {
 
 /// A piece of a demotion: the steps before the page is taken out of the table, its transfer to the new home, an action, or a
 /// task on the free frames.
-pub type DemotePiece<'a> = Or<
-    SelectTask<'a>,
-    Or<Composite<Transfer, TransferPiece>, Or<Act, PoolTask>>,
->;
+pub type DemotePiece<'a> = Or<SelectTask<'a>, Or<TransferRun, Or<Act, PoolTask>>>;
 
 /// How a piece of a demotion ends.
 pub type DemotePieceEnd = Or<Selected, Or<TakenWords, Or<Reply, PoolEnd>>>;
@@ -159,7 +156,7 @@ impl<'a> Demote<'a> {
             source,
             pages,
         };
-        Or::Other(Or::This(Composite::new(plan)))
+        Or::Other(Or::This(TransferRun::new(plan)))
     }
 
     /// Comes to the end, where the frame of the old home is put back.

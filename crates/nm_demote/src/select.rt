@@ -12,10 +12,10 @@ ghost use Rattle.nm_demote.specs.Stages.{select_piece, select_piece_made, IsNewS
 
 use nm_base::Geometry;
 use nm_base::shadow_word::shadow_frame;
-use nm_compose::{Act, Composite, Next, Or, Plan};
+use nm_compose::{Act, Next, Or, Plan};
 use nm_event::{Action, Cell, Reply, Spent};
 use nm_mappings::{VisitPlan, Visits};
-use nm_obtain::{Obtain, ObtainPiece, Obtained};
+use nm_obtain::{Obtain, ObtainRun, Obtained};
 use nm_prepare::is_worn;
 use nm_transfer::Source;
 use nm_vpages::VPageSet;
@@ -81,7 +81,7 @@ pub(crate) enum Stage {
 }
 
 /// A piece of the steps: an action, visits of the page's virtual pages, or the search for a frame.
-pub type SelectPiece<'a> = Or<Act, Or<Visits, Composite<Obtain<'a>, ObtainPiece<'a>>>>;
+pub type SelectPiece<'a> = Or<Act, Or<Visits, ObtainRun<'a>>>;
 
 /// How a piece ends.
 pub type SelectEnd = Or<Reply, Or<VPageSet, Obtained>>;
@@ -250,7 +250,7 @@ fn looks<'a>(plan: VisitPlan) -> SelectPiece<'a>
     ensures made { select_piece_made result ≡ Or.Other (Or.This plan.made) }
     ensures new { IsNewSelectPiece result }
 {
-    Or::Other(Or::This(Composite::new(plan)))
+    Or::Other(Or::This(Visits::new(plan)))
 }
 
 /// The piece that seeks a frame.
@@ -259,7 +259,7 @@ fn search<'a>(plan: Obtain<'a>) -> SelectPiece<'a>
     ensures made { select_piece_made result ≡ Or.Other (Or.Other (record { 0 = plan.entry.geometry.now; 1 = plan.entry.made })) }
     ensures new { IsNewSelectPiece result }
 {
-    Or::Other(Or::Other(Composite::new(plan)))
+    Or::Other(Or::Other(ObtainRun::new(plan)))
 }
 
 impl<'a> Plan<SelectPiece<'a>> for Select<'a> {

@@ -37,7 +37,7 @@ impl<'a> Part for DemoteRun<'a> {
     ghost use Rattle.nm_demote.specs.Selections.{MayDemote};
     ghost use Rattle.nm_demote.specs.Demotions.{IsDemotion};
     ghost use Rattle.nm_demote.specs.Leaving.{IsDemoteLeft};
-    ghost use Rattle.nm_demote_run.specs.Runs.{demote_run_made, IsNewDemoteRun};
+    ghost use Rattle.nm_demote_run.specs.Runs.{demote_run_made, IsNewDemoteRun, AwaitsDemotion};
 
     ghost made = { demote_run_made };
 
@@ -49,7 +49,7 @@ impl<'a> Part for DemoteRun<'a> {
 
     ghost leaves = { λ made g view over left. IsDemoteLeft made.1 view over.end left };
 
-    ghost awaits = { λ r. ⟦<Composite<Demote<'a>, DemotePiece<'a>> as Part>⟧.awaits r.run };
+    ghost awaits = { AwaitsDemotion };
 
     ghost ended = { λ r g own over. Unit {0} };
 

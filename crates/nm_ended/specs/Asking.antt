@@ -10,9 +10,6 @@ use Rattle.nm_view.specs.Views.{View, end_word}
 use Rattle.nm_part.specs.Patterns.{Ends, Follows, Either}
 use Rattle.nm_compose.specs.Acts.{IsAct}
 use Rattle.nm_compose.specs.Stages.{Stages}
-use Rattle.nm_compose.specs.declared.act.Act.{Act}
-use Rattle.nm_compose.specs.declared.composite.Composite.{Composite}
-use Rattle.nm_ended.specs.declared.ask.AskEnded.{AskEnded}
 
 -- this reply to a SeeAck says that the processor has ended
 abbrev pub tells_end : Reply → Bool
@@ -35,10 +32,6 @@ pub record MayAsk (cpus : ℕ) (g : Geometry) (view : View) : Type 0 where
   pub all : cpus ≡ g.cpus
   pub some : 0 < cpus
   pub ops : view.ops ≡ []
-
--- the question as a part
-abbrev pub AskPart : Type 0
-AskPart = Composite AskEnded Act
 
 -- The stages: the processor that is asked.
 

@@ -4,7 +4,7 @@ ghost use Rattle.std.specs.Prelude.{◌≡◌, ◌<◌};
 ghost use Rattle.nm_action.specs.declared.action.Action.TheVariants.{SeeAck};
 
 use nm_base::Geometry;
-use nm_compose::{Act, Composite, Next, Plan};
+use nm_compose::{Act, Next, Plan};
 use nm_event::{Action, Reply};
 
 /// The acknowledgement of a processor that has ended.
@@ -18,9 +18,6 @@ pub struct AskEnded {
     /// The one that is asked.
     cpu: u32,
 }
-
-/// The question as a part of an actor's work.
-pub type AskPart = Composite<AskEnded, Act>;
 
 impl AskEnded {
     /// The question to the processors of a geometry. Where it begins the view has no open operation.

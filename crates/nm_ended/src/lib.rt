@@ -2,5 +2,7 @@
 #![tactic(auto)]
 
 pub mod ask;
+pub mod run;
 
-pub use ask::{AskEnded, AskPart};
+pub use ask::AskEnded;
+pub use run::AskRun;

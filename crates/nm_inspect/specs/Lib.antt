@@ -1,2 +1,3 @@
 pub mod Inspecting
 pub mod Stages
+pub mod Runs

@@ -12,7 +12,9 @@ use Rattle.nm_vpages.specs.VPages.{vpages_of}
 use Rattle.nm_looks.specs.declared.seen.Seen.{Seen}
 use Rattle.nm_looks.specs.Seeing.{LooksData, nothing_seen, IsLooks, MayLooks, HasLooked}
 use Rattle.nm_looks.specs.Softening.{IsSoftens, MaySoften}
-use Rattle.nm_looks.specs.Parts.{page_looks, LooksPart, looks_part_data, IsNewLooksPart, SoftensPart, IsNewSoftensPart}
+use Rattle.nm_looks.specs.declared.run.LooksRun.{LooksRun}
+use Rattle.nm_looks.specs.declared.run.SoftensRun.{SoftensRun}
+use Rattle.nm_looks.specs.Parts.{page_looks, looks_run_made, IsNewLooksRun, softens_run_made, IsNewSoftensRun}
 use Rattle.nm_inspect.specs.declared.inspect.Inspect.{Inspect}
 use Rattle.nm_inspect.specs.declared.inspect.InspectStage.{InspectStage}
 use Rattle.nm_inspect.specs.declared.inspect.InspectStage.TheVariants.{New, Looking, Softening}
@@ -46,13 +48,13 @@ abbrev pub InspectPieceLeaves : InspectPieceMade → Geometry → View → Inspe
 InspectPieceLeaves = LeavesOr (λ made g view seen left. HasLooked made view seen left) (λ pages g view end left. left ≡ view)
 
 abbrev pub InspectPiece : Type 0
-InspectPiece = Or LooksPart SoftensPart
+InspectPiece = Or LooksRun SoftensRun
 
 abbrev pub inspect_piece_made : InspectPiece → InspectPieceMade
-inspect_piece_made = or_made looks_part_data (λ c. c.plan.pages)
+inspect_piece_made = or_made looks_run_made softens_run_made
 
 abbrev pub IsNewInspectPiece : InspectPiece → Type 0
-IsNewInspectPiece = IsNewOr IsNewLooksPart IsNewSoftensPart
+IsNewInspectPiece = IsNewOr IsNewLooksRun IsNewSoftensRun
 
 -- what Looks saw (of Softens nothing is claimed by this)
 abbrev pub seen_in : InspectPieceEnd → Seen

@@ -9,8 +9,8 @@ ghost use Rattle.nm_inspect.specs.declared.inspect.InspectStage.{InspectStage};
 ghost use Rattle.nm_inspect.specs.Stages.{inspect_data, inspect_piece, inspect_piece_made, IsNewInspect, IsNewInspectPiece, MayGoInspect};
 
 use nm_base::Geometry;
-use nm_compose::{Composite, Next, Or, Plan};
-use nm_looks::{Looks, LooksPart, Seen, Softens, SoftensPart};
+use nm_compose::{Next, Or, Plan};
+use nm_looks::{Looks, LooksRun, Seen, Softens, SoftensRun};
 use nm_vpages::VPageSet;
 use std::mem;
 
@@ -35,7 +35,7 @@ pub enum Inspected {
 }
 
 /// How far an inspection has come.
-#[derive(Debug, Drop)]
+#[derive(Drop)]
 pub(crate) enum InspectStage {
     /// It has not begun.
     New,
@@ -46,7 +46,7 @@ pub(crate) enum InspectStage {
 }
 
 /// A piece of an inspection: Looks at the page's virtual pages, or Softens of them.
-pub type InspectPiece<'a> = Or<LooksPart<'a>, SoftensPart>;
+pub type InspectPiece<'a> = Or<LooksRun<'a>, SoftensRun>;
 
 /// How a piece ends.
 pub type InspectEnd = Or<Seen, ()>;
@@ -114,7 +114,7 @@ fn looks<'a>(plan: Looks<'a>) -> InspectPiece<'a>
     ensures made { inspect_piece_made result ≡ Or.This (looks_data plan.entry) }
     ensures new { IsNewInspectPiece result }
 {
-    Or::This(Composite::new(plan))
+    Or::This(LooksRun::new(plan))
 }
 
 /// The piece that softens virtual pages.
@@ -123,7 +123,7 @@ fn softens<'a>(plan: Softens) -> InspectPiece<'a>
     ensures made { inspect_piece_made result ≡ Or.Other plan.pages }
     ensures new { IsNewInspectPiece result }
 {
-    Or::Other(Composite::new(plan))
+    Or::Other(SoftensRun::new(plan))
 }
 
 impl<'a> Plan<InspectPiece<'a>> for Inspect<'a> {

@@ -2,5 +2,7 @@
 #![tactic(auto)]
 
 pub mod inspect;
+pub mod run;
 
 pub use inspect::{Inspect, InspectEnd, InspectMade, InspectPiece, Inspected};
+pub use run::InspectRun;

@@ -15,4 +15,4 @@ pub use gates::{Gate, Open};
 pub use mem_sink::MemSink;
 pub use mem_source::MemSource;
 pub use sinks::{Sink, write_all};
-pub use sources::{MOST_BYTES, Source, read_all};
+pub use sources::{MOST_BYTES, Source, bound_of_a_text, read_all};

@@ -11,6 +11,11 @@ use std::alloc::{AllocError, Global};
 /// The most bytes that `read_all` gives.
 pub const MOST_BYTES: usize = 16_777_216;
 
+/// The bound by its number: each definition that speaks of the most bytes speaks of 16,777,216.
+pub fn bound_of_a_text()
+    ensures { MOST_BYTES ≡ 16777216 }
+{}
+
 /// The length of the first slice that `read_all` reads into.
 const FIRST_ROOM: usize = 65_536;
 

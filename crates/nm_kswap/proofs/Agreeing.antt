@@ -16,7 +16,8 @@ use Rattle.nm_routine_part.specs.Parts.{IsEmptyAtEnd}
 use Rattle.nm_routine_part.proofs.Parts.{part-of-routine, part-at-first, empty-at-end}
 use Rattle.nm_kswap.proofs.Lists.{reclaiming-can}
 use Rattle.nm_kswap.proofs.Starting.{reclaiming-acts}
-use Rattle.nm_kswap.specs.Works.{ReclaimerPiece, reclaimer_work_made, MayReclaimerWork, IsReclaimerWork}
+use Rattle.nm_kswap.specs.declared.work.ReclaimerPiece.{ReclaimerPiece}
+use Rattle.nm_kswap.specs.Works.{reclaimer_work_made, MayReclaimerWork, IsReclaimerWork}
 use Rattle.nm_kswap.specs.Ends.{reclaimer_counts}
 use Rattle.nm_kswap.specs.Reclaiming.{IsReclaiming}
 use Rattle.nm_kswap.specs.Knowing.{KnowsReclaiming, ReclaimingLeft}

@@ -26,7 +26,8 @@ use Rattle.nm_kswap.specs.declared.stage.Visit.{Visit}
 use Rattle.nm_kswap.specs.declared.stage.Stage.{Stage}
 use Rattle.nm_kswap.specs.declared.stage.Stage.TheVariants.{New, Asking, Counting, Inspecting, Demoting, Over}
 use Rattle.nm_kswap.specs.declared.reclaiming.Reclaiming.{Reclaiming}
-use Rattle.nm_kswap.specs.Works.{ReclaimerPiece, ReclaimerWorkMade, ReclaimerWorkEnd, reclaimer_work_made, MayReclaimerWork, IsReclaimerWork, ReclaimerWorkLeaves, made_asking, made_level, made_inspect, made_demote}
+use Rattle.nm_kswap.specs.declared.work.ReclaimerPiece.{ReclaimerPiece}
+use Rattle.nm_kswap.specs.Works.{ReclaimerWorkMade, ReclaimerWorkEnd, reclaimer_work_made, MayReclaimerWork, IsReclaimerWork, ReclaimerWorkLeaves, made_asking, made_level, made_inspect, made_demote}
 use Rattle.nm_kswap.specs.Ends.{nothing_drawn, level_in, inspected_in, demoted_in, spent_in, frames_freed, reclaimer_counts}
 use Rattle.nm_kswap.specs.Reclaiming.{Sequence, kept_at_first, IsReclaiming, hand_of, hand_moved, with_drawn, marks_of, has_any, has_vpage, Does}
 use Rattle.nm_kswap.specs.Stages.{task_at, Going, to_stage, tier_stage, to_visit, to_demote, going_on, words_after, StageOn, StageLeft, TaskLeft}

@@ -17,7 +17,8 @@ use Rattle.nm_kswap.specs.declared.stage.Visit.{Visit}
 use Rattle.nm_kswap.specs.declared.stage.Stage.{Stage}
 use Rattle.nm_kswap.specs.declared.stage.Stage.TheVariants.{New, Asking, Counting, Inspecting, Demoting, Over}
 use Rattle.nm_kswap.specs.declared.reclaiming.Reclaiming.{Reclaiming}
-use Rattle.nm_kswap.specs.Works.{ReclaimerPiece, ReclaimerWorkMade, ReclaimerWorkEnd, reclaimer_work_made, MayReclaimerWork, IsReclaimerWork}
+use Rattle.nm_kswap.specs.declared.work.ReclaimerPiece.{ReclaimerPiece}
+use Rattle.nm_kswap.specs.Works.{ReclaimerWorkMade, ReclaimerWorkEnd, reclaimer_work_made, MayReclaimerWork, IsReclaimerWork}
 use Rattle.nm_kswap.specs.Ends.{reclaimer_counts}
 use Rattle.nm_kswap.specs.Reclaiming.{kept_at_first, marks_of}
 use Rattle.nm_kswap.specs.Stages.{task_at, TaskLeft}

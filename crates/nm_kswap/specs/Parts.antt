@@ -10,7 +10,7 @@ use Rattle.nm_actor.specs.Actors.{gave_end}
 use Rattle.nm_routine_part.specs.Parts.{IsEmptyAtEnd, IsRoutinePart}
 use Rattle.nm_kswap.specs.declared.reclaiming.Reclaiming.{Reclaiming}
 use Rattle.nm_kswap.specs.declared.actor.ReclaimerActor.{ReclaimerActor}
-use Rattle.nm_kswap.specs.Works.{ReclaimerPiece}
+use Rattle.nm_kswap.specs.declared.work.ReclaimerPiece.{ReclaimerPiece}
 use Rattle.nm_kswap.specs.Reclaiming.{IsReclaiming}
 
 -- the reclaimer stands behind the processors and the migrator

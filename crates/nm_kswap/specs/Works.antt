@@ -1,52 +1,42 @@
 -- The pieces of the reclaimer's work: what they are made with, when they may begin, their finished lists, and what they leave.
 use Rattle.std.specs.Prelude.{◌≡◌, ℕ, Bool}
 use Rattle.nm_base.specs.Geometry.{Geometry}
+use Rattle.nm_action.specs.declared.action.Action.{Action}
 use Rattle.nm_action.specs.declared.spent.Spent.{Spent}
 use Rattle.nm_action.specs.Own.{Own}
 use Rattle.nm_view.specs.Views.{View}
-use Rattle.nm_compose.specs.Choices.{or_made, MayBeginOr, IsOr, LeavesOr}
-use Rattle.nm_compose.specs.Composites.{HasFirst}
-use Rattle.nm_compose.specs.declared.act.Act.{Act}
-use Rattle.nm_compose.specs.declared.composite.Composite.{Composite}
+use Rattle.nm_part.specs.Parts.{NothingTold}
+use Rattle.nm_compose.specs.Choices.{or_made, IsNewOr, MayBeginOr, IsOr, LeavesOr, AwaitsOr, EndedOr}
 use Rattle.nm_compose.specs.declared.or.Or.{Or}
 use Rattle.nm_compose.specs.declared.or.Or.TheVariants.{This, Other}
-use Rattle.nm_ended.specs.Asking.{AskPart, MayAsk, IsAsking}
-use Rattle.nm_prepare.specs.Placing.{IsPlanPlaced}
+use Rattle.nm_ended.specs.Asking.{IsAsking}
+use Rattle.nm_ended.specs.Runs.{ask_run_made, MayAskRun, IsNewAskRun, AwaitsAskRun}
 use Rattle.nm_pool.specs.Pool.{IsPool}
 use Rattle.nm_pool.specs.Given.{pool_made, MayBegin, Leaves}
-use Rattle.nm_pool.specs.Stages.{made_of}
+use Rattle.nm_pool.specs.Stages.{made_of, IsNewPool, AwaitsPool}
 use Rattle.nm_pool.specs.declared.job.PoolJob.TheVariants.{Level}
 use Rattle.nm_pool.specs.declared.job.PoolMade.{PoolMade}
 use Rattle.nm_pool.specs.declared.job.PoolEnd.{PoolEnd}
-use Rattle.nm_pool.specs.declared.task.PoolTask.{PoolTask}
-use Rattle.nm_kswap.specs.declared.task.InspectTask.{InspectTask}
-use Rattle.nm_kswap.specs.declared.task.DemoteWork.{DemoteWork}
 use Rattle.nm_inspect.specs.declared.inspect.Inspected.{Inspected}
 use Rattle.nm_inspect.specs.Inspecting.{InspectData, IsInspection, MayInspect}
-use Rattle.nm_inspect.specs.Stages.{inspect_data}
+use Rattle.nm_inspect.specs.Runs.{inspect_run_made, IsNewInspectRun, AwaitsInspectRun}
 use Rattle.nm_demote.specs.declared.select.DemoteMade.{DemoteMade}
 use Rattle.nm_demote.specs.declared.demote.DemoteOver.{DemoteOver}
 use Rattle.nm_demote.specs.Selections.{MayDemote}
 use Rattle.nm_demote.specs.Demotions.{IsDemotion}
 use Rattle.nm_demote.specs.Leaving.{IsDemoteLeft}
-use Rattle.nm_demote.specs.Pieces.{demote_parts, IsNewDemotePiece, MayDemotePiece, IsDemotePiece}
-use Rattle.nm_demote.specs.Places.{demote_at, demote_piece, demote_left, DemoteKnown}
+use Rattle.nm_demote_run.specs.declared.run.DemoteRun.{DemoteRun}
+use Rattle.nm_demote_run.specs.Runs.{demote_run_made, IsNewDemoteRun}
 use Rattle.nm_drawing.specs.declared.drawing.Drawing.{Drawing}
 use Rattle.nm_drawing.specs.declared.drawing.Drawn.{Drawn}
-use Rattle.nm_drawing.specs.Draws.{MayDraw, IsDrawingList, IsDrawnLeft}
+use Rattle.nm_kswap.specs.declared.work.ReclaimerPiece.{ReclaimerPiece}
+use Rattle.nm_drawing.specs.Draws.{IsNewDrawing, MayDraw, IsDrawingList, IsDrawnLeft, AwaitsDrawing}
 
 -- The pieces.
 
+-- the demotion of a page, which tells what was drawn at its end
 abbrev pub DemotePart : Type 0
-DemotePart = Drawing DemoteWork
-
--- the demotion has given no action yet
-abbrev pub IsNewDemoteWork : DemoteWork → Type 0
-IsNewDemoteWork w = HasFirst {Q = Geometry × DemoteMade} demote_parts IsNewDemotePiece MayDemotePiece IsDemotePiece (IsPlanPlaced demote_piece DemoteKnown w.run.plan.geometry.now w.run.plan.made (demote_at w.run.plan)) (demote_left w.run.plan.made (demote_at w.run.plan))
-    (λ made g view. MayDemote made.0 made.1 g view) (λ made g own over. IsDemotion made.1 g own over.end) (record { 0 = w.run.plan.geometry.now; 1 = w.run.plan.made }) w.run.piece
-
-abbrev pub ReclaimerPiece : Type 0
-ReclaimerPiece = Or AskPart (Or PoolTask (Or InspectTask DemotePart))
+DemotePart = Drawing DemoteRun
 
 -- What they are made with; a demotion also with what was drawn before it.
 
@@ -56,8 +46,19 @@ DemoteWorkData = (Geometry × DemoteMade) × Spent
 abbrev pub ReclaimerWorkMade : Type 0
 ReclaimerWorkMade = Or ℕ (Or PoolMade (Or InspectData DemoteWorkData))
 
+abbrev pub demote_part_made : DemotePart → DemoteWorkData
+demote_part_made d = record { 0 = demote_run_made d.piece; 1 = d.begun }
+
 abbrev pub reclaimer_work_made : ReclaimerPiece → ReclaimerWorkMade
-reclaimer_work_made = or_made (λ c. c.plan.cpus) (or_made made_of (or_made (λ t. inspect_data t.run.plan) (λ d. record { 0 = record { 0 = d.piece.run.plan.geometry.now; 1 = d.piece.run.plan.made }; 1 = d.begun })))
+reclaimer_work_made p = or_made ask_run_made (or_made made_of (or_made inspect_run_made demote_part_made)) p.work
+
+-- they have given no action
+
+abbrev pub IsNewDemotePart : DemotePart → Type 0
+IsNewDemotePart d = IsNewDrawing (IsNewDemoteRun d.piece) d.begun d.spent
+
+abbrev pub IsNewReclaimerWork : ReclaimerPiece → Type 0
+IsNewReclaimerWork p = IsNewOr IsNewAskRun (IsNewOr IsNewPool (IsNewOr IsNewInspectRun IsNewDemotePart)) p.work
 
 -- all processors are asked, up to the first that has not ended
 abbrev pub made_asking : Geometry → ReclaimerWorkMade
@@ -82,7 +83,7 @@ ReclaimerWorkEnd = Or Bool (Or PoolEnd (Or Inspected (Drawn DemoteOver)))
 
 -- a piece may begin
 abbrev pub MayReclaimerWork : ReclaimerWorkMade → Geometry → View → Type 0
-MayReclaimerWork = MayBeginOr (λ cpus g view. MayAsk cpus g view) (MayBeginOr MayBegin (MayBeginOr MayInspect
+MayReclaimerWork = MayBeginOr MayAskRun (MayBeginOr MayBegin (MayBeginOr MayInspect
     (λ made g view. MayDraw (MayDemote made.0.0 made.0.1 g view) made.1 view)))
 
 -- a finished list of a piece, and the end that this shows
@@ -94,3 +95,12 @@ IsReclaimerWork = IsOr IsAsking (IsOr (λ made g own end. IsPool g made.job own 
 abbrev pub ReclaimerWorkLeaves : ReclaimerWorkMade → Geometry → View → ReclaimerWorkEnd → View → Type 0
 ReclaimerWorkLeaves = LeavesOr (λ cpus g view all left. left ≡ view) (LeavesOr (λ made g view end left. Leaves g made.job view end left) (LeavesOr (λ made g view outcome left. left ≡ view)
     (λ made g view told left. IsDrawnLeft (λ over. IsDemoteLeft made.0.1 view over.end left) left told)))
+
+-- it awaits the answer to an action; what the demotion awaits is given
+abbrev pub AwaitsReclaimerWork : (DemoteRun → Geometry → View → Own → Action → Type 0) → ReclaimerPiece → Geometry → View → Own → Action → Type 0
+AwaitsReclaimerWork demotes p = AwaitsOr AwaitsAskRun (AwaitsOr AwaitsPool (AwaitsOr AwaitsInspectRun
+    (λ d g view own action. AwaitsDrawing (demotes d.piece g view own action) d.action d.begun d.spent g view own action))) p.work
+
+-- it is over: there is nothing more that it can be asked for
+abbrev pub ReclaimerWorkEnded : ReclaimerPiece → Geometry → Own → ReclaimerWorkEnd → Type 0
+ReclaimerWorkEnded p = EndedOr (λ r g own all. Unit {0}) (EndedOr (λ task g own end. NothingTold g own end) (EndedOr (λ r g own found. Unit {0}) (λ d g own told. Unit {0}))) p.work

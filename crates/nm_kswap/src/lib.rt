@@ -4,9 +4,8 @@
 pub mod actor;
 pub mod reclaiming;
 pub mod stage;
-pub mod task;
 pub mod work;
 
 pub use actor::ReclaimerActor;
 pub use reclaiming::Reclaiming;
-pub use work::{ReclaimerEnd, ReclaimerPiece};
+pub use work::{DemotePart, ReclaimerEnd, ReclaimerMade, ReclaimerPiece};

@@ -9,7 +9,7 @@ ghost use Rattle.nm_view.specs.Opening.{opening};
 ghost use Rattle.nm_transfer.specs.Stages.{HoldsWords};
 ghost use Rattle.nm_part.specs.Patterns.{CanEnd};
 ghost use Rattle.nm_worker.specs.Routines.{task_data, HasTaskOver, IsTaskOver, IsDrawn};
-ghost use Rattle.nm_kswap.specs.Works.{reclaimer_work_made, IsReclaimerWork, ReclaimerWorkLeaves};
+ghost use Rattle.nm_kswap.specs.Works.{reclaimer_work_made, IsNewReclaimerWork, IsReclaimerWork, ReclaimerWorkLeaves, ReclaimerWorkEnded};
 ghost use Rattle.nm_kswap.specs.Ends.{frames_freed, demotion_counts, reclaimer_counts};
 ghost use Rattle.nm_kswap.specs.Reclaiming.{marks_of, has_vpage, IsReclaiming};
 ghost use Rattle.nm_kswap.specs.Parts.{reclaimer_number};
@@ -23,7 +23,6 @@ use nm_compose::Or;
 use nm_demote::DemoteEnd;
 use nm_event::{Spent, Tally};
 use nm_inspect::Inspected;
-use nm_part::Part;
 use nm_policy::{Watermarks, enough, wants_demotion};
 use nm_pool::PoolEnd;
 use nm_transfer::TakenWords;
@@ -213,7 +212,7 @@ impl<'a> Reclaiming<'a> {
         ensures stage { self.new.stage ≡ stage }
         ensures words { HasWords stage self.new.taken }
         ensures made { task_data reclaimer_work_made result ≡ task_at self.old.geometry.now self.old.kept stage }
-        ensures new { IsNewTask ⟦<ReclaimerPiece<'a> as Part>⟧.is_new result }
+        ensures new { IsNewTask IsNewReclaimerWork result }
     {
         let g = self.geometry;
         self.stage = stage;
@@ -265,7 +264,7 @@ impl<'a> Routine<ReclaimerPiece<'a>> for Reclaiming<'a> {
         requires { IsNewReclaiming self.old }
         ensures made { self.new.geometry.now ≡ self.old.geometry.now }
         ensures can { CanEnd (IsReclaiming self.old.geometry.now) }
-        ensures next { GivesTask ⟦<ReclaimerPiece<'a> as Part>⟧.is_new self.new result (IsReclaiming self.old.geometry.now) self.old.geometry.now (opening self.old.geometry.now (reclaimer_number self.old.geometry.now)) }
+        ensures next { GivesTask IsNewReclaimerWork self.new result (IsReclaiming self.old.geometry.now) self.old.geometry.now (opening self.old.geometry.now (reclaimer_number self.old.geometry.now)) }
     {
         self.go(Stage::Asking)
     }
@@ -276,11 +275,11 @@ impl<'a> Routine<ReclaimerPiece<'a>> for Reclaiming<'a> {
         end: Ended<ReclaimerEnd>,
         _spent: Spent,
     ) -> Task<ReclaimerPiece<'a>>
-        requires { HasTaskOver reclaimer_work_made IsReclaimerWork ReclaimerWorkLeaves ⟦<ReclaimerPiece<'a> as Part>⟧.ended (KnowsReclaiming self.old) self.old.geometry.now _task.now end _spent }
+        requires { HasTaskOver reclaimer_work_made IsReclaimerWork ReclaimerWorkLeaves ReclaimerWorkEnded (KnowsReclaiming self.old) self.old.geometry.now _task.now end _spent }
         ensures made { self.new.geometry.now ≡ self.old.geometry.now }
         ensures next { (now later : View) → KnowsReclaiming self.old now (task_data reclaimer_work_made _task.now)
-            → IsTaskOver reclaimer_work_made IsReclaimerWork ReclaimerWorkLeaves ⟦<ReclaimerPiece<'a> as Part>⟧.ended self.old.geometry.now now later _task.now end → IsDrawn _spent later
-            → GivesTask ⟦<ReclaimerPiece<'a> as Part>⟧.is_new self.new result (ReclaimingLeft self.old end) self.old.geometry.now later }
+            → IsTaskOver reclaimer_work_made IsReclaimerWork ReclaimerWorkLeaves ReclaimerWorkEnded self.old.geometry.now now later _task.now end → IsDrawn _spent later
+            → GivesTask IsNewReclaimerWork self.new result (ReclaimingLeft self.old end) self.old.geometry.now later }
     {
         let Ended::Run(end) = end else { unreachable!() };
         let stage = self.going_on(end);

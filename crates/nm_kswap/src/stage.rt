@@ -3,7 +3,7 @@
 use nm_event::Spent;
 
 /// What the reclaimer keeps from step to step.
-#[derive(Clone, Copy, Debug, PartialEq, Eq)]
+#[derive(Clone, Copy)]
 pub(crate) struct Kept {
     /// The page at which the hand of each tier is: at most three tiers have a slower one.
     pub(crate) hands: [u32; 3],
@@ -12,7 +12,7 @@ pub(crate) struct Kept {
 }
 
 /// A visit of a page by the demotion of a tier.
-#[derive(Clone, Copy, Debug, PartialEq, Eq)]
+#[derive(Clone, Copy)]
 pub(crate) struct Visit {
     /// Whether all processors had ended when the round began.
     pub(crate) last: bool,
@@ -27,7 +27,7 @@ pub(crate) struct Visit {
 }
 
 /// How far the reclaimer has come.
-#[derive(Clone, Copy, Debug, PartialEq, Eq)]
+#[derive(Clone, Copy)]
 pub(crate) enum Stage {
     /// It has not begun.
     New,

@@ -54,7 +54,8 @@ use Rattle.nm_locked.specs.Chosen.{MayChoose, HasReadyInMove, HasClosedInMove}
 use Rattle.nm_locked.specs.Moves.{GivesBackInMove, UnlocksMoved, MarksInMove, locked_transfer, Moves, move_early_end, AfterChoosing, IsLockedInMove}
 use Rattle.nm_locked.specs.Leaving.{IsLockedLeft}
 use Rattle.nm_locked.specs.Stages.{IsPoolOf}
-use Rattle.nm_locked.specs.Pieces.{LockedParts, LockedPieceEnd, MayLockedPiece, IsChoosingOf, IsLockedPiece, LockedPieceLeaves, LockedPiece, locked_parts, IsNewLockedPiece}
+use Rattle.nm_locked.specs.Pieces.{LockedParts, LockedPieceEnd, MayLockedPiece, IsLockedPiece, LockedPieceLeaves, LockedPiece, locked_parts, IsNewLockedPiece}
+use Rattle.nm_locked.specs.ChooseRuns.{IsChoosingOf}
 use Rattle.nm_locked.specs.Places.{LockedPlace, locked_at, IsOverWith, stage_piece, locked_piece, chosen_in, stage_left, locked_left, IsChoosingNow, IsMovedNow, IsUnlockedNow, StageKnown, HoldsAt, LockedKnown}
 use Rattle.nm_locked.proofs.Ending.{some-choosing}
 use Rattle.nm_locked.proofs.Steps.{some-is, may-here}

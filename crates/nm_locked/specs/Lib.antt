@@ -5,3 +5,4 @@ pub mod Moves
 pub mod Leaving
 pub mod Pieces
 pub mod Places
+pub mod ChooseRuns

@@ -1,5 +1,5 @@
 -- How far the steps before the page is taken out of the table have come.
-use Rattle.std.specs.Prelude.{◌≡◌, ◌≢◌, ℕ, ◌-◌, ◌==◌, if◌then◌else◌, List, [], ◌∷◌, length, All, Option, Some, None, false}
+use Rattle.std.specs.Prelude.{◌≡◌, ◌≢◌, ℕ, ◌-◌, ◌==◌, if◌then◌else◌, List, [], ◌∷◌, length, All, Some, None, false}
 use Rattle.nm_base.specs.Geometry.{Geometry, IsGeometry, tier_of, backing_page}
 use Rattle.nm_base.specs.Ranges.{IsFrame}
 use Rattle.nm_base.specs.HomeWord.{home_word}
@@ -18,14 +18,10 @@ use Rattle.nm_view.specs.Views.{Op, View}
 use Rattle.nm_view.specs.Operations.{owned_frame, IsLookedMapped}
 use Rattle.nm_permit.specs.Permitted.{MayUnlock}
 use Rattle.nm_event.specs.After.{owning}
-use Rattle.nm_event.specs.Fitting.{IsNewsOfShadow}
 use Rattle.nm_part.specs.Patterns.{Ends}
 use Rattle.nm_compose.specs.Acts.{MayAct, IsAct, IsActed}
 use Rattle.nm_compose.specs.Choices.{or_made, IsNewOr, MayBeginOr, IsOr, LeavesOr}
-use Rattle.nm_compose.specs.Composites.{HasFirst}
-use Rattle.nm_compose.specs.Stages.{IsPieceAt}
 use Rattle.nm_compose.specs.declared.act.Act.{Act}
-use Rattle.nm_compose.specs.declared.composite.Composite.{Composite}
 use Rattle.nm_compose.specs.declared.or.Or.{Or}
 use Rattle.nm_compose.specs.declared.or.Or.TheVariants.{This, Other}
 use Rattle.nm_pool.specs.Pool.{IsPool}
@@ -38,17 +34,17 @@ use Rattle.nm_pool.specs.declared.job.PoolEnd.TheVariants as pools
 use Rattle.nm_pool.specs.declared.task.PoolTask.{PoolTask}
 use Rattle.nm_vpages.specs.VPages.{vpages_of}
 use Rattle.nm_mappings.specs.Visits.{IsVisits, MayVisit, IsVisited, looks_made, arms_made}
-use Rattle.nm_mappings.specs.Visiting.{visit_place, visit_left, visit_stages}
 use Rattle.nm_mappings.specs.declared.visits.VisitsMade.{VisitsMade}
-use Rattle.nm_mappings.specs.declared.visits.VisitPlan.{VisitPlan}
+use Rattle.nm_mappings.specs.declared.run.Visits.{Visits}
+use Rattle.nm_mappings.specs.Runs.{visits_made, IsNewVisitsRun}
 use Rattle.nm_copying.specs.Copying.{told}
 use Rattle.nm_prepare.specs.Worn.{is_worn}
 use Rattle.nm_prepare.specs.Preparing.{is_slow_home, tier_above, floor_above}
 use Rattle.nm_locked.specs.declared.choose.ChooseMade.{ChooseMade}
 use Rattle.nm_locked.specs.declared.choose.Early.{Early}
-use Rattle.nm_locked.specs.declared.choose.Early.TheVariants.{NoFrame, Gone, Worn}
+use Rattle.nm_locked.specs.declared.choose.Early.TheVariants.{Gone, Worn}
 use Rattle.nm_locked.specs.declared.choose.Chosen.{Chosen}
-use Rattle.nm_locked.specs.declared.choose.Chosen.TheVariants.{Busy, Closed, Ready}
+use Rattle.nm_locked.specs.declared.choose.Chosen.TheVariants.{Closed, Ready}
 use Rattle.nm_locked.specs.declared.choose.Stage.{Stage}
 use Rattle.nm_locked.specs.declared.choose.Stage.TheVariants.{New, Locking, Marking, Unlocking, ReadingHome, Looking, Arming, Taking, ReadingShadow, Unshading, PuttingBack}
 use Rattle.nm_locked.specs.Choosing.{UnlocksInMove, ClosesInMove, PutsBackInMove, DiscardsInMove, AfterTakeInMove, AfterLooksInMove, AfterHomeInMove, AfterLockInMove}
@@ -75,17 +71,14 @@ abbrev pub PieceLeavesInMove : PieceMadeInMove → Geometry → View → PieceEn
 PieceLeavesInMove = LeavesOr (λ action g view reply left. IsActed g view action reply left) (LeavesOr (λ made g view found left. IsVisited made view found left) (λ made g view end left. Leaves g made.job view end left))
 
 abbrev pub PieceInMove : Type 0
-PieceInMove = Or Act (Or (Composite VisitPlan Act) PoolTask)
+PieceInMove = Or Act (Or Visits PoolTask)
 
 -- the data of a piece, and that it has given no action
 abbrev pub move_piece_made : PieceInMove → PieceMadeInMove
-move_piece_made = or_made (λ a. a.action) (or_made (λ c. c.plan.made) made_of)
-
-abbrev pub IsNewVisitsPartInMove : Composite VisitPlan Act → Type 0
-IsNewVisitsPartInMove c = HasFirst (λ (a : Act). a.action) (λ a. Unit {0}) (λ action g view. MayAct g view action) IsAct (IsPieceAt visit_stages c.plan.made (visit_place c.plan)) (visit_left c.plan.made (visit_place c.plan)) MayVisit IsVisits c.plan.made c.piece
+move_piece_made = or_made (λ a. a.action) (or_made visits_made made_of)
 
 abbrev pub IsNewPieceInMove : PieceInMove → Type 0
-IsNewPieceInMove = IsNewOr (λ a. Unit {0}) (IsNewOr IsNewVisitsPartInMove IsNewPool)
+IsNewPieceInMove = IsNewOr (λ a. Unit {0}) (IsNewOr IsNewVisitsRun IsNewPool)
 
 -- the reply with which an action ended, the word that it carries, the virtual pages that visits found, and the end of a pool
 -- task (of other pieces nothing is claimed by these)

@@ -15,7 +15,7 @@ ghost use Rattle.nm_locked.specs.Stages.{choose_piece, move_piece_made, IsNewPie
 
 use nm_base::Geometry;
 use nm_base::shadow_word::shadow_frame;
-use nm_compose::{Act, Composite, Next, Or, Plan};
+use nm_compose::{Act, Next, Or, Plan};
 use nm_event::{Action, Cell, Reply, Spent};
 use nm_mappings::{VisitPlan, Visits};
 use nm_policy::Watermarks;
@@ -313,7 +313,7 @@ fn visits(plan: VisitPlan) -> ChoosePiece
     ensures made { move_piece_made result ≡ Or.Other (Or.This plan.made) }
     ensures new { IsNewPieceInMove result }
 {
-    Or::Other(Or::This(Composite::new(plan)))
+    Or::Other(Or::This(Visits::new(plan)))
 }
 
 /// The piece that runs a task on the free frames.

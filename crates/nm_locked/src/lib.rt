@@ -2,7 +2,9 @@
 #![tactic(auto)]
 
 pub mod choose;
+pub mod choose_run;
 pub mod locked;
 
 pub use choose::{Choose, ChooseMade, ChoosePiece, Chosen, Early};
+pub use choose_run::ChooseRun;
 pub use locked::{Locked, LockedEnd, LockedOver, LockedPiece};

@@ -11,12 +11,13 @@ ghost use Rattle.nm_pool.specs.declared.job.PoolJob.{PoolJob};
 ghost use Rattle.nm_locked.specs.Moves.{move_early_end, locked_transfer};
 ghost use Rattle.nm_locked.specs.Places.{IsOverWith};
 
-use crate::choose::{Choose, ChooseMade, ChoosePiece, Chosen, Early};
+use crate::choose::{Choose, ChooseMade, Chosen, Early};
+use crate::choose_run::ChooseRun;
 use nm_base::Geometry;
-use nm_compose::{Act, Composite, Next, Or, Plan};
+use nm_compose::{Act, Next, Or, Plan};
 use nm_event::{Action, Reply, Spent};
 use nm_pool::{PoolEnd, PoolTask};
-use nm_transfer::{Rights, Source, TakenWords, Transfer, TransferPiece};
+use nm_transfer::{Rights, Source, TakenWords, Transfer, TransferRun};
 use nm_vpages::VPageSet;
 use std::mem;
 
@@ -72,10 +73,7 @@ pub(crate) enum LockedStage {
 
 /// A piece of a locked move: the steps before the page is taken out of the table, its transfer to the new home, an action, or
 /// a task on the free frames.
-pub type LockedPiece<'a> = Or<
-    Composite<Choose<'a>, ChoosePiece>,
-    Or<Composite<Transfer, TransferPiece>, Or<Act, PoolTask>>,
->;
+pub type LockedPiece<'a> = Or<ChooseRun<'a>, Or<TransferRun, Or<Act, PoolTask>>>;
 
 /// How a piece of a locked move ends.
 pub type LockedPieceEnd = Or<Chosen, Or<TakenWords, Or<Reply, PoolEnd>>>;
@@ -147,7 +145,7 @@ impl<'a> Locked<'a> {
             taken,
         );
         self.stage = LockedStage::Moving { home, frame, pages };
-        Or::Other(Or::This(Composite::new(plan)))
+        Or::Other(Or::This(TransferRun::new(plan)))
     }
 
     /// Comes to the end, where the frame of the old home is put back.
@@ -215,7 +213,7 @@ impl<'a> Plan<LockedPiece<'a>> for Locked<'a> {
 
     fn begin(&mut self) -> LockedPiece<'a> {
         self.stage = LockedStage::Choosing;
-        Or::This(Composite::new(Choose::new(
+        Or::This(ChooseRun::new(Choose::new(
             self.geometry,
             self.made.page,
             self.made.count,

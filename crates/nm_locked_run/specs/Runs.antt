@@ -5,22 +5,18 @@ use Rattle.nm_action.specs.Own.{Own}
 use Rattle.nm_view.specs.Views.{View}
 use Rattle.nm_compose.specs.Choices.{AwaitsOr}
 use Rattle.nm_compose.specs.Composites.{HasFirst, IsRunning}
-use Rattle.nm_compose.specs.Stages.{IsPieceAt}
+use Rattle.nm_compose.specs.Acts.{AwaitsAct}
 use Rattle.nm_pool.specs.Stages.{AwaitsPool}
-use Rattle.nm_shoot.specs.Asking.{AwaitsShoot}
 use Rattle.nm_prepare.specs.Placing.{IsPlanPlaced}
-use Rattle.nm_txn.specs.Tasks.{ActAwaits, VisitsAwaits, CopiesAwaits}
-use Rattle.nm_transfer.specs.Transferring.{IsTransfer}
-use Rattle.nm_transfer.specs.Stages.{transfer_piece_made, IsTransferPiece, transfer_place, transfer_left, transfer_stages}
+use Rattle.nm_transfer.specs.Runs.{AwaitsTransferRun}
 use Rattle.nm_locked.specs.declared.choose.ChooseMade.{ChooseMade}
 use Rattle.nm_locked.specs.declared.locked.LockedOver.{LockedOver}
-use Rattle.nm_locked.specs.Choosing.{IsChoosing}
 use Rattle.nm_locked.specs.Chosen.{MayChoose}
 use Rattle.nm_locked.specs.Leaving.{IsLockedLeft}
 use Rattle.nm_locked.specs.Moves.{IsLockedInMove}
-use Rattle.nm_locked.specs.Stages.{IsPieceInMove, move_piece_made, choose_piece, choose_left, ChooseKnown}
-use Rattle.nm_locked.specs.Pieces.{ChoosePart, TransferPart, locked_parts, IsNewLockedPiece, MayLockedPiece, IsLockedPiece, MayChooseOf}
+use Rattle.nm_locked.specs.Pieces.{locked_parts, IsNewLockedPiece, MayLockedPiece, IsLockedPiece}
 use Rattle.nm_locked.specs.Places.{locked_at, locked_piece, locked_left, LockedKnown}
+use Rattle.nm_locked.specs.ChooseRuns.{MayChooseOf, AwaitsChooseRun}
 use Rattle.nm_locked_run.specs.declared.run.LockedRun.{LockedRun}
 
 -- what a move is made with, in which geometry
@@ -46,12 +42,5 @@ IsNewLockedRun r = HasFirst locked_parts IsNewLockedPiece MayLockedPiece IsLocke
     MayChooseOf IsLockedRunList (locked_run_made r) r.run.piece
 
 -- it awaits the answer that its piece awaits
-
-abbrev pub ChooseAwaits : ChoosePart → Geometry → View → Own → Action → Type 0
-ChooseAwaits c = IsRunning IsPieceInMove (AwaitsOr ActAwaits (AwaitsOr VisitsAwaits AwaitsPool) c.piece) (IsPlanPlaced choose_piece ChooseKnown c.plan.geometry.now c.plan.made c.plan.stage) (choose_left c.plan.made c.plan.stage) (λ g own outcome. IsChoosing c.plan.made g own outcome) (move_piece_made c.piece)
-
-abbrev pub TransferAwaits : TransferPart → Geometry → View → Own → Action → Type 0
-TransferAwaits c = IsRunning IsTransferPiece (AwaitsOr ActAwaits (AwaitsOr VisitsAwaits (AwaitsOr AwaitsShoot CopiesAwaits)) c.piece) (IsPieceAt transfer_stages c.plan.made (transfer_place c.plan)) (transfer_left c.plan.made (transfer_place c.plan)) (IsTransfer c.plan.made) (transfer_piece_made c.piece)
-
 abbrev pub AwaitsLockedRun : LockedRun → Geometry → View → Own → Action → Type 0
-AwaitsLockedRun r = IsRunning IsLockedPiece (AwaitsOr ChooseAwaits (AwaitsOr TransferAwaits (AwaitsOr ActAwaits AwaitsPool)) r.run.piece) (IsPlanPlaced locked_piece LockedKnown r.run.plan.geometry.now r.run.plan.made (locked_at r.run.plan)) (locked_left r.run.plan.made (locked_at r.run.plan)) (IsLockedRunList (locked_run_made r)) (locked_parts r.run.piece)
+AwaitsLockedRun r = IsRunning IsLockedPiece (AwaitsOr AwaitsChooseRun (AwaitsOr AwaitsTransferRun (AwaitsOr AwaitsAct AwaitsPool)) r.run.piece) (IsPlanPlaced locked_piece LockedKnown r.run.plan.geometry.now r.run.plan.made (locked_at r.run.plan)) (locked_left r.run.plan.made (locked_at r.run.plan)) (IsLockedRunList (locked_run_made r)) (locked_parts r.run.piece)

@@ -1,14 +1,16 @@
--- Looks and Softens as parts: what whoever runs them says of a new one.
-use Rattle.std.specs.Prelude.{ℕ}
+-- Looks and Softens as parts: what each tells of itself, by names.
+use Rattle.std.specs.Prelude.{ℕ, List}
 use Rattle.nm_base.specs.Geometry.{Geometry}
-use Rattle.nm_compose.specs.Acts.{MayAct, IsAct}
-use Rattle.nm_compose.specs.Composites.{HasFirst}
+use Rattle.nm_action.specs.declared.action.Action.{Action}
+use Rattle.nm_action.specs.Own.{Own}
+use Rattle.nm_view.specs.Views.{View}
+use Rattle.nm_compose.specs.Acts.{MayAct, IsAct, AwaitsAct}
+use Rattle.nm_compose.specs.Composites.{HasFirst, IsRunning}
 use Rattle.nm_compose.specs.Stages.{IsPieceAt}
 use Rattle.nm_compose.specs.declared.act.Act.{Act}
-use Rattle.nm_compose.specs.declared.composite.Composite.{Composite}
 use Rattle.nm_vpages.specs.VPages.{vpages_of}
-use Rattle.nm_looks.specs.declared.looks.Looks.{Looks}
-use Rattle.nm_looks.specs.declared.softens.Softens.{Softens}
+use Rattle.nm_looks.specs.declared.run.LooksRun.{LooksRun}
+use Rattle.nm_looks.specs.declared.run.SoftensRun.{SoftensRun}
 use Rattle.nm_looks.specs.Seeing.{LooksData, tier_looks_made, IsLooks, MayLooks}
 use Rattle.nm_looks.specs.Looking.{looks_data, looks_place, looks_left, looks_stages}
 use Rattle.nm_looks.specs.Softening.{IsSoftens, MaySoften, softens_left, softens_stages}
@@ -17,17 +19,24 @@ use Rattle.nm_looks.specs.Softening.{IsSoftens, MaySoften, softens_left, softens
 abbrev pub page_looks : Geometry → ℕ → ℕ → LooksData
 page_looks g page tier = record { 0 = g; 1 = tier_looks_made page tier (vpages_of g page) }
 
-abbrev pub LooksPart : Type 0
-LooksPart = Composite Looks Act
+-- Looks: what they were made with, that they have given no action, and that they await the answer that their action awaits.
 
-abbrev pub looks_part_data : LooksPart → LooksData
-looks_part_data c = looks_data c.plan
+abbrev pub looks_run_made : LooksRun → LooksData
+looks_run_made r = looks_data r.run.plan
 
-abbrev pub IsNewLooksPart : LooksPart → Type 0
-IsNewLooksPart c = HasFirst (λ (a : Act). a.action) (λ a. Unit {0}) (λ action g view. MayAct g view action) IsAct (IsPieceAt looks_stages (looks_data c.plan) (looks_place c.plan)) (looks_left (looks_data c.plan) (looks_place c.plan)) MayLooks IsLooks (looks_data c.plan) c.piece
+abbrev pub IsNewLooksRun : LooksRun → Type 0
+IsNewLooksRun r = HasFirst (λ (a : Act). a.action) (λ a. Unit {0}) (λ action g view. MayAct g view action) IsAct (IsPieceAt looks_stages (looks_data r.run.plan) (looks_place r.run.plan)) (looks_left (looks_data r.run.plan) (looks_place r.run.plan)) MayLooks IsLooks (looks_data r.run.plan) r.run.piece
 
-abbrev pub SoftensPart : Type 0
-SoftensPart = Composite Softens Act
+abbrev pub AwaitsLooksRun : LooksRun → Geometry → View → Own → Action → Type 0
+AwaitsLooksRun r = IsRunning IsAct (AwaitsAct r.run.piece) (IsPieceAt looks_stages (looks_data r.run.plan) (looks_place r.run.plan)) (looks_left (looks_data r.run.plan) (looks_place r.run.plan)) (IsLooks (looks_data r.run.plan)) r.run.piece.action
 
-abbrev pub IsNewSoftensPart : SoftensPart → Type 0
-IsNewSoftensPart c = HasFirst (λ (a : Act). a.action) (λ a. Unit {0}) (λ action g view. MayAct g view action) IsAct (IsPieceAt softens_stages c.plan.pages c.plan.at) (softens_left c.plan.pages c.plan.at) MaySoften IsSoftens c.plan.pages c.piece
+-- Softens, likewise.
+
+abbrev pub softens_run_made : SoftensRun → List ℕ
+softens_run_made r = r.run.plan.pages
+
+abbrev pub IsNewSoftensRun : SoftensRun → Type 0
+IsNewSoftensRun r = HasFirst (λ (a : Act). a.action) (λ a. Unit {0}) (λ action g view. MayAct g view action) IsAct (IsPieceAt softens_stages r.run.plan.pages r.run.plan.at) (softens_left r.run.plan.pages r.run.plan.at) MaySoften IsSoftens r.run.plan.pages r.run.piece
+
+abbrev pub AwaitsSoftensRun : SoftensRun → Geometry → View → Own → Action → Type 0
+AwaitsSoftensRun r = IsRunning IsAct (AwaitsAct r.run.piece) (IsPieceAt softens_stages r.run.plan.pages r.run.plan.at) (softens_left r.run.plan.pages r.run.plan.at) (IsSoftens r.run.plan.pages) r.run.piece.action

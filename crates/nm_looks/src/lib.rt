@@ -2,9 +2,11 @@
 #![tactic(auto)]
 
 pub mod looks;
+pub mod run;
 pub mod seen;
 pub mod softens;
 
-pub use looks::{Looks, LooksMade, LooksPart};
+pub use looks::{Looks, LooksMade};
+pub use run::{LooksRun, SoftensRun};
 pub use seen::Seen;
-pub use softens::{Softens, SoftensPart};
+pub use softens::Softens;

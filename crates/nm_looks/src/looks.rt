@@ -10,7 +10,7 @@ ghost use Rattle.nm_looks.specs.Looking.{IsNewLooks};
 use crate::seen::{Seen, is_accessed_word, is_hot_word, push_where};
 use nm_base::Geometry;
 use nm_base::table_word::frame_of;
-use nm_compose::{Act, Composite, Next, Plan};
+use nm_compose::{Act, Next, Plan};
 use nm_event::{Action, Reply};
 use nm_vpages::VPageSet;
 
@@ -33,9 +33,6 @@ pub struct Looks<'a> {
     at: Option<u32>,
     seen: Seen,
 }
-
-/// Looks as a part.
-pub type LooksPart<'a> = Composite<Looks<'a>, Act>;
 
 impl<'a> Looks<'a> {
     /// Looks at these virtual pages of a page, which ask whether their words map frames of this tier. Condition: there is

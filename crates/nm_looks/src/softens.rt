@@ -3,7 +3,7 @@
 ghost use Rattle.std.specs.Prelude.{◌≡◌, ◌≢◌, [], Some};
 ghost use Rattle.nm_looks.specs.Softening.{soften_at, IsNewSoftens};
 
-use nm_compose::{Act, Composite, Next, Plan};
+use nm_compose::{Act, Next, Plan};
 use nm_event::{Action, Bit, Reply};
 use nm_vpages::VPageSet;
 
@@ -13,9 +13,6 @@ pub struct Softens {
     pages: VPageSet,
     at: Option<u32>,
 }
-
-/// Softens as a part.
-pub type SoftensPart = Composite<Softens, Act>;
 
 impl Softens {
     /// The Softens of these virtual pages. Condition: there is one at least. They may begin in every view, with an operation

@@ -5,7 +5,7 @@ ghost use Rattle.nm_vpages.specs.VPages.{vpages_of, most_vpages, AreBelow};
 ghost use Rattle.nm_mappings.specs.Visits.{looks_made, arms_made, raises_made, visit_action, found_with};
 ghost use Rattle.nm_mappings.specs.Visiting.{IsNewVisits};
 
-use nm_compose::{Act, Composite, Next, Plan};
+use nm_compose::{Act, Next, Plan};
 use nm_event::{Action, Reply};
 use nm_vpages::VPageSet;
 
@@ -39,9 +39,6 @@ pub struct VisitPlan {
     at: Option<u32>,
     found: VPageSet,
 }
-
-/// The Looks at, the Arms of, or the Raises of several virtual pages, as a part.
-pub type Visits = Composite<VisitPlan, Act>;
 
 impl VisitPlan {
     /// Looks at these virtual pages of a page. Condition: there is one at least. Where they begin, they are virtual pages

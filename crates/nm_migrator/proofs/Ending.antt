@@ -20,7 +20,7 @@ use Rattle.nm_migrator.specs.declared.migrating.MigratingStage.{MigratingStage}
 use Rattle.nm_migrator.specs.declared.migrating.MigratingStage.TheVariants.{New, TakingCandidate, Judging, Heating, PuttingHot, Cooling, PuttingBack, Spilling, TakingPending, PuttingTwice, Planning, Batching, PuttingAgain, Moving, PuttingMoved, Asking, TakingLast, Unmarking, Over}
 use Rattle.nm_migrator.specs.Ends.{mark_reply_in, looks_in, cooled_in, batch_in, move_in, drawn_in, all_ended_in, work_in, full_in, taken_page_in, migrator_counts}
 use Rattle.nm_migrator.specs.Planned.{MigratorKept, nothing_kept, unaborted, is_among, most_taken, Plan, no_plan, planned, again_of, batched, is_busy_move, kept_drawn}
-use Rattle.nm_migrator.specs.Migrating.{Sequence, Does, Puts, Taken, TakesMappedTry, TakesMapped, Spills, AfterCool, Cools, AfterHeat, Heats, Judges, UnmarkNext, Unmarks, AfterLast, Asks, MoveNext, MovesLocked, PutNext, AfterBatch, Batches, PlanNext, Plans, AfterTakes, PendingTaken, TakesPending, AfterCandidate, MigratorRounds, MigratesFrom, IsMigrating, MigratesMore, IsMigratingBy}
+use Rattle.nm_migrator.specs.Migrating.{Sequence, Does, Puts, Taken, TakesMappedTry, TakesMapped, Spills, AfterCool, Cools, AfterHeat, Heats, Judges, UnmarkNext, Unmarks, AfterLast, Asks, MoveNext, MovesLocked, PutNext, AfterBatch, Batches, PlanNext, Plans, AfterTakes, PendingTaken, TakesPending, AfterCandidate, MigratorRounds, MigratesFrom, IsMigrating, IsMigratingBy}
 use Rattle.nm_migrator.specs.Stages.{migrator_kept, migrator_plan, next_of, left_at, migrating_left, TakenLeft, MoreLeft}
 use Rattle.nm_migrator.proofs.Looping.{page-put, can-does, can-puts, can-put-left, can-takes, can-taken}
 
@@ -202,10 +202,6 @@ no-front : (front back : Notes) → [] ≡ front ++ back → front ≡ []
 no-front [] back is = refl
 no-front (n ∷ front) back is = cc
 
-no-more : (g : Geometry) (retry : Option ℕ) (n : ℕ) (outcome : MigratorKept) → ¬ MigratesMore g retry n [] outcome
-no-more g retry zero outcome = no-from g retry (nothing_kept g) outcome
-no-more g retry (suc n) outcome = λ h. no-more g retry n h.end (subst (λ (l : Notes). MigratesMore g retry n l h.end) (no-front h.front h.back h.is) h.shown)
-
-pub no-migrating : (resumed : Bool) (g : Geometry) (retry : Option ℕ) (outcome : MigratorKept) → ¬ IsMigratingBy resumed g retry [] outcome
-no-migrating false g retry outcome = no-more g retry zero outcome
-no-migrating true g retry outcome = λ h. no-more g retry (suc h.tries) outcome h.is
+pub no-migrating : (resumed : ℕ) (g : Geometry) (retry : Option ℕ) (outcome : MigratorKept) → ¬ IsMigratingBy resumed g retry [] outcome
+no-migrating zero g retry outcome = no-from g retry (nothing_kept g) outcome
+no-migrating (suc n) g retry outcome = λ h. no-migrating n g retry h.end (subst (λ (l : Notes). IsMigratingBy n g retry l h.end) (no-front h.front h.back h.is) h.shown)

@@ -9,7 +9,8 @@ use Rattle.nm_worker.specs.declared.routine.Task.{Task}
 use Rattle.nm_worker.specs.declared.routine.Task.TheVariants.{Run, Put, Take, Stop}
 use Rattle.nm_worker.specs.Notes.{Notes, IsTask}
 use Rattle.nm_worker.specs.Routines.{task_data, IsTaskRun, IsNextTask}
-use Rattle.nm_migrator_work.specs.Works.{MigratorPiece, MigratorWorkMade, migrator_work_made, IsMigratorWork, MayMigratorWork}
+use Rattle.nm_migrator_work.specs.declared.piece.MigratorPiece.{MigratorPiece}
+use Rattle.nm_migrator_work.specs.Works.{MigratorWorkMade, migrator_work_made, IsMigratorWork, MayMigratorWork}
 use Rattle.nm_migrator_work.proofs.Beginning.{may-mark, may-looks, may-cool, may-batch, may-move, may-ask, mapped-is-page}
 use Rattle.nm_migrator.specs.declared.migrating.Migrating.{Migrating}
 use Rattle.nm_migrator.specs.declared.migrating.MigratingStage.{MigratingStage}

@@ -14,7 +14,8 @@ use Rattle.nm_worker.specs.declared.routine.Ended.{Ended}
 use Rattle.nm_worker.specs.declared.routine.Ended.TheVariants as ended
 use Rattle.nm_worker.specs.Routines.{task_data, IsNextTask, IsTaskOver}
 use Rattle.nm_migrator_work.specs.declared.work.MigratorWork.TheVariants as works
-use Rattle.nm_migrator_work.specs.Works.{MigratorPiece, MigratorWorkMade, MigratorWorkEnd, migrator_work_made, IsMigratorWork, MayMigratorWork, MigratorWorkLeaves, made_mark, made_looks, made_cool, made_batch, made_move, made_ask}
+use Rattle.nm_migrator_work.specs.declared.piece.MigratorPiece.{MigratorPiece}
+use Rattle.nm_migrator_work.specs.Works.{MigratorWorkMade, MigratorWorkEnd, migrator_work_made, IsMigratorWork, MayMigratorWork, MigratorWorkLeaves, made_mark, made_looks, made_cool, made_batch, made_move, made_ask}
 use Rattle.nm_migrator_work.proofs.Resting.{mark-rests, looks-rests, cool-rests, batch-rests, move-rests, ask-rests}
 use Rattle.nm_migrator.specs.declared.migrating.Migrating.{Migrating}
 use Rattle.nm_migrator.specs.declared.migrating.MigratingStage.{MigratingStage}

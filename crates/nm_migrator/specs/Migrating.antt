@@ -1,6 +1,6 @@
 -- The migrator, as a pattern over finished lists of answered turns, the last step first. Each step is given what comes after it;
 -- `next` is what comes next from the taking of candidates on, or from that of pending pages on.
-use Rattle.std.specs.Prelude.{ℕ, zero, suc, Bool, true, false, List, [], ◌∷◌, ◌++◌, Option, Some, None}
+use Rattle.std.specs.Prelude.{ℕ, zero, suc, Bool, List, [], ◌∷◌, ◌++◌, Option, Some, None}
 use Rattle.std.specs.List.{range_with_len}
 use Rattle.nm_base.specs.Geometry.{Geometry, page_count}
 use Rattle.nm_action.specs.declared.action.Reply.{Reply}
@@ -153,12 +153,7 @@ IsMigrating g retry = MigratesFrom g retry (nothing_kept g)
 
 -- One that was resumed.
 
--- so many whole sequences and then one more, each begun with what the one before it left
-abbrev pub MigratesMore : Geometry → Option ℕ → ℕ → Sequence
-MigratesMore g retry zero = IsMigrating g retry
-MigratesMore g retry (suc n) = Follows (MigratesMore g retry n) (MigratesFrom g retry)
-
--- by whether it was resumed: then there is one more at least
-abbrev pub IsMigratingBy : Bool → Geometry → Option ℕ → Sequence
-IsMigratingBy false g retry = IsMigrating g retry
-IsMigratingBy true g retry = Sometimes (λ n. MigratesMore g retry (suc n))
+-- by how often it was resumed: so many whole sequences and then one more, each begun with what the one before it left
+abbrev pub IsMigratingBy : ℕ → Geometry → Option ℕ → Sequence
+IsMigratingBy zero g retry = IsMigrating g retry
+IsMigratingBy (suc n) g retry = Follows (IsMigratingBy n g retry) (MigratesFrom g retry)

@@ -1,5 +1,5 @@
 -- How far the migrator has come: the task of each stage, what is left after it, and what is known of it.
-use Rattle.std.specs.Prelude.{false, ◌≡◌, ◌≢◌, ℕ, ◌+◌, ◌-◌, ◌<◌, ◌≤◌, Bool, List, [], ◌∷◌, length, drop, All, Option, None}
+use Rattle.std.specs.Prelude.{◌≡◌, ◌≢◌, ℕ, ◌+◌, ◌-◌, ◌<◌, ◌≤◌, Bool, List, [], ◌∷◌, length, drop, All, Option, None}
 use Rattle.std.specs.List.{range_with_len}
 use Rattle.nm_base.specs.Geometry.{Geometry, IsGeometry, page_count}
 use Rattle.nm_base.specs.Ranges.{IsPage}
@@ -20,7 +20,8 @@ use Rattle.nm_worker.specs.declared.routine.Task.TheVariants.{Run, Put, Take, St
 use Rattle.nm_worker.specs.declared.routine.Ended.{Ended}
 use Rattle.nm_worker.specs.Notes.{IsPut}
 use Rattle.nm_worker.specs.Routines.{IsNextTask, IsDrawn, IsLeftEmpty}
-use Rattle.nm_migrator_work.specs.Works.{MigratorPiece, MigratorWorkMade, MigratorWorkEnd, migrator_work_made, IsMigratorWork, MayMigratorWork, made_mark, made_looks, made_cool, made_batch, made_move, made_ask}
+use Rattle.nm_migrator_work.specs.declared.piece.MigratorPiece.{MigratorPiece}
+use Rattle.nm_migrator_work.specs.Works.{MigratorWorkMade, MigratorWorkEnd, migrator_work_made, IsMigratorWork, MayMigratorWork, made_mark, made_looks, made_cool, made_batch, made_move, made_ask}
 use Rattle.nm_migrator.specs.declared.migrating.Migrating.{Migrating}
 use Rattle.nm_migrator.specs.declared.migrating.MigratingStage.{MigratingStage}
 use Rattle.nm_migrator.specs.declared.migrating.MigratingStage.TheVariants.{New, TakingCandidate, Judging, Heating, PuttingHot, Cooling, PuttingBack, Spilling, TakingPending, PuttingTwice, Planning, Batching, PuttingAgain, Moving, PuttingMoved, Asking, TakingLast, Unmarking, Over}
@@ -36,9 +37,9 @@ migrator_kept m = record { aborts = m.aborts.items; spent = m.spent }
 abbrev pub migrator_plan : Migrating → Plan
 migrator_plan m = record { pieces = m.pieces; moves = m.moves }
 
--- the geometry, the retry, and whether it was resumed
-abbrev pub migrating_made : Migrating → Geometry × Option ℕ × Bool
-migrating_made m = record { 0 = m.geometry.now; 1 = m.retry; 2 = m.resumed }
+-- the geometry, the retry, and how often it was resumed
+abbrev pub migrating_made : Migrating → Geometry × Option ℕ × ℕ
+migrating_made m = record { 0 = m.geometry.now; 1 = m.retry; 2 = m.resumed.number }
 
 -- The task of a stage.
 
@@ -345,6 +346,6 @@ MayComeTo m stage = Unit {0}
 -- the migrator has given no task yet
 pub record IsNewMigrating (m : Migrating) : Type 0 where
   pub start : m.stage ≡ New
-  pub first : m.resumed ≡ false
+  pub first : m.resumed.number ≡ 0
   pub kept : IsMigratorKept m
   pub aborts : migrator_kept m ≡ nothing_kept m.geometry.now

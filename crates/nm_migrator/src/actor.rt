@@ -1,6 +1,6 @@
 //! The migrator.
 
-ghost use Rattle.std.specs.Prelude.{◌≡◌, true, false, IfOk, Some, None};
+ghost use Rattle.std.specs.Prelude.{◌≡◌, ◌+◌, IfOk, Some, None};
 ghost use Rattle.nm_action.specs.declared.turn.Turn.TheVariants as turn;
 ghost use Rattle.nm_actor.specs.Turns.{Turns};
 ghost use Rattle.nm_worker.specs.Workers.{HasGivenEnd};
@@ -32,7 +32,7 @@ impl<'a> MigratorActor<'a> {
         g: &'a Geometry,
         retry: Option<u32>,
     ) -> Result<MigratorActor<'a>, AllocError>
-        ensures made { IfOk result (λ a. migrator_made a ≡ record { 0 = g.now; 1 = retry; 2 = false }) }
+        ensures made { IfOk result (λ a. migrator_made a ≡ record { 0 = g.now; 1 = retry; 2 = 0 }) }
         ensures new { IfOk result IsNewMigrator }
     {
         let routine = Migrating::new(alloc, g, retry)?;
@@ -45,7 +45,7 @@ impl<'a> MigratorActor<'a> {
     /// tally, each page's count of aborts, and what it has drawn. It takes no memory. Condition: the migrator gave End.
     pub fn resume(&mut self)
         requires { HasGivenEnd (AgreesMigrator self.old) }
-        ensures made { migrator_made self.new ≡ record { 0 = (migrator_made self.old).0; 1 = (migrator_made self.old).1; 2 = true } }
+        ensures made { migrator_made self.new ≡ record { 0 = (migrator_made self.old).0; 1 = (migrator_made self.old).1; 2 = (migrator_made self.old).2 + 1 } }
         ensures tally { worker_counted self.new.worker ≡ worker_counted self.old.worker }
         ensures agrees { (turns : Turns) → AgreesMigrator self.old turns (Some turn.End) → AgreesMigrator self.new turns None }
     {
@@ -54,7 +54,7 @@ impl<'a> MigratorActor<'a> {
 }
 
 impl<'a> Actor for MigratorActor<'a> {
-    type Made = (Geometry, Option<u32>, bool);
+    type Made = (Geometry, Option<u32>, u64);
 
     ghost use Rattle.std.specs.Prelude.{[], refl};
     ghost use Rattle.nm_migrator.specs.Parts.{migrator_made, migrator_number, worker_counted, IsNewMigrator, AgreesMigrator};

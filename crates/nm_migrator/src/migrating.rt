@@ -1,6 +1,6 @@
 //! The migrator as a routine: which task comes after which.
 
-ghost use Rattle.std.specs.Prelude.{◌≡◌, false, IfOk, None};
+ghost use Rattle.std.specs.Prelude.{◌≡◌, ◌+◌, IfOk, None};
 ghost use Rattle.nm_part.specs.Patterns.{CanEnd};
 ghost use Rattle.nm_transfer.specs.Stages.{HoldsWords};
 ghost use Rattle.nm_worker.specs.Routines.{task_data, IsNextTask, IsTaskOver, IsDrawn, HasTaskOver};
@@ -23,6 +23,7 @@ use nm_event::{Lane, Spent, Tally};
 use nm_migrator_work::{
     MigratorEnd, MigratorPiece, ask_work, batch_work, cool_work, looks_work, mark_work, move_work,
 };
+use nm_times::Times;
 use nm_transfer::TakenWords;
 use nm_worker::{Ended, Resuming, Routine, Task};
 use std::alloc::{AllocError, Global};
@@ -35,7 +36,7 @@ const CANDIDATE: u64 = 1;
 const PENDING: u64 = 2;
 
 /// How far the migrator has come.
-#[derive(Clone, Copy, Debug, PartialEq, Eq)]
+#[derive(Clone, Copy)]
 pub(crate) enum MigratingStage {
     /// It has given no task yet.
     New,
@@ -84,8 +85,8 @@ pub struct Migrating<'a> {
     pub(crate) geometry: &'a Geometry,
     /// How many aborts of a page's transaction make it move while it is locked.
     pub(crate) retry: Option<u32>,
-    /// Whether it was begun again after it had stopped.
-    pub(crate) resumed: bool,
+    /// How often it was begun again after it had stopped.
+    pub(crate) resumed: Times,
     pub(crate) stage: MigratingStage,
     /// How often each page's transaction was aborted since the page was last marked as pending.
     pub(crate) aborts: Vec<u32>,
@@ -110,7 +111,7 @@ impl<'a> Migrating<'a> {
         g: &'a Geometry,
         retry: Option<u32>,
     ) -> Result<Migrating<'a>, AllocError>
-        ensures made { IfOk result (λ m. migrating_made m ≡ record { 0 = g.now; 1 = retry; 2 = false }) }
+        ensures made { IfOk result (λ m. migrating_made m ≡ record { 0 = g.now; 1 = retry; 2 = 0 }) }
         ensures new { IfOk result (λ m. IsNewMigrating m) }
     {
         // What a geometry keeps is part of the reasons.
@@ -119,7 +120,7 @@ impl<'a> Migrating<'a> {
         Ok(Migrating {
             geometry: g,
             retry,
-            resumed: false,
+            resumed: Times::never(),
             stage: MigratingStage::New,
             aborts,
             spent: Spent::default(),
@@ -185,7 +186,7 @@ impl<'a> Migrating<'a> {
 }
 
 impl<'a> Routine<MigratorPiece<'a>> for Migrating<'a> {
-    type Made = (Geometry, Option<u32>, bool);
+    type Made = (Geometry, Option<u32>, u64);
 
     ghost use Rattle.nm_migrator.specs.Stages.{migrator_kept, migrating_made, IsNewMigrating, IsMigratingAt, migrating_left};
     ghost use Rattle.nm_migrator.specs.Planned.{MigratorKept};
@@ -215,8 +216,8 @@ impl<'a> Routine<MigratorPiece<'a>> for Migrating<'a> {
     fn begin(&mut self) -> Task<MigratorPiece<'a>>
         requires { IsNewMigrating self.old }
         ensures made { migrating_made self.new ≡ migrating_made self.old }
-        ensures can { CanEnd (IsMigratingBy self.old.resumed self.old.geometry.now self.old.retry) }
-        ensures next { IsNextTask migrator_work_made IsNewMigratorWork MayMigratorWork IsMigratorWork migrator_counts (IsMigratingAt self.new) (migrating_left self.new) (migrator_kept self.new) (IsMigratingBy self.old.resumed self.old.geometry.now self.old.retry)
+        ensures can { CanEnd (IsMigratingBy self.old.resumed.number self.old.geometry.now self.old.retry) }
+        ensures next { IsNextTask migrator_work_made IsNewMigratorWork MayMigratorWork IsMigratorWork migrator_counts (IsMigratingAt self.new) (migrating_left self.new) (migrator_kept self.new) (IsMigratingBy self.old.resumed.number self.old.geometry.now self.old.retry)
             self.old.geometry.now (opening self.old.geometry.now self.old.geometry.now.cpus) result }
     {
         self.go(MigratingStage::TakingCandidate)
@@ -276,26 +277,26 @@ impl<'a> Routine<MigratorPiece<'a>> for Migrating<'a> {
 }
 
 impl<'a> Resuming<MigratorPiece<'a>> for Migrating<'a> {
-    ghost use Rattle.std.specs.Prelude.{true, ◌++◌};
+    ghost use Rattle.std.specs.Prelude.{◌+◌, ◌++◌};
     ghost use Rattle.nm_worker.specs.declared.routine.Task.TheVariants.{Stop};
     ghost use Rattle.nm_worker.specs.Notes.{Notes};
     ghost use Rattle.nm_worker.specs.Routines.{HasStopped, IsBegunAgain};
 
     ghost can_resume = { λ m. Unit {0} };
 
-    ghost resumed = { λ made. record { 0 = made.0; 1 = made.1; 2 = true } };
+    ghost resumed = { λ made. record { 0 = made.0; 1 = made.1; 2 = made.2 + 1 } };
 
     fn resume(&mut self) -> Task<MigratorPiece<'a>>
         requires stopped { HasStopped (IsMigratingAt self.old) }
-        ensures made { migrating_made self.new ≡ record { 0 = self.old.geometry.now; 1 = self.old.retry; 2 = true } }
+        ensures made { migrating_made self.new ≡ record { 0 = self.old.geometry.now; 1 = self.old.retry; 2 = self.old.resumed.number + 1 } }
         ensures geometry { self.new.geometry.now ≡ self.old.geometry.now }
         ensures number { self.new.geometry.now.cpus ≡ self.old.geometry.now.cpus }
-        ensures next { (notes : Notes) (view : View) → IsMigratingAt self.old view Stop → IsMigratingBy self.old.resumed self.old.geometry.now self.old.retry notes (migrator_kept self.old)
+        ensures next { (notes : Notes) (view : View) → IsMigratingAt self.old view Stop → IsMigratingBy self.old.resumed.number self.old.geometry.now self.old.retry notes (migrator_kept self.old)
             → IsBegunAgain
-            (IsNextTask migrator_work_made IsNewMigratorWork MayMigratorWork IsMigratorWork migrator_counts (IsMigratingAt self.new) (migrating_left self.new) (migrator_kept self.new) (λ rest outcome. IsMigratingBy self.new.resumed self.new.geometry.now self.new.retry (notes ++ rest) outcome) self.old.geometry.now view result)
-            (λ rest outcome. IsMigratingBy self.new.resumed self.new.geometry.now self.new.retry (notes ++ rest) outcome) }
+            (IsNextTask migrator_work_made IsNewMigratorWork MayMigratorWork IsMigratorWork migrator_counts (IsMigratingAt self.new) (migrating_left self.new) (migrator_kept self.new) (λ rest outcome. IsMigratingBy self.new.resumed.number self.new.geometry.now self.new.retry (notes ++ rest) outcome) self.old.geometry.now view result)
+            (λ rest outcome. IsMigratingBy self.new.resumed.number self.new.geometry.now self.new.retry (notes ++ rest) outcome) }
     {
-        self.resumed = true;
+        self.resumed = self.resumed.once_more();
         self.go(MigratingStage::TakingCandidate)
     }
 }

@@ -5,39 +5,14 @@ use Rattle.nm_action.specs.declared.action.Action.{Action}
 use Rattle.nm_action.specs.declared.spent.Spent.{Spent}
 use Rattle.nm_action.specs.Own.{Own}
 use Rattle.nm_view.specs.Views.{View}
-use Rattle.nm_compose.specs.Acts.{IsAct}
-use Rattle.nm_compose.specs.Choices.{AwaitsOr}
-use Rattle.nm_compose.specs.Composites.{HasFirst, IsRunning}
-use Rattle.nm_compose.specs.Stages.{IsPieceAt}
-use Rattle.nm_looks.specs.Seeing.{IsLooks}
-use Rattle.nm_looks.specs.Looking.{looks_data, looks_place, looks_left, looks_stages}
-use Rattle.nm_looks.specs.Parts.{LooksPart}
 use Rattle.nm_txn.specs.declared.end.TxnEnd.{TxnEnd}
-use Rattle.nm_txn.specs.Tasks.{ActAwaits, VisitsAwaits}
-use Rattle.nm_cool.specs.Cooling.{CoolData, IsCooling, MayCool}
-use Rattle.nm_cool.specs.Stages.{cool_data, cool_piece_made, IsNewCoolPiece, MayCoolPiece, IsCoolPiece, cool_left, cool_stages}
-use Rattle.nm_batch_run.specs.Runs.{BatchRunMade, batch_run_made, IsNewBatchRun, MayBatchRun, IsBatchRunList, BatchRunLeaves, AwaitsBatchRun}
+use Rattle.nm_batch.specs.Runs.{BatchRunMade, batch_run_made, IsNewBatchRun, MayBatchRun, IsBatchRunList, BatchRunLeaves, AwaitsBatchRun}
 use Rattle.nm_locked.specs.declared.locked.LockedOver.{LockedOver}
 use Rattle.nm_locked_run.specs.Runs.{LockedMade, locked_run_made, IsNewLockedRun, MayLockedRun, IsLockedRunList, LockedRunLeaves, AwaitsLockedRun}
 use Rattle.nm_drawing.specs.declared.drawing.Drawn.{Drawn}
 use Rattle.nm_drawing.specs.Draws.{IsNewDrawing, MayDraw, IsDrawingList, IsDrawnLeft, AwaitsDrawing}
-use Rattle.nm_migrator_parts.specs.declared.parts.CoolWork.{CoolWork}
 use Rattle.nm_migrator_parts.specs.declared.parts.BatchWork.{BatchWork}
 use Rattle.nm_migrator_parts.specs.declared.parts.MoveWork.{MoveWork}
-
--- Cooling.
-
-abbrev pub LooksAwaits : LooksPart → Geometry → View → Own → Action → Type 0
-LooksAwaits c = IsRunning IsAct (ActAwaits c.piece) (IsPieceAt looks_stages (looks_data c.plan) (looks_place c.plan)) (looks_left (looks_data c.plan) (looks_place c.plan)) (IsLooks (looks_data c.plan)) c.piece.action
-
-abbrev pub cool_work_made : CoolWork → CoolData
-cool_work_made w = cool_data w.run.plan
-
-abbrev pub IsNewCoolWork : CoolWork → Type 0
-IsNewCoolWork w = HasFirst cool_piece_made IsNewCoolPiece MayCoolPiece IsCoolPiece (IsPieceAt cool_stages (cool_data w.run.plan) w.run.plan.stage) (cool_left (cool_data w.run.plan) w.run.plan.stage) MayCool IsCooling (cool_data w.run.plan) w.run.piece
-
-abbrev pub AwaitsCoolWork : CoolWork → Geometry → View → Own → Action → Type 0
-AwaitsCoolWork w = IsRunning IsCoolPiece (AwaitsOr ActAwaits (AwaitsOr LooksAwaits VisitsAwaits) w.run.piece) (IsPieceAt cool_stages (cool_data w.run.plan) w.run.plan.stage) (cool_left (cool_data w.run.plan) w.run.plan.stage) (IsCooling (cool_data w.run.plan)) (cool_piece_made w.run.piece)
 
 -- Batches.
 

@@ -3,4 +3,4 @@
 
 pub mod parts;
 
-pub use parts::{BatchWork, CoolWork, MoveWork};
+pub use parts::{BatchWork, MoveWork};

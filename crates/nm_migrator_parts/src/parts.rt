@@ -1,13 +1,10 @@
 //! The larger parts of the migrator's work: each tells of itself by names.
 
 ghost use Rattle.std.specs.Prelude.{◌≡◌, ◌≢◌, []};
-ghost use Rattle.nm_migrator_parts.specs.Wrapped.{cool_work_made, IsNewCoolWork, batch_work_made, IsNewBatchWork, move_work_made, IsNewMoveWork};
+ghost use Rattle.nm_migrator_parts.specs.Wrapped.{batch_work_made, IsNewBatchWork, move_work_made, IsNewMoveWork};
 
 use nm_base::Geometry;
-use nm_batch::{BatchAsked, PieceList};
-use nm_batch_run::BatchRun;
-use nm_compose::Composite;
-use nm_cool::{Cool, CoolPiece, Cooled};
+use nm_batch::{BatchAsked, BatchRun, PieceList};
 use nm_drawing::{Drawing, Drawn};
 use nm_event::{Action, Reply, Spent, Step};
 use nm_locked::{ChooseMade, LockedOver};
@@ -15,12 +12,6 @@ use nm_locked_run::LockedRun;
 use nm_part::{Part, Piece};
 use nm_transfer::TakenWords;
 use nm_txn::TxnEnd;
-
-/// The cooling of a candidate, as a part.
-#[derive(Drop)]
-pub struct CoolWork<'a> {
-    run: Composite<Cool<'a>, CoolPiece<'a>>,
-}
 
 /// A batch of transactions, as a part that tells what it has drawn.
 #[derive(Drop)]
@@ -32,18 +23,6 @@ pub struct BatchWork<'a> {
 #[derive(Drop)]
 pub struct MoveWork<'a> {
     run: Drawing<LockedRun<'a>>,
-}
-
-impl<'a> CoolWork<'a> {
-    /// The cooling of a page.
-    pub fn new(g: &'a Geometry, page: u32) -> CoolWork<'a>
-        ensures made { cool_work_made result ≡ record { 0 = g.now; 1 = page } }
-        ensures new { IsNewCoolWork result }
-    {
-        CoolWork {
-            run: Composite::new(Cool::new(g, page)),
-        }
-    }
 }
 
 impl<'a> BatchWork<'a> {
@@ -76,43 +55,6 @@ impl<'a> MoveWork<'a> {
         MoveWork {
             run: Drawing::new(run, spent),
         }
-    }
-}
-
-impl<'a> Part for CoolWork<'a> {
-    type Outcome = Cooled;
-
-    type Made = (Geometry, u32);
-
-    ghost use Rattle.nm_cool.specs.Cooling.{IsCooling, MayCool, IsCooledLeft};
-    ghost use Rattle.nm_migrator_parts.specs.Wrapped.{cool_work_made, IsNewCoolWork, AwaitsCoolWork};
-
-    ghost made = { cool_work_made };
-
-    ghost is_new = { IsNewCoolWork };
-
-    ghost may_begin = { MayCool };
-
-    ghost shape = { IsCooling };
-
-    ghost leaves = { λ made g view end left. IsCooledLeft made view end left };
-
-    ghost awaits = { AwaitsCoolWork };
-
-    ghost ended = { λ w g own end. Unit {0} };
-
-    fn first(&mut self) -> Step<Cooled> {
-        Step::Do(self.start())
-    }
-
-    fn after(&mut self, reply: Reply) -> Step<Cooled> {
-        self.run.after(reply)
-    }
-}
-
-impl<'a> Piece for CoolWork<'a> {
-    fn start(&mut self) -> Action {
-        self.run.start()
     }
 }
 

@@ -10,31 +10,23 @@ use Rattle.nm_view.specs.Views.{View}
 use Rattle.nm_part.specs.Parts.{NothingTold}
 use Rattle.nm_compose.specs.Acts.{MayAct, IsAct, IsActed}
 use Rattle.nm_compose.specs.declared.act.Act.{Act}
-use Rattle.nm_compose.specs.declared.composite.Composite.{Composite}
 use Rattle.nm_looks.specs.declared.seen.Seen.{Seen}
 use Rattle.nm_looks.specs.Seeing.{LooksData, IsLooks, MayLooks, HasLooked}
-use Rattle.nm_looks.specs.Parts.{LooksPart, looks_part_data, IsNewLooksPart, page_looks}
+use Rattle.nm_compose.specs.Acts.{AwaitsAct}
+use Rattle.nm_looks.specs.Parts.{looks_run_made, IsNewLooksRun, AwaitsLooksRun, page_looks}
 use Rattle.nm_txn.specs.declared.end.TxnEnd.{TxnEnd}
-use Rattle.nm_txn.specs.Tasks.{ActAwaits}
 use Rattle.nm_cool.specs.declared.cool.Cooled.{Cooled}
 use Rattle.nm_cool.specs.Cooling.{CoolData, IsCooling, MayCool, IsCooledLeft}
+use Rattle.nm_cool.specs.Runs.{cool_run_made, IsNewCoolRun, AwaitsCoolRun}
 use Rattle.nm_locked.specs.declared.locked.LockedOver.{LockedOver}
-use Rattle.nm_ended.specs.Asking.{AskPart, MayAsk, IsAsking, ask_left, ask_stages}
-use Rattle.nm_compose.specs.Composites.{HasFirst, IsRunning}
-use Rattle.nm_compose.specs.Stages.{IsPieceAt}
-use Rattle.nm_migrator_parts.specs.declared.parts.CoolWork.{CoolWork}
-use Rattle.nm_migrator_parts.specs.declared.parts.BatchWork.{BatchWork}
-use Rattle.nm_migrator_parts.specs.declared.parts.MoveWork.{MoveWork}
-use Rattle.nm_migrator_parts.specs.Wrapped.{BatchData, MoveData, cool_work_made, IsNewCoolWork, batch_work_made, IsNewBatchWork, MayBatchWork, IsBatchWork, BatchWorkLeaves, move_work_made, IsNewMoveWork, MayMoveWork, IsMoveWork, MoveWorkLeaves, LooksAwaits, AwaitsCoolWork, AwaitsBatchWork, AwaitsMoveWork}
+use Rattle.nm_ended.specs.Asking.{IsAsking}
+use Rattle.nm_ended.specs.Runs.{ask_run_made, MayAskRun, IsNewAskRun, AwaitsAskRun}
+use Rattle.nm_migrator_parts.specs.Wrapped.{BatchData, MoveData, batch_work_made, IsNewBatchWork, MayBatchWork, IsBatchWork, BatchWorkLeaves, move_work_made, IsNewMoveWork, MayMoveWork, IsMoveWork, MoveWorkLeaves, AwaitsBatchWork, AwaitsMoveWork}
 use Rattle.nm_drawing.specs.declared.drawing.Drawn.{Drawn}
+use Rattle.nm_migrator_work.specs.declared.piece.MigratorPiece.{MigratorPiece}
 use Rattle.nm_migrator_work.specs.declared.work.MigratorWork.{MigratorWork}
 use Rattle.nm_migrator_work.specs.declared.work.MigratorWork.TheVariants as works
 use Rattle.nm_migrator_work.specs.Kinds.{made_by, IsNewBy, MayBy, IsListBy, LeavesBy, AwaitsBy, EndedBy}
-
--- The pieces.
-
-abbrev pub MigratorPiece : Type 0
-MigratorPiece = MigratorWork Act LooksPart CoolWork BatchWork MoveWork AskPart
 
 -- What they are made with; those that draw, also with what was drawn before.
 
@@ -42,15 +34,11 @@ abbrev pub MigratorWorkMade : Type 0
 MigratorWorkMade = MigratorWork Action LooksData CoolData BatchData MoveData ℕ
 
 abbrev pub migrator_work_made : MigratorPiece → MigratorWorkMade
-migrator_work_made = made_by (λ p. p.action) looks_part_data cool_work_made batch_work_made move_work_made (λ c. c.plan.cpus)
+migrator_work_made p = made_by (λ (a : Act). a.action) looks_run_made cool_run_made batch_work_made move_work_made ask_run_made p.work
 
 -- they have given no action
-
-abbrev pub IsNewAskPart : AskPart → Type 0
-IsNewAskPart c = HasFirst (λ (a : Act). a.action) (λ a. Unit {0}) (λ action g view. MayAct g view action) IsAct (IsPieceAt ask_stages c.plan.cpus c.plan.cpu) (ask_left c.plan.cpus c.plan.cpu) (λ cpus g view. MayAsk cpus g view) IsAsking c.plan.cpus c.piece
-
 abbrev pub IsNewMigratorWork : MigratorPiece → Type 0
-IsNewMigratorWork = IsNewBy (λ p. Unit {0}) IsNewLooksPart IsNewCoolWork IsNewBatchWork IsNewMoveWork IsNewAskPart
+IsNewMigratorWork p = IsNewBy (λ a. Unit {0}) IsNewLooksRun IsNewCoolRun IsNewBatchWork IsNewMoveWork IsNewAskRun p.work
 
 -- the Mark of a page
 abbrev pub made_mark : ℕ → ℕ → ℕ → MigratorWorkMade
@@ -83,7 +71,7 @@ MigratorWorkEnd = MigratorWork Reply Seen Cooled (Drawn (List TxnEnd)) (Drawn Lo
 
 -- a work may begin
 abbrev pub MayMigratorWork : MigratorWorkMade → Geometry → View → Type 0
-MayMigratorWork = MayBy (λ action g view. MayAct g view action) MayLooks MayCool MayBatchWork MayMoveWork (λ cpus g view. MayAsk cpus g view)
+MayMigratorWork = MayBy (λ action g view. MayAct g view action) MayLooks MayCool MayBatchWork MayMoveWork MayAskRun
 
 -- a finished list of a work, and the end that this shows
 abbrev pub IsMigratorWork : MigratorWorkMade → Geometry → Own → MigratorWorkEnd → Type 0
@@ -95,13 +83,9 @@ MigratorWorkLeaves = LeavesBy (λ action g view reply left. IsActed g view actio
     BatchWorkLeaves MoveWorkLeaves (λ cpus g view all left. left ≡ view)
 
 -- it awaits the answer to an action
-
-abbrev pub AskAwaits : AskPart → Geometry → View → Own → Action → Type 0
-AskAwaits c = IsRunning IsAct (ActAwaits c.piece) (IsPieceAt ask_stages c.plan.cpus c.plan.cpu) (ask_left c.plan.cpus c.plan.cpu) (IsAsking c.plan.cpus) c.piece.action
-
 abbrev pub AwaitsMigratorWork : MigratorPiece → Geometry → View → Own → Action → Type 0
-AwaitsMigratorWork = AwaitsBy ActAwaits LooksAwaits AwaitsCoolWork AwaitsBatchWork AwaitsMoveWork AskAwaits
+AwaitsMigratorWork p = AwaitsBy AwaitsAct AwaitsLooksRun AwaitsCoolRun AwaitsBatchWork AwaitsMoveWork AwaitsAskRun p.work
 
 -- it is over: there is nothing more that it can be asked for
 abbrev pub MigratorWorkEnded : MigratorPiece → Geometry → Own → MigratorWorkEnd → Type 0
-MigratorWorkEnded = EndedBy (λ p g own reply. NothingTold g own reply) (λ c g own seen. Unit {0}) (λ w g own end. Unit {0}) (λ w g own end. Unit {0}) (λ w g own end. Unit {0}) (λ c g own all. Unit {0})
+MigratorWorkEnded p = EndedBy (λ a g own reply. NothingTold g own reply) (λ r g own seen. Unit {0}) (λ r g own end. Unit {0}) (λ w g own end. Unit {0}) (λ w g own end. Unit {0}) (λ r g own all. Unit {0}) p.work

@@ -6,15 +6,16 @@ ghost use Rattle.nm_migrator_work.specs.Works.{migrator_work_made, made_mark, ma
 
 use crate::work::MigratorWork;
 use nm_base::Geometry;
-use nm_batch::PieceList;
-use nm_compose::{Act, Composite};
-use nm_cool::Cooled;
+use nm_batch::{BatchAsked, PieceList};
+use nm_compose::Act;
+use nm_cool::{CoolRun, Cooled};
 use nm_drawing::Drawn;
-use nm_ended::{AskEnded, AskPart};
-use nm_event::{Action, Reply, Spent};
-use nm_locked::LockedOver;
-use nm_looks::{Looks, LooksPart, Seen};
-use nm_migrator_parts::{BatchWork, CoolWork, MoveWork};
+use nm_ended::AskRun;
+use nm_event::{Action, Reply, Spent, Step};
+use nm_locked::{ChooseMade, LockedOver};
+use nm_looks::{Looks, LooksMade, LooksRun, Seen};
+use nm_migrator_parts::{BatchWork, MoveWork};
+use nm_part::{Part, Piece};
 use nm_transfer::TakenWords;
 use nm_txn::TxnEnd;
 use nm_vpages::VPageSet;
@@ -22,15 +23,11 @@ use nm_vpages::VPageSet;
 /// The tier that Looks of the migrator ask for.
 const FASTEST: u32 = 0;
 
-/// A piece of the migrator's work.
-pub type MigratorPiece<'a> = MigratorWork<
-    Act,
-    LooksPart<'a>,
-    CoolWork<'a>,
-    BatchWork<'a>,
-    MoveWork<'a>,
-    AskPart,
->;
+/// A piece of the migrator's work. All that is said of it is said by the piece of its kind.
+#[derive(Drop)]
+pub struct MigratorPiece<'a> {
+    work: MigratorWork<Act, LooksRun<'a>, CoolRun<'a>, BatchWork<'a>, MoveWork<'a>, AskRun>,
+}
 
 /// How a piece of the migrator's work ends: with the reply to a Mark; with what Looks have seen; with how a candidate was
 /// cooled; with how each piece of a batch ended, in order; with how a locked move is over; or with whether all processors have
@@ -44,12 +41,60 @@ pub type MigratorEnd = MigratorWork<
     bool,
 >;
 
+/// What a piece of the migrator's work is made with; those that draw, also with what was drawn before.
+pub type MigratorMade = MigratorWork<
+    Action,
+    (Geometry, LooksMade),
+    (Geometry, u32),
+    ((Geometry, BatchAsked), Spent),
+    ((Geometry, ChooseMade), Spent),
+    u32,
+>;
+
+impl<'a> Part for MigratorPiece<'a> {
+    type Outcome = MigratorEnd;
+
+    type Made = MigratorMade;
+
+    ghost use Rattle.nm_migrator_work.specs.Works.{migrator_work_made, IsNewMigratorWork, MayMigratorWork, IsMigratorWork, MigratorWorkLeaves, AwaitsMigratorWork, MigratorWorkEnded};
+
+    ghost made = { migrator_work_made };
+
+    ghost is_new = { IsNewMigratorWork };
+
+    ghost may_begin = { MayMigratorWork };
+
+    ghost shape = { IsMigratorWork };
+
+    ghost leaves = { MigratorWorkLeaves };
+
+    ghost awaits = { AwaitsMigratorWork };
+
+    ghost ended = { MigratorWorkEnded };
+
+    fn first(&mut self) -> Step<MigratorEnd> {
+        Step::Do(self.start())
+    }
+
+    fn after(&mut self, reply: Reply) -> Step<MigratorEnd> {
+        self.work.after(reply)
+    }
+}
+
+impl<'a> Piece for MigratorPiece<'a> {
+    fn start(&mut self) -> Action {
+        self.work.start()
+    }
+}
+
 /// The Mark of a page. Where it begins the page is there, and the mark makes a step that needs no operation.
 pub fn mark_work<'a>(page: u32, from: u64, to: u64) -> MigratorPiece<'a>
     ensures made { migrator_work_made result ≡ made_mark page from to }
     ensures new { IsNewMigratorWork result }
 {
-    MigratorWork::Mark(Act::new(Action::Mark { page, from, to }))
+    MigratorPiece {
+        work: MigratorWork::Mark(Act::new(Action::Mark { page, from, to })),
+    }
 }
 
 /// The Looks at the virtual pages of a page. Condition: there is one.
@@ -59,7 +104,9 @@ pub fn looks_work<'a>(g: &'a Geometry, page: u32) -> MigratorPiece<'a>
     ensures new { IsNewMigratorWork result }
 {
     let plan = Looks::new(g, page, FASTEST, VPageSet::of_page(g, page));
-    MigratorWork::Looks(Composite::new(plan))
+    MigratorPiece {
+        work: MigratorWork::Looks(LooksRun::new(plan)),
+    }
 }
 
 /// The cooling of a candidate. Where it begins the page is there, has a virtual page, and may be locked.
@@ -67,7 +114,9 @@ pub fn cool_work<'a>(g: &'a Geometry, page: u32) -> MigratorPiece<'a>
     ensures made { migrator_work_made result ≡ made_cool g.now page }
     ensures new { IsNewMigratorWork result }
 {
-    MigratorWork::Cool(CoolWork::new(g, page))
+    MigratorPiece {
+        work: MigratorWork::Cool(CoolRun::new(g, page)),
+    }
 }
 
 /// The batch of these pieces, pages each with a virtual page, by an actor that has drawn so much. Condition: there is a piece.
@@ -82,7 +131,9 @@ pub fn batch_work<'a>(
     ensures made { migrator_work_made result ≡ made_batch g.now pieces spent }
     ensures new { IsNewMigratorWork result }
 {
-    MigratorWork::Batch(BatchWork::new(g, pieces, spent))
+    MigratorPiece {
+        work: MigratorWork::Batch(BatchWork::new(g, pieces, spent)),
+    }
 }
 
 /// The locked move of a page of which so many virtual pages are to have table words, by an actor that has drawn so much;
@@ -98,7 +149,9 @@ pub fn move_work<'a>(
     ensures made { migrator_work_made result ≡ made_move g.now page count spent }
     ensures new { IsNewMigratorWork result }
 {
-    MigratorWork::Move(MoveWork::new(g, page, count, spent, taken))
+    MigratorPiece {
+        work: MigratorWork::Move(MoveWork::new(g, page, count, spent, taken)),
+    }
 }
 
 /// The question to the processors of a geometry. Where it begins the view has no open operation.
@@ -106,5 +159,7 @@ pub fn ask_work<'a>(g: &Geometry) -> MigratorPiece<'a>
     ensures made { migrator_work_made result ≡ made_ask g.now }
     ensures new { IsNewMigratorWork result }
 {
-    MigratorWork::Ask(Composite::new(AskEnded::new(g)))
+    MigratorPiece {
+        work: MigratorWork::Ask(AskRun::new(g)),
+    }
 }

@@ -3,3 +3,4 @@ pub mod FreedCounts
 pub mod Obtaining
 pub mod Obtains
 pub mod Searching
+pub mod Runs

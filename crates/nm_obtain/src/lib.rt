@@ -3,6 +3,8 @@
 
 pub mod freed;
 pub mod obtain;
+pub mod run;
 
 pub use freed::FreedCount;
 pub use obtain::{Obtain, ObtainMade, ObtainPiece, Obtained};
+pub use run::ObtainRun;

@@ -4,3 +4,4 @@ pub mod Lanes
 pub mod Making
 pub mod Playing
 pub mod Starting
+pub mod Keeping

@@ -4,7 +4,6 @@ use Rattle.std.proofs.lemmas.List.{append-nil, get_or_append_left}
 use Rattle.nm_schedule.proofs.Snoc.{length-snoc}
 use Rattle.std.proofs.lemmas.Bool.{cases_eq}
 use Rattle.nm_base.specs.Geometry.{Geometry, page_count}
-use Rattle.nm_action.specs.declared.action.Event.{Event}
 use Rattle.nm_action.specs.declared.turn.Lane.{Lane}
 use Rattle.nm_action.specs.declared.turn.Lane.TheVariants.{Candidates, Pending}
 use Rattle.nm_action.specs.declared.turn.Turn.{Turn}
@@ -12,20 +11,18 @@ use Rattle.nm_action.specs.declared.turn.Turn.TheVariants.{Do, Put, Take, End}
 use Rattle.nm_action.specs.declared.turn.Heard.TheVariants.{Start}
 use Rattle.nm_view.specs.Opening.{IsActor}
 use Rattle.nm_core.specs.State.{State, start, actor_count}
-use Rattle.nm_core.specs.Runs.{IsRun, state_after}
 use Rattle.nm_actor.specs.Turns.{Turns, turns_view}
 use Rattle.nm_actor.specs.Actors.{answered, IsAnswerTo, HasHeard, IsTurn}
 use Rattle.nm_queue.specs.Ports.{PortLanes}
 use Rattle.nm_script.specs.declared.schedule.Schedule.{Schedule}
 use Rattle.nm_schedule.specs.declared.limits.TheConstants.{MOST_CANDIDATES}
 use Rattle.nm_schedule.specs.declared.turn.Played.{Played}
-use Rattle.nm_schedule.specs.declared.turn.SimTurn.{SimTurn}
-use Rattle.nm_schedule.specs.Played.{has_ended}
+use Rattle.nm_schedule.specs.Played.{has_ended, events_of, order_of}
 use Rattle.nm_schedule.specs.Picks.{most_turns}
 use Rattle.nm_schedule.specs.Scheduled.{IsTurnAfter, AreTurns}
 use Rattle.nm_schedule.specs.Standing.{Standing, StandsAfter, IsPick}
 use Rattle.nm_play.specs.Crews.{MayStart}
-use Rattle.nm_play.specs.Played.{is_end, IsLane, IsPlaying, IsTurnPlayed, AreGivenBelow, IsAtTurn, IsPlayedOut, IsRunOf}
+use Rattle.nm_play.specs.Played.{is_end, IsLane, IsPlaying, IsTurnPlayed, AreGivenBelow, IsAtTurn, IsPlayedOut, IsWatchedRun}
 
 abbrev Agrees : Type 1
 Agrees = ℕ → Turns → Option Turn → Type 0
@@ -90,18 +87,17 @@ first-lane g lanes e lane =
       | Pending ↦ record { capacity = refl; pages = refl; taken = omega arith }
     ])
 
-pub playing-first : {K : Type 0} (g : Geometry) (agrees : K → Agrees) (crew after : K) (state : State) (lanes : PortLanes) (given : List Turn) (events : List Event) (order : List SimTurn)
+pub playing-first : {K : Type 0} (g : Geometry) (agrees : K → Agrees) (crew after : K) (state : State) (lanes : PortLanes) (given : List Turn) (kept : List Played → Type 0)
     → MayStart g agrees crew → state ≡ start g → lanes ≡ record { candidates = record { capacity = MOST_CANDIDATES; pages = [] }; pending = record { capacity = page_count g; pages = [] } }
-    → AreGivenBelow g (agrees after) given (actor_count g) → events ≡ [] → order ≡ []
-    → IsPlaying g (agrees after) state lanes given events order []
-playing-first g agrees crew after state lanes given events order may is lanes-are h no-events no-order = record {
+    → AreGivenBelow g (agrees after) given (actor_count g) → kept []
+    → IsPlaying g (agrees after) state lanes given kept []
+playing-first g agrees crew after state lanes given kept may is lanes-are h nothing = record {
   run = tt;
   reached = is;
   held = first-lane g lanes lanes-are;
   actors = h.size;
   gave = λ actor there. (let t = h.turns actor there in record { next = t; ended = not-end (agrees after actor) (get_or given actor End) (may.acts after actor) t.agreed });
-  listed = no-events;
-  ordered = no-order;
+  told = nothing;
 }
 
 -- ---- a turn of a schedule
@@ -112,12 +108,12 @@ turns-push g schedule before (x ∷ played) p h t =
     let P : List Played → Type 0 = λ l. IsTurnAfter g schedule l p in
     (h.0, turns-push g schedule (before ++ x ∷ []) played p h.1 (subst P (sym (append_assoc before (x ∷ []) played)) t))
 
-pub so-far-more : (g : Geometry) (schedule : Schedule) (agrees agrees' : Agrees) (state after : State) (lanes lanes' : PortLanes) (given given' : List Turn) (events events' : List Event) (order order' : List SimTurn) (picker picker' : Standing) (n actor : ℕ) (p : Played)
-    → (h : IsAtTurn g schedule agrees state lanes given events order picker n) → n < most_turns schedule → IsPick schedule (actor_count g) h.played actor
-    → IsTurnPlayed g actor h.played p × IsPlaying g agrees' after lanes' given' events' order' (h.played ++ p ∷ [])
+pub so-far-more : (g : Geometry) (schedule : Schedule) (agrees agrees' : Agrees) (state after : State) (lanes lanes' : PortLanes) (given given' : List Turn) (kept kept' : List Played → Type 0) (picker picker' : Standing) (n actor : ℕ) (p : Played)
+    → (h : IsAtTurn g schedule agrees state lanes given kept picker n) → n < most_turns schedule → IsPick schedule (actor_count g) h.played actor
+    → IsTurnPlayed g actor h.played p × IsPlaying g agrees' after lanes' given' kept' (h.played ++ p ∷ [])
     → StandsAfter schedule (actor_count g) picker' (h.played ++ p ∷ [])
-    → IsAtTurn g schedule agrees' after lanes' given' events' order' picker' (n + 1)
-so-far-more g schedule agrees agrees' state after lanes lanes' given given' events events' order order' picker picker' n actor p h early pick played stands =
+    → IsAtTurn g schedule agrees' after lanes' given' kept' picker' (n + 1)
+so-far-more g schedule agrees agrees' state after lanes lanes' given given' kept kept' picker picker' n actor p h early pick played stands =
     let P : ℕ → Type 0 = λ a. IsPick schedule (actor_count g) h.played a in
     let k = subst P (sym played.0.same) pick in
     record {
@@ -130,11 +126,12 @@ so-far-more g schedule agrees agrees' state after lanes lanes' given given' even
       many = length-snoc h.played p ∙ ap (λ i. i + 1) h.many;
     }
 
-pub played-out : (g : Geometry) (schedule : Schedule) (agrees : Agrees) (state : State) (lanes : PortLanes) (given : List Turn) (events : List Event) (order : List SimTurn) (picker : Standing) (n : ℕ)
-    → (h : IsAtTurn g schedule agrees state lanes given events order picker n) → ((picker.active ≡ []) ⊎ (n ≡ most_turns schedule)) → IsPlayedOut g schedule agrees state lanes given events order
-played-out g schedule agrees state lanes given events order picker n h stops = record {
+pub played-out : (g : Geometry) (schedule : Schedule) (agrees : Agrees) (state : State) (lanes : PortLanes) (given : List Turn) (kept : List Played → Type 0) (picker : Standing) (n : ℕ)
+    → (h : IsAtTurn g schedule agrees state lanes given kept picker n) → ((picker.active ≡ []) ⊎ (n ≡ most_turns schedule)) → IsPlayedOut g schedule agrees state lanes given kept n
+played-out g schedule agrees state lanes given kept picker n h stops = record {
   played = h.played;
   playing = h.so_far.playing;
+  many = sym h.many;
   scheduled = record {
     turns = h.so_far.turns;
     stops = elim stops [ inl none ↦ inl (sym h.so_far.stands.active ∙ none) | inr all ↦ inr (h.many ∙ all) ];
@@ -143,19 +140,23 @@ played-out g schedule agrees state lanes given events order picker n h stops = r
 
 -- ---- the run
 
-pub run-of : (g : Geometry) (schedule : Schedule) (agrees : Agrees) (state : State) (lanes : PortLanes) (given : List Turn) (events : List Event) (order : List SimTurn)
-    → IsPlayedOut g schedule agrees state lanes given events order → IsRunOf g schedule agrees state events order
-run-of g schedule agrees state lanes given events order h =
-    let R : List Event → Type 0 = λ l. IsRun g l in
-    record {
-      played = h.played;
-      scheduled = h.scheduled;
-      listed = h.playing.listed;
-      ordered = h.playing.ordered;
-      run = subst R (sym h.playing.listed) h.playing.run;
-      reached = h.playing.reached ∙ ap (λ l. state_after g l) (sym h.playing.listed);
-      actors = λ actor there. record { last = get_or given actor End; given = h.playing.gave actor there };
-    }
+pub run-of : (g : Geometry) (schedule : Schedule) (agrees : Agrees) (state : State) (lanes : PortLanes) (given : List Turn) (kept : List Played → Type 0) (turns : ℕ)
+    → IsPlayedOut g schedule agrees state lanes given kept turns → IsWatchedRun g schedule agrees state kept turns
+run-of g schedule agrees state lanes given kept turns h = record {
+  events = events_of h.played;
+  order = order_of h.played;
+  run = record {
+    played = h.played;
+    scheduled = h.scheduled;
+    listed = refl;
+    ordered = refl;
+    run = h.playing.run;
+    reached = h.playing.reached;
+    actors = λ actor there. record { last = get_or given actor End; given = h.playing.gave actor there };
+  };
+  told = h.playing.told;
+  many = h.many;
+}
 
 -- ---- the same, over what a crew was made with
 
@@ -183,33 +184,33 @@ opens-of geometry made g agrees crew same may actor there =
     let P : Geometry → Type 0 = λ k. IsActor k actor in
     may.opens actor (subst P same there)
 
-pub started-of : {K M : Type 0} (geometry : M → Geometry) (made : K → M) (g : Geometry) (actors : ℕ) (agrees : K → Agrees) (crew after : K) (state : State) (lanes : PortLanes) (given : List Turn) (events : List Event) (order : List SimTurn)
+pub started-of : {K M : Type 0} (geometry : M → Geometry) (made : K → M) (g : Geometry) (actors : ℕ) (agrees : K → Agrees) (crew after : K) (state : State) (lanes : PortLanes) (given : List Turn) (kept : List Played → Type 0)
     → geometry (made crew) ≡ g → MayStart g agrees crew → state ≡ start g → lanes ≡ record { candidates = record { capacity = MOST_CANDIDATES; pages = [] }; pending = record { capacity = page_count g; pages = [] } }
-    → actors ≡ actor_count g → AreGivenBelow (geometry (made crew)) (agrees after) given actors → events ≡ [] → order ≡ []
-    → IsPlaying g (agrees after) state lanes given events order []
-started-of geometry made g actors agrees crew after state lanes given events order same may is lanes-are many h no-events no-order =
+    → actors ≡ actor_count g → AreGivenBelow (geometry (made crew)) (agrees after) given actors → kept []
+    → IsPlaying g (agrees after) state lanes given kept []
+started-of geometry made g actors agrees crew after state lanes given kept same may is lanes-are many h nothing =
     let P : Geometry → Type 0 = λ k. AreGivenBelow k (agrees after) given actors in
     let Q : ℕ → Type 0 = λ n. AreGivenBelow g (agrees after) given n in
-    playing-first g agrees crew after state lanes given events order may is lanes-are (subst Q many (subst P same h)) no-events no-order
+    playing-first g agrees crew after state lanes given kept may is lanes-are (subst Q many (subst P same h)) nothing
 
-pub run-at : (g machine : Geometry) (schedule : Schedule) (agrees : Agrees) (state : State) (lanes : PortLanes) (given : List Turn) (events : List Event) (order : List SimTurn)
-    → machine ≡ g → IsPlayedOut machine schedule agrees state lanes given events order → IsRunOf g schedule agrees state events order
-run-at g machine schedule agrees state lanes given events order e h =
-    let P : Geometry → Type 0 = λ k. IsRunOf k schedule agrees state events order in
-    subst P e (run-of machine schedule agrees state lanes given events order h)
+pub run-at : (g machine : Geometry) (schedule : Schedule) (agrees : Agrees) (state : State) (lanes : PortLanes) (given : List Turn) (kept : Geometry → List Played → Type 0) (turns : ℕ)
+    → machine ≡ g → IsPlayedOut machine schedule agrees state lanes given (kept machine) turns → IsWatchedRun g schedule agrees state (kept g) turns
+run-at g machine schedule agrees state lanes given kept turns e h =
+    let P : Geometry → Type 0 = λ k. IsWatchedRun k schedule agrees state (kept k) turns in
+    subst P e (run-of machine schedule agrees state lanes given (kept machine) turns h)
 
 -- a turn of a schedule, by what the picker, the turn and the note promise
-pub turn-made : {M : Type 0} (geometry : M → Geometry) (made now : M) (schedule : Schedule) (agrees agrees' : Agrees) (state after : State) (lanes lanes' : PortLanes) (given given' : List Turn) (events events' : List Event) (order order' : List SimTurn) (picker picker' : Standing) (n actor : ℕ) (p : Played)
-    → now ≡ made → IsAtTurn (geometry made) schedule agrees state lanes given events order picker n → n < most_turns schedule
+pub turn-made : {M : Type 0} (geometry : M → Geometry) (made now : M) (schedule : Schedule) (agrees agrees' : Agrees) (state after : State) (lanes lanes' : PortLanes) (given given' : List Turn) (kept kept' : Geometry → List Played → Type 0) (picker picker' : Standing) (n actor : ℕ) (p : Played)
+    → now ≡ made → IsAtTurn (geometry made) schedule agrees state lanes given (kept (geometry made)) picker n → n < most_turns schedule
     → ((schedule : Schedule) (actors : ℕ) (before : List Played) → StandsAfter schedule actors picker before → IsPick schedule actors before actor)
-    → ((before : List Played) → IsPlaying (geometry now) agrees state lanes given events order before → has_ended before actor ≡ false
-    → IsTurnPlayed (geometry now) actor before p × IsPlaying (geometry now) agrees' after lanes' given' events' order' (before ++ p ∷ []))
+    → ((before : List Played) → IsPlaying (geometry now) agrees state lanes given (kept (geometry now)) before → has_ended before actor ≡ false
+    → IsTurnPlayed (geometry now) actor before p × IsPlaying (geometry now) agrees' after lanes' given' (kept' (geometry now)) (before ++ p ∷ []))
     → ((schedule : Schedule) (actors : ℕ) (before : List Played) → StandsAfter schedule actors picker before → StandsAfter schedule actors picker' (before ++ p ∷ []))
-    → IsAtTurn (geometry made) schedule agrees' after lanes' given' events' order' picker' (n + 1)
-turn-made {M} geometry made now schedule agrees agrees' state after lanes lanes' given given' events events' order order' picker picker' n actor p same h early pick turn note =
+    → IsAtTurn (geometry made) schedule agrees' after lanes' given' (kept' (geometry made)) picker' (n + 1)
+turn-made {M} geometry made now schedule agrees agrees' state after lanes lanes' given given' kept kept' picker picker' n actor p same h early pick turn note =
     let g = geometry made in
     let picked = pick schedule (actor_count g) h.played h.so_far.stands in
-    let B : M → Type 0 = λ k. IsPlaying (geometry k) agrees state lanes given events order h.played in
-    let A : M → Type 0 = λ k. IsTurnPlayed (geometry k) actor h.played p × IsPlaying (geometry k) agrees' after lanes' given' events' order' (h.played ++ p ∷ []) in
-    so-far-more g schedule agrees agrees' state after lanes lanes' given given' events events' order order' picker picker' n actor p h early picked
+    let B : M → Type 0 = λ k. IsPlaying (geometry k) agrees state lanes given (kept (geometry k)) h.played in
+    let A : M → Type 0 = λ k. IsTurnPlayed (geometry k) actor h.played p × IsPlaying (geometry k) agrees' after lanes' given' (kept' (geometry k)) (h.played ++ p ∷ []) in
+    so-far-more g schedule agrees agrees' state after lanes lanes' given given' (kept g) (kept' g) picker picker' n actor p h early picked
     (subst A same (turn h.played (subst B (sym same) h.so_far.playing) picked.active)) (note schedule (actor_count g) h.played h.so_far.stands)

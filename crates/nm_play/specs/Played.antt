@@ -42,16 +42,14 @@ pub record IsLane (g : Geometry) (lanes : PortLanes) (played : List Played) (lan
   pub pages : (held_in lane lanes).pages ≡ pages_in lane played
   pub taken : length (takes_in lane played) ≤ length (puts_in lane played)
 
--- a list of turns, as far as it is played: the events and the order are its own; the events are a run, which led to this
--- state; the lanes hold what it left in them; and each actor agrees with its part and has given the next turn
-pub record IsPlaying (g : Geometry) (agrees : ℕ → Turns → Option Turn → Type 0) (state : State) (lanes : PortLanes) (given : List Turn) (events : List Event) (order : List SimTurn) (played : List Played) : Type 0 where
+-- a list of turns, as far as it is played: what is kept agrees with it; its events are a run, which led to this state; the lanes hold what it left in them; and each actor agrees with its part and has given the next turn
+pub record IsPlaying (g : Geometry) (agrees : ℕ → Turns → Option Turn → Type 0) (state : State) (lanes : PortLanes) (given : List Turn) (kept : List Played → Type 0) (played : List Played) : Type 0 where
   pub run : IsRun g (events_of played)
   pub reached : state ≡ state_after g (events_of played)
   pub held : (lane : Lane) → IsLane g lanes played lane
   pub actors : length given ≡ actor_count g
   pub gave : (actor : ℕ) → IsActor g actor → HasGiven g (agrees actor) played actor (slice_index_or given actor End)
-  pub listed : events ≡ events_of played
-  pub ordered : order ≡ order_of played
+  pub told : kept played
 
 -- an actor at the end of a list of turns: it agrees with exactly its part, and has ended exactly where it gave End since
 pub record HasPlayed (g : Geometry) (agrees : Turns → Option Turn → Type 0) (played : List Played) (actor : ℕ) : Type 0 where
@@ -69,6 +67,25 @@ pub record IsRunOf (g : Geometry) (schedule : Schedule) (agrees : ℕ → Turns 
   pub reached : state ≡ state_after g events
   pub actors : (actor : ℕ) → IsActor g actor → HasPlayed g (agrees actor) played actor
 
+-- a run of a schedule, of which a watcher keeps what it may: some events and some order are those of a run of the schedule, what
+-- is kept agrees with its turns, and there are so many
+pub record IsWatchedRun (g : Geometry) (schedule : Schedule) (agrees : ℕ → Turns → Option Turn → Type 0) (state : State) (kept : List Played → Type 0) (turns : ℕ) : Type 0 where
+  pub events : List Event
+  pub order : List SimTurn
+  pub run : IsRunOf g schedule agrees state events order
+  pub told : kept run.played
+  pub many : turns ≡ length run.played
+
+-- a list with the events of these turns, and one with the turns
+pub record AreKept (events : List Event) (order : List SimTurn) (played : List Played) : Type 0 where
+  pub listed : events ≡ events_of played
+  pub ordered : order ≡ order_of played
+
+-- the machine after these turns
+pub record IsBefore (g : Geometry) (state : State) (played : List Played) : Type 0 where
+  pub run : IsRun g (events_of played)
+  pub reached : state ≡ state_after g (events_of played)
+
 -- the first turns of the actors below a number were given; the others are to hear Start
 pub record AreGivenBelow (g : Geometry) (agrees : ℕ → Turns → Option Turn → Type 0) (given : List Turn) (n : ℕ) : Type 0 where
   pub size : length given ≡ n
@@ -76,9 +93,9 @@ pub record AreGivenBelow (g : Geometry) (agrees : ℕ → Turns → Option Turn 
   pub others : (actor : ℕ) → n ≤ actor → IsActor g actor → agrees actor [] None
 
 -- some turns were played, and an actor has not ended
-pub record HasPlaying (g : Geometry) (agrees : ℕ → Turns → Option Turn → Type 0) (state : State) (lanes : PortLanes) (given : List Turn) (events : List Event) (order : List SimTurn) (actor : ℕ) : Type 0 where
+pub record HasPlaying (g : Geometry) (agrees : ℕ → Turns → Option Turn → Type 0) (state : State) (lanes : PortLanes) (given : List Turn) (kept : List Played → Type 0) (actor : ℕ) : Type 0 where
   pub played : List Played
-  pub playing : IsPlaying g agrees state lanes given events order played
+  pub playing : IsPlaying g agrees state lanes given kept played
   pub exists : IsActor g actor
   pub active : has_ended played actor ≡ false
 
@@ -88,19 +105,20 @@ pub record IsTurnPlayed (g : Geometry) (actor : ℕ) (before : List Played) (p :
   pub lanes : IsLaneAnswer g before p.turn p.heard
 
 -- as far as a schedule is played: the turns are its, and its picker stands after them
-pub record IsSoFar (g : Geometry) (schedule : Schedule) (agrees : ℕ → Turns → Option Turn → Type 0) (state : State) (lanes : PortLanes) (given : List Turn) (events : List Event) (order : List SimTurn) (picker : Standing) (played : List Played) : Type 0 where
-  pub playing : IsPlaying g agrees state lanes given events order played
+pub record IsSoFar (g : Geometry) (schedule : Schedule) (agrees : ℕ → Turns → Option Turn → Type 0) (state : State) (lanes : PortLanes) (given : List Turn) (kept : List Played → Type 0) (picker : Standing) (played : List Played) : Type 0 where
+  pub playing : IsPlaying g agrees state lanes given kept played
   pub turns : AreTurns g schedule [] played
   pub stands : StandsAfter schedule (actor_count g) picker played
 
 -- so many turns of a schedule were played
-pub record IsAtTurn (g : Geometry) (schedule : Schedule) (agrees : ℕ → Turns → Option Turn → Type 0) (state : State) (lanes : PortLanes) (given : List Turn) (events : List Event) (order : List SimTurn) (picker : Standing) (n : ℕ) : Type 0 where
+pub record IsAtTurn (g : Geometry) (schedule : Schedule) (agrees : ℕ → Turns → Option Turn → Type 0) (state : State) (lanes : PortLanes) (given : List Turn) (kept : List Played → Type 0) (picker : Standing) (n : ℕ) : Type 0 where
   pub played : List Played
-  pub so_far : IsSoFar g schedule agrees state lanes given events order picker played
+  pub so_far : IsSoFar g schedule agrees state lanes given kept picker played
   pub many : length played ≡ n
 
 -- the turns of a schedule were played to the end
-pub record IsPlayedOut (g : Geometry) (schedule : Schedule) (agrees : ℕ → Turns → Option Turn → Type 0) (state : State) (lanes : PortLanes) (given : List Turn) (events : List Event) (order : List SimTurn) : Type 0 where
+pub record IsPlayedOut (g : Geometry) (schedule : Schedule) (agrees : ℕ → Turns → Option Turn → Type 0) (state : State) (lanes : PortLanes) (given : List Turn) (kept : List Played → Type 0) (turns : ℕ) : Type 0 where
   pub played : List Played
-  pub playing : IsPlaying g agrees state lanes given events order played
+  pub many : turns ≡ length played
+  pub playing : IsPlaying g agrees state lanes given kept played
   pub scheduled : IsScheduled g schedule played

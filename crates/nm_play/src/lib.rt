@@ -4,6 +4,8 @@
 pub mod crew;
 mod play;
 pub mod run;
+pub mod watcher;
 
 pub use crew::{Actors, Crew};
 pub use run::{Run, run_schedule};
+pub use watcher::{Keep, Silent, Watcher};

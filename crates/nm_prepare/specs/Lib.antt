@@ -3,3 +3,4 @@ pub mod Worn
 pub mod Preparing
 pub mod Ready
 pub mod Stages
+pub mod Runs

@@ -23,10 +23,7 @@ use Rattle.nm_event.specs.Fitting.{IsNotOwned, IsNewsOfShadow}
 use Rattle.nm_part.specs.Patterns.{Ends, Follows}
 use Rattle.nm_compose.specs.Acts.{MayAct, IsAct, IsActed}
 use Rattle.nm_compose.specs.Choices.{or_made, IsNewOr, MayBeginOr, IsOr, LeavesOr}
-use Rattle.nm_compose.specs.Composites.{HasFirst}
-use Rattle.nm_compose.specs.Stages.{IsPieceAt}
 use Rattle.nm_compose.specs.declared.act.Act.{Act}
-use Rattle.nm_compose.specs.declared.composite.Composite.{Composite}
 use Rattle.nm_compose.specs.declared.or.Or.{Or}
 use Rattle.nm_compose.specs.declared.or.Or.TheVariants.{This, Other}
 use Rattle.nm_pool.specs.Pool.{IsPool}
@@ -38,9 +35,9 @@ use Rattle.nm_pool.specs.declared.task.PoolTask.{PoolTask}
 use Rattle.nm_pool.specs.declared.job.PoolEnd.{PoolEnd}
 use Rattle.nm_vpages.specs.VPages.{vpages_of}
 use Rattle.nm_mappings.specs.Visits.{IsVisits, MayVisit, IsVisited, looks_made, arms_made}
-use Rattle.nm_mappings.specs.Visiting.{visit_place, visit_left, visit_stages}
 use Rattle.nm_mappings.specs.declared.visits.VisitsMade.{VisitsMade}
-use Rattle.nm_mappings.specs.declared.visits.VisitPlan.{VisitPlan}
+use Rattle.nm_mappings.specs.declared.run.Visits.{Visits}
+use Rattle.nm_mappings.specs.Runs.{visits_made, IsNewVisitsRun}
 use Rattle.nm_copying.specs.Copying.{told}
 use Rattle.nm_prepare.specs.declared.prepare.PrepareMade.{PrepareMade}
 use Rattle.nm_prepare.specs.declared.prepare.Early.TheVariants.{NoFrame, Gone, Worn}
@@ -71,16 +68,13 @@ PieceLeaves = LeavesOr (λ action g view reply left. IsActed g view action reply
 
 -- the data of a piece, and that it has given no action
 abbrev pub Piece : Type 0
-Piece = Or Act (Or (Composite VisitPlan Act) PoolTask)
+Piece = Or Act (Or Visits PoolTask)
 
 abbrev pub piece_made : Piece → PieceMade
-piece_made = or_made (λ a. a.action) (or_made (λ c. c.plan.made) made_of)
-
-abbrev pub IsNewVisitsPart : Composite VisitPlan Act → Type 0
-IsNewVisitsPart c = HasFirst (λ (a : Act). a.action) (λ a. Unit {0}) (λ action g view. MayAct g view action) IsAct (IsPieceAt visit_stages c.plan.made (visit_place c.plan)) (visit_left c.plan.made (visit_place c.plan)) MayVisit IsVisits c.plan.made c.piece
+piece_made = or_made (λ a. a.action) (or_made visits_made made_of)
 
 abbrev pub IsNewPiece : Piece → Type 0
-IsNewPiece = IsNewOr (λ a. Unit {0}) (IsNewOr IsNewVisitsPart IsNewPool)
+IsNewPiece = IsNewOr (λ a. Unit {0}) (IsNewOr IsNewVisitsRun IsNewPool)
 
 -- the word that the reply carries with which a piece ended (0 where it carries none, of which nothing is claimed)
 abbrev pub told_in : PieceEnd → ℕ

@@ -3,7 +3,9 @@
 #![tactic(auto)]
 
 pub mod prepare;
+pub mod run;
 pub mod worn;
 
 pub use prepare::{Early, Prepare, PrepareMade, PreparePiece, Prepared};
+pub use run::PrepareRun;
 pub use worn::is_worn;

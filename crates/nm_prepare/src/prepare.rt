@@ -16,7 +16,7 @@ ghost use Rattle.nm_prepare.specs.Stages.{prepare_piece, piece_made, IsNewPiece,
 use crate::worn::is_worn;
 use nm_base::Geometry;
 use nm_base::shadow_word::shadow_frame;
-use nm_compose::{Act, Composite, Next, Or, Plan};
+use nm_compose::{Act, Next, Or, Plan};
 use nm_event::{Action, Cell, Reply, Spent};
 use nm_mappings::{VisitPlan, Visits};
 use nm_policy::Watermarks;
@@ -315,7 +315,7 @@ fn visits(plan: VisitPlan) -> PreparePiece
     ensures made { piece_made result ≡ Or.Other (Or.This plan.made) }
     ensures new { IsNewPiece result }
 {
-    Or::Other(Or::This(Composite::new(plan)))
+    Or::Other(Or::This(Visits::new(plan)))
 }
 
 /// The piece that runs a task on the free frames.

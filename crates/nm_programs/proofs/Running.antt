@@ -28,7 +28,7 @@ use Rattle.nm_report.specs.Texts.{AllFit}
 use Rattle.nm_report.proofs.Pieces.{AllFit-made}
 use Rattle.nm_schedule.specs.declared.turn.Played.{Played}
 use Rattle.nm_schedule.specs.Played.{turns_by, has_ended, events_of}
-use Rattle.nm_crew.specs.Crewed.{IsAgreed, IsCrewRun, tally_of, counts_at, crew_tallies}
+use Rattle.nm_crew.specs.Crewed.{IsAgreed, IsCrewRun, IsWatchedCrewRun, tally_of, counts_at, crew_tallies}
 use Rattle.nm_crew.proofs.Accesses.{accesses-turns}
 use Rattle.nm_crew.proofs.Tallies.{tallies-many, counts-cpu, counts-migrator, counts-reclaimer}
 use Rattle.nm_cpu_fault.specs.ProcessorFaults.{processor_faults}
@@ -38,7 +38,7 @@ use Rattle.nm_cpu_counts.proofs.Counting.{processor-counts}
 use Rattle.nm_programs.specs.Cpus.{program_of, IsCpuMade}
 use Rattle.nm_programs.proofs.Playing.{cpu-agreed, cpu-left}
 use Rattle.nm_programs.specs.Plain.{SimRun}
-use Rattle.nm_programs.specs.Runs.{results_of, IsLeftByCpu, IsCpuRun, IsRunWith}
+use Rattle.nm_programs.specs.Runs.{results_of, IsLeftByCpu, IsCpuRun, IsRunWith, IsWatchedRunWith}
 
 -- a processor's part, what it counted, and that its accesses follow its program
 pub record IsCpuDone (script : Script) (cpu : ℕ) (turns : Turns) (ended : Bool) (results : List LineResult) (counts : Tally) : Type 0 where
@@ -126,6 +126,25 @@ run-of-script cpu_agrees migrator_agrees reclaimer_agrees migrator_part reclaime
       };
     }
 
+-- the run of a script that was watched
+pub watched-of-script : {C : Type 0} (cpu_agrees : C → Turns → Option Turn → Type 0) (migrator_agrees reclaimer_agrees : Turns → Option Turn → Type 0) (migrator_part reclaimer_part : Turns → Bool → Tally → Type 0) (script : Script) (kept : List Played → Type 0) (results : List (List LineResult)) (end : EndWords) (tally : Tally) (turns : ℕ) (cpus : List C) (given : C → List LineResult) (counted : C → Tally) (migrator reclaimer : Tally)
+    → IsScript script
+    → IsWatchedCrewRun cpu_agrees migrator_agrees reclaimer_agrees script.geometry script.schedule cpus kept turns end
+    → results ≡ map given cpus → tally ≡ tally_of (crew_tallies (map counted cpus) migrator reclaimer)
+    → ((cpu : ℕ) (d : C) (turns : Turns) (ended : Bool) → cpu < length cpus → IsAgreed (cpu_agrees (get_or cpus cpu d)) turns ended → IsCpuDone script cpu turns ended (given (get_or cpus cpu d)) (counted (get_or cpus cpu d)))
+    → ((turns : Turns) (ended : Bool) → IsAgreed migrator_agrees turns ended → migrator_part turns ended migrator)
+    → ((turns : Turns) (ended : Bool) → IsAgreed reclaimer_agrees turns ended → reclaimer_part turns ended reclaimer)
+    → IsWatchedRunWith migrator_part reclaimer_part script kept results end tally turns
+unfolding run-of-script
+watched-of-script cpu_agrees migrator_agrees reclaimer_agrees migrator_part reclaimer_part script kept results end tally turns cpus given counted migrator reclaimer is crew results-are tally-is cpu-done migrator-part reclaimer-part =
+    let run : SimRun = record { events = crew.events; order = crew.order; results = results; end = end; tally = tally; turns = turns } in
+    record {
+      events = crew.events;
+      order = crew.order;
+      run = run-of-script cpu_agrees migrator_agrees reclaimer_agrees migrator_part reclaimer_part script run cpus given counted migrator reclaimer is crew.run results-are tally-is cpu-done migrator-part reclaimer-part;
+      told = crew.told;
+    }
+
 -- a processor that has played
 pub cpu-done : {F : Type 0} (made_of : F → FaultBegun) (awaits_of : F → Geometry → View → Own → Action → Type 0) (script : Script) (cpu : ℕ) (c : Processor F) (turns : Turns) (ended : Bool)
     → IsCpuMade script cpu c.made → IsAgreed (FollowsCpu processor_faults made_of awaits_of c) turns ended
@@ -151,10 +170,23 @@ run-with migrator_part migrator_part' reclaimer_part reclaimer_part' script run 
   printable = h.printable;
 }
 
--- a run of a crew on an equal machine, by an equal schedule
-pub crew-moved : {C : Type 0} (cpu_agrees : C → Turns → Option Turn → Type 0) (migrator_agrees reclaimer_agrees : Turns → Option Turn → Type 0) (g g' : Geometry) (schedule schedule' : Schedule) (cpus : List C) (events : List Event) (order : List SimTurn) (turns : ℕ) (end : EndWords)
-    → g ≡ g' → schedule ≡ schedule' → IsCrewRun cpu_agrees migrator_agrees reclaimer_agrees g schedule cpus events order turns end → IsCrewRun cpu_agrees migrator_agrees reclaimer_agrees g' schedule' cpus events order turns end
-crew-moved cpu_agrees migrator_agrees reclaimer_agrees g g' schedule schedule' cpus events order turns end machine same h =
-    let Machine : Geometry → Type 0 = λ k. IsCrewRun cpu_agrees migrator_agrees reclaimer_agrees k schedule' cpus events order turns end in
-    let By : Schedule → Type 0 = λ s. IsCrewRun cpu_agrees migrator_agrees reclaimer_agrees g s cpus events order turns end in
+-- the same of a run that was watched
+pub watched-with : (migrator_part migrator_part' reclaimer_part reclaimer_part' : Turns → Bool → Tally → Type 0) (script : Script) (kept : List Played → Type 0) (results : List (List LineResult)) (end : EndWords) (tally : Tally) (turns : ℕ)
+    → ((turns : Turns) (ended : Bool) (counts : Tally) → migrator_part turns ended counts → migrator_part' turns ended counts)
+    → ((turns : Turns) (ended : Bool) (counts : Tally) → reclaimer_part turns ended counts → reclaimer_part' turns ended counts)
+    → IsWatchedRunWith migrator_part reclaimer_part script kept results end tally turns → IsWatchedRunWith migrator_part' reclaimer_part' script kept results end tally turns
+unfolding run-with
+watched-with migrator_part migrator_part' reclaimer_part reclaimer_part' script kept results end tally turns m r h = record {
+  events = h.events;
+  order = h.order;
+  run = run-with migrator_part migrator_part' reclaimer_part reclaimer_part' script _ m r h.run;
+  told = h.told;
+}
+
+-- a watched run of a crew on an equal machine, by an equal schedule
+pub watched-moved : {C : Type 0} (cpu_agrees : C → Turns → Option Turn → Type 0) (migrator_agrees reclaimer_agrees : Turns → Option Turn → Type 0) (g g' : Geometry) (schedule schedule' : Schedule) (cpus : List C) (kept : Geometry → List Played → Type 0) (turns : ℕ) (end : EndWords)
+    → g ≡ g' → schedule ≡ schedule' → IsWatchedCrewRun cpu_agrees migrator_agrees reclaimer_agrees g schedule cpus (kept g) turns end → IsWatchedCrewRun cpu_agrees migrator_agrees reclaimer_agrees g' schedule' cpus (kept g') turns end
+watched-moved cpu_agrees migrator_agrees reclaimer_agrees g g' schedule schedule' cpus kept turns end machine same h =
+    let Machine : Geometry → Type 0 = λ k. IsWatchedCrewRun cpu_agrees migrator_agrees reclaimer_agrees k schedule' cpus (kept k) turns end in
+    let By : Schedule → Type 0 = λ s. IsWatchedCrewRun cpu_agrees migrator_agrees reclaimer_agrees g s cpus (kept g) turns end in
     subst Machine machine (subst By same h)

@@ -1,8 +1,10 @@
 -- The run of a script, and the report of it.
 use Rattle.std.specs.Prelude.{◌≡◌, ℕ, ◌+◌, ◌<◌, Bool, true, false, List, [], length, slice_index_or, Option}
 use Rattle.nm_flat.specs.Memory.{own_part_of}
+use Rattle.nm_action.specs.declared.action.Event.{Event}
 use Rattle.nm_action.specs.declared.tally.Tally.{Tally}
 use Rattle.nm_action.specs.declared.turn.Turn.{Turn}
+use Rattle.nm_core.specs.EndWords.{EndWords}
 use Rattle.nm_core.specs.State.{actor_count}
 use Rattle.nm_core.specs.Runs.{accesses_of}
 use Rattle.nm_view.specs.Views.{View}
@@ -13,6 +15,7 @@ use Rattle.nm_report.specs.Plain.{Report}
 use Rattle.nm_report.specs.Follows.{FollowsProgram}
 use Rattle.nm_report.specs.Texts.{IsPrintable}
 use Rattle.nm_schedule.specs.declared.turn.Played.{Played}
+use Rattle.nm_schedule.specs.declared.turn.SimTurn.{SimTurn}
 use Rattle.nm_schedule.specs.Played.{turns_by, has_ended}
 use Rattle.nm_crew.specs.Crewed.{IsAgreed, tally_of, counts_at}
 use Rattle.nm_crew.specs.Simulated.{IsSimulated}
@@ -65,3 +68,11 @@ pub record IsRunWith (migrator_part reclaimer_part : Turns → Bool → Tally �
   pub reclaimer : reclaimer_part (turns_by (script.geometry.cpus + 1) played) (has_ended played (script.geometry.cpus + 1)) (counts_at tallies (script.geometry.cpus + 1))
   pub tally : run.tally ≡ tally_of tallies
   pub printable : IsPrintable (report_of script run)
+
+-- a run of a script, of which a watcher keeps what it may: with some events in some order these results, these words at the end,
+-- these counts and so many turns are a run, and what is kept agrees with its turns
+pub record IsWatchedRunWith (migrator_part reclaimer_part : Turns → Bool → Tally → Type 0) (script : Script) (kept : List Played → Type 0) (results : List (List LineResult)) (end : EndWords) (tally : Tally) (turns : ℕ) : Type 0 where
+  pub events : List Event
+  pub order : List SimTurn
+  pub run : IsRunWith migrator_part reclaimer_part script (record { events = events; order = order; results = results; end = end; tally = tally; turns = turns })
+  pub told : kept run.played

@@ -5,4 +5,4 @@ pub mod cpus;
 pub mod run;
 
 pub use cpus::{cpus_of, results_of};
-pub use run::{SimRun, run_programs};
+pub use run::{SimRun, WatchedRun, run_programs};

@@ -7,15 +7,15 @@ use nm_actor::Actor;
 use nm_base::Geometry;
 use nm_migrator::MigratorActor;
 
-/// A migrator that is resumed once, when it gives End: its End is the second one.
+/// A migrator that is resumed so often, each time when it gives End: its End is the one after that.
 #[derive(Drop)]
-pub(crate) struct ResumedOnce<'a> {
+pub(crate) struct Resumed<'a> {
     pub(crate) migrator: MigratorActor<'a>,
-    /// Whether it was resumed.
-    pub(crate) again: bool,
+    /// How often it is still to be resumed.
+    pub(crate) left: u32,
 }
 
-impl<'a> Actor for ResumedOnce<'a> {
+impl<'a> Actor for Resumed<'a> {
     type Made = Geometry;
 
     ghost use Rattle.std.specs.Prelude.{[], refl};
@@ -36,10 +36,10 @@ impl<'a> Actor for ResumedOnce<'a> {
     fn next(&mut self, heard: Heard) -> Turn {
         let turn = self.migrator.next(heard);
         let Turn::End = turn else { return turn };
-        if self.again {
+        if self.left == 0 {
             return turn;
         }
-        self.again = true;
+        self.left -= 1;
         self.migrator.resume();
         self.migrator.next(Heard::Start)
     }

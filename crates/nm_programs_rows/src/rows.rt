@@ -3,11 +3,12 @@
 ghost use Rattle.std.specs.Prelude.{◌≡◌};
 ghost use Rattle.nm_schedule_rows.specs.Listed.{IsSmall};
 
-use crate::resumed::ResumedOnce;
+use crate::resumed::Resumed;
 use nm_action::{Action, Turn};
 use nm_actor::Actor;
 use nm_base::Geometry;
 use nm_migrator::MigratorActor;
+use nm_play::Silent;
 use nm_programs::run_programs;
 use nm_report::{Report, print};
 use nm_schedule_rows::listed::Listed;
@@ -42,7 +43,7 @@ fn reported(rt: &impl Abort, alloc: Global, text: &[u8]) -> Result<Vec<u8>, Fail
     assert!(rt; g.vpages.len() == 1);
     let migrator = waiting(g, 1);
     let reclaimer = waiting(g, 2);
-    let run = run_programs(alloc, &script, migrator, reclaimer)?;
+    let run = run_programs(alloc, &script, migrator, reclaimer, Silent)?;
     let report = Report {
         script: &script,
         results: &run.results,
@@ -52,19 +53,19 @@ fn reported(rt: &impl Abort, alloc: Global, text: &[u8]) -> Result<Vec<u8>, Fail
     Ok(print(alloc, &report)?)
 }
 
-/// The same, with the migrator itself, which is resumed once after its End.
+/// The same, with the migrator itself, which is resumed after its End, and after the second one again.
 fn resumed(rt: &impl Abort, alloc: Global, text: &[u8]) -> Result<Vec<u8>, Fail> {
     assert!(rt; text.len() < 1000000);
     let script = parse(alloc, text)?;
     let g = &script.geometry;
     assert!(rt; g.cpus == 1);
     assert!(rt; g.vpages.len() == 1);
-    let migrator = ResumedOnce {
+    let migrator = Resumed {
         migrator: MigratorActor::new(alloc, g, script.retry)?,
-        again: false,
+        left: 2,
     };
     let reclaimer = waiting(g, 2);
-    let run = run_programs(alloc, &script, migrator, reclaimer)?;
+    let run = run_programs(alloc, &script, migrator, reclaimer, Silent)?;
     let report = Report {
         script: &script,
         results: &run.results,

@@ -1,9 +1,9 @@
 -- What a queue and its passes tell, and what each call changes.
-use Rattle.std.specs.Prelude.{◌≡◌, ℕ, suc, ◌==◌, ◌<◌, ◌≤◌, if◌then◌else◌, nat_lt, Bool, true, List, [], ◌∷◌, ◌++◌, length, map, slice_get, count_by, Option, Some, None, Result, Ok, Err}
+use Rattle.std.specs.Prelude.{◌≡◌, ℕ, suc, ◌==◌, ◌<◌, if◌then◌else◌, nat_lt, Bool, true, List, [], ◌∷◌, ◌++◌, length, map, slice_get, count_by, Option, Some, None, Result, Ok, Err}
 use Rattle.std.specs.List.{All}
 use Rattle.std.specs.Option.{option_map}
 use Rattle.atomic_table.specs.Seated.{TableId}
-use Rattle.nm_io.specs.Count.{Rose}
+use Rattle.nm_io.specs.Count.{next_count}
 use Rattle.nm_action.specs.declared.turn.Full.{Full}
 use Rattle.nm_actor.specs.Lanes.{LaneMove, put, took}
 use Rattle.nm_queue.specs.Histories.{History, moves_by, IsFifo, pages_left}
@@ -105,7 +105,7 @@ pub record TookThen (page : ℕ) (old new : Known) : Type 0 where
   pub first : slice_get (pages_at old between) 0 ≡ Some page
   pub is : new ≡ with_move (took page) between old
 
--- at a moment the queue held so many pages
+-- after some history that goes on so the queue holds so many pages; where the pass is alone that is the history itself
 pub record HeldThen (n : ℕ) (k : Known) : Type 0 where
   pub between : History
   pub moment : IsMoment k between
@@ -116,12 +116,10 @@ pub record IsPushed (capacity page : ℕ) (old new : PassState) : Type 0 where
   pub known : PutThen capacity page old.known new.known
   pub is : new ≡ record old { known = new.known }
 
--- a push found the queue full at a moment of the call
+-- a push was refused: after some history the queue is full, the count of these is one more, and nothing else has changed
 pub record IsPushRefused (capacity : ℕ) (old new : PassState) : Type 0 where
   pub full : HeldThen capacity old.known
-  pub rose : Rose old.fulls new.fulls
-  pub kept : old.fulls ≤ new.fulls
-  pub is : new ≡ record old { fulls = new.fulls }
+  pub is : new ≡ record old { fulls = next_count old.fulls }
 
 -- what a push answers
 abbrev pub IsPushAnswer : ℕ → ℕ → PassState → PassState → Result Unit Full → Type 0
@@ -133,12 +131,10 @@ pub record IsPopped (page : ℕ) (old new : PassState) : Type 0 where
   pub known : TookThen page old.known new.known
   pub is : new ≡ record old { known = new.known }
 
--- a pop found the queue empty at a moment of the call
+-- a pop was refused: after some history the queue is empty, the count of these is one more, and nothing else has changed
 pub record IsPopRefused (old new : PassState) : Type 0 where
   pub empty : HeldThen 0 old.known
-  pub rose : Rose old.empties new.empties
-  pub kept : old.empties ≤ new.empties
-  pub is : new ≡ record old { empties = new.empties }
+  pub is : new ≡ record old { empties = next_count old.empties }
 
 -- what a pop answers
 abbrev pub IsPopAnswer : PassState → PassState → Option ℕ → Type 0

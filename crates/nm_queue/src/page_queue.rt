@@ -81,9 +81,9 @@ impl PageQueue {
         }
     }
 
-    /// Puts a page into the queue. `Full` comes only where the queue was full at a moment of the call, and raises the pass's
-    /// count of these; where every other pass was joined into this one, it comes exactly where the queue is full. It takes no
-    /// memory, and may wait.
+    /// Puts a page into the queue. `Full` raises the pass's count of these by one; a count of 2^64 - 1 stays. It comes only where
+    /// the queue is full after a history that goes on from what the pass had seen; where every other pass was joined into this
+    /// one, it comes exactly where the queue is full. It takes no memory, and may wait.
     pub fn push<T: Wait>(&self, rt: &T, pass: &mut QueuePass, page: u32) -> Result<(), Full>
         requires { pass.old.queue ≡ self.now.name }
         ensures { IsPushAnswer self.now.capacity page pass.old pass.new result }
@@ -97,9 +97,9 @@ impl PageQueue {
         }
     }
 
-    /// Takes the first page of the queue. `None` comes only where the queue was empty at a moment of the call, and raises the
-    /// pass's count of these; where every other pass was joined into this one, it comes exactly where the queue is empty. It
-    /// takes no memory, and may wait.
+    /// Takes the first page of the queue. `None` raises the pass's count of these by one; a count of 2^64 - 1 stays. It comes only
+    /// where the queue is empty after a history that goes on from what the pass had seen; where every other pass was joined into
+    /// this one, it comes exactly where the queue is empty. It takes no memory, and may wait.
     pub fn pop<T: Wait>(&self, rt: &T, pass: &mut QueuePass) -> Option<u32>
         requires { pass.old.queue ≡ self.now.name }
         ensures { IsPopAnswer pass.old pass.new result }

@@ -1,3 +1,4 @@
 pub mod Ending
 pub mod Acting
 pub mod Migrators
+pub mod Keeping

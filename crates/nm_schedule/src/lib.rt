@@ -6,6 +6,6 @@ pub mod limits;
 pub mod picker;
 pub mod turn;
 
-pub use limits::{MOST_CANDIDATES, MOST_ITEM_TURNS};
+pub use limits::{MOST_CANDIDATES, MOST_ITEM_TURNS, bounds_of_a_simulation};
 pub use picker::Picker;
 pub use turn::{Played, SimAct, SimTurn};

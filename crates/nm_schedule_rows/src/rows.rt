@@ -7,7 +7,7 @@ ghost use Rattle.nm_schedule_rows.specs.Listed.{IsSmall, IsAlwaysPermitted, IsLi
 use crate::listed::Listed;
 use nm_action::{Action, ActionKind, Event, Lane, Turn};
 use nm_base::{Geometry, VPage};
-use nm_play::{Actors, run_schedule};
+use nm_play::{Actors, Keep, run_schedule};
 use nm_schedule::{SimAct, SimTurn};
 use nm_script::{PlanItem, PlanItems, Schedule};
 use std::alloc::Global;
@@ -88,8 +88,8 @@ fn run(
         migrator: listed(&g, 1, migrator),
         reclaimer: listed(&g, 2, reclaimer),
     };
-    let run = run_schedule(alloc, &g, schedule, crew)?;
-    Ok(run.order)
+    let run = run_schedule(alloc, &g, schedule, crew, Keep::new(alloc))?;
+    Ok(run.watcher.order)
 }
 
 /// The actors of some turns, in order.

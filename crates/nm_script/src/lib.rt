@@ -13,7 +13,7 @@ pub mod schedule;
 pub mod script;
 
 pub use fault::{ScriptFault, ScriptRefusal};
-pub use limits::{MOST_FRAMES, MOST_TURNS};
+pub use limits::{MOST_FRAMES, MOST_TURNS, bounds_of_a_script};
 pub use parsing::{one_reading, parse};
 pub use printing::print;
 pub use schedule::{PlanItem, PlanItems, Schedule};

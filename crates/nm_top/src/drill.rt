@@ -13,7 +13,7 @@ use crate::status::Status;
 use crate::writing::write_text;
 use nm_io::Sink;
 use nm_report::{Report, summary};
-use nm_sched::simulate;
+use nm_sched::{Silent, simulate_with};
 use nm_script::Script;
 use std::alloc::{AllocError, Global};
 
@@ -40,7 +40,7 @@ fn drill_text(alloc: Global, number: u64, size: u32) -> Result<Vec<u8>, AllocErr
     summary_text(alloc, number, size, &script)
 }
 
-/// The summary of the run of a script that was generated from a number. The lists of the run are given back.
+/// The summary of the run of a script that was generated from a number. Nothing of the run is kept but what the summary tells.
 fn summary_text(
     alloc: Global,
     number: u64,
@@ -52,7 +52,7 @@ fn summary_text(
     ensures { IfOk result (λ text. IsSummary number size text.items) }
 {
     the_facts_hold_of_each_simulation();
-    let run = simulate(alloc, script)?;
+    let run = simulate_with(alloc, script, Silent)?;
     let report = Report {
         script,
         results: &run.results,

@@ -10,7 +10,7 @@ use crate::status::{Status, status_of_read, status_of_text};
 use crate::writing::write_text;
 use nm_io::{Sink, Source, read_all};
 use nm_report::{Report, print};
-use nm_sched::simulate;
+use nm_sched::{Silent, simulate_with};
 use nm_script::{Script, parse};
 use std::alloc::{AllocError, Global};
 
@@ -60,7 +60,7 @@ fn report_text(alloc: Global, script: &Script) -> Result<Vec<u8>, AllocError>
     ensures { IfOk result (λ text. IsReportOf script.now text.items) }
 {
     the_facts_hold_of_each_simulation();
-    let run = simulate(alloc, script)?;
+    let run = simulate_with(alloc, script, Silent)?;
     let report = Report {
         script,
         results: &run.results,

@@ -1,12 +1,14 @@
 //! How a call of the program ended.
 
 ghost use Rattle.std.specs.Prelude.{◌≡◌, Some};
+ghost use Rattle.std.specs.Process.{exit_status};
 ghost use Rattle.nm_top.specs.Status.{exit_number, fault_name, trace_fault_name, status_line, status_of_read, status_of_text, status_of_trace};
 
 use nm_io::ReadRefusal;
 use nm_script::{ScriptFault, ScriptRefusal};
 use nm_trace::{TraceFault, TraceRefusal};
 use std::fmt;
+use std::process::{ExitCode, Termination};
 
 /// How a call ended.
 #[derive(Clone, Copy, Debug, PartialEq, Eq)]
@@ -74,6 +76,19 @@ impl fmt::Display for Status {
                 write!(f, "nomad: trace row {row}: {name}")
             }
         }
+    }
+}
+
+/// A program whose `main` gives a status writes its line to standard error, none for `Done`, and ends with its number.
+impl Termination for Status {
+    fn report<R: Eprint>(self, rt: &R) -> ExitCode
+        ensures { exit_status result ≡ exit_number self }
+    {
+        if self != Status::Done {
+            // The number tells the status too, so nothing is lost where standard error takes no line.
+            let _ = eprintln!(rt; "{self}");
+        }
+        ExitCode::from(self.number())
     }
 }
 

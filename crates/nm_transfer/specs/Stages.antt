@@ -19,10 +19,8 @@ use Rattle.nm_event.specs.After.{owning, spoiled}
 use Rattle.nm_event.specs.Fitting.{IsTableWord}
 use Rattle.nm_compose.specs.Acts.{MayAct, IsAct, IsActed}
 use Rattle.nm_compose.specs.Choices.{or_made, IsNewOr, MayBeginOr, IsOr, LeavesOr}
-use Rattle.nm_compose.specs.Composites.{HasFirst}
-use Rattle.nm_compose.specs.Stages.{Stages, IsPieceAt}
+use Rattle.nm_compose.specs.Stages.{Stages}
 use Rattle.nm_compose.specs.declared.act.Act.{Act}
-use Rattle.nm_compose.specs.declared.composite.Composite.{Composite}
 use Rattle.nm_compose.specs.declared.or.Or.{Or}
 use Rattle.nm_compose.specs.declared.or.Or.TheVariants.{This, Other}
 use Rattle.nm_compose.specs.declared.plan.Next.{Next}
@@ -31,15 +29,16 @@ use Rattle.nm_shoot.specs.declared.shoot.Shoot.{Shoot}
 use Rattle.nm_shoot.specs.Shootdown.{IsShootdown}
 use Rattle.nm_shoot.specs.Flushed.{MayShoot, IsFlushed}
 use Rattle.nm_shoot.specs.Asking.{cpus_of, IsNewShoot}
-use Rattle.nm_copying.specs.declared.copies.Copies.{Copies}
 use Rattle.nm_copying.specs.declared.copies.CopiesMade.{CopiesMade}
 use Rattle.nm_copying.specs.declared.copies.Stage.TheVariants as copying
-use Rattle.nm_copying.specs.Copying.{told, MayCopies, IsCopying, IsCopied, copies_stages, copies_left}
+use Rattle.nm_copying.specs.Copying.{told, MayCopies, IsCopying, IsCopied}
+use Rattle.nm_copying.specs.declared.copy_run.CopiesRun.{CopiesRun}
+use Rattle.nm_copying.specs.Runs.{copies_run_made, IsNewCopiesRun}
 use Rattle.nm_vpages.specs.VPages.{most_vpages, at_or_after, AreBelow}
 use Rattle.nm_mappings.specs.declared.visits.VisitsMade.{VisitsMade}
-use Rattle.nm_mappings.specs.declared.visits.VisitPlan.{VisitPlan}
 use Rattle.nm_mappings.specs.Visits.{IsVisits, MayVisit, IsVisited, raises_made}
-use Rattle.nm_mappings.specs.Visiting.{visit_place as visits_place, visit_left as visits_left, visit_stages}
+use Rattle.nm_mappings.specs.declared.run.Visits.{Visits}
+use Rattle.nm_mappings.specs.Runs.{visits_made, IsNewVisitsRun}
 use Rattle.nm_transfer.specs.declared.transfer.Source.{Source}
 use Rattle.nm_transfer.specs.declared.transfer.Source.TheVariants as sources
 use Rattle.nm_transfer.specs.declared.transfer.Stage.{Stage}
@@ -70,20 +69,14 @@ TransferPieceLeaves = LeavesOr (λ action g view reply left. IsActed g view acti
     (LeavesOr (λ cpus g view number left. IsFlushed g view number left) (λ made g view end left. IsCopied made view left)))
 
 abbrev pub PieceOfTransfer : Type 0
-PieceOfTransfer = Or Act (Or (Composite VisitPlan Act) (Or Shoot (Composite Copies Act)))
+PieceOfTransfer = Or Act (Or Visits (Or Shoot CopiesRun))
 
 -- the data of a piece, and that it has given no action
 abbrev pub transfer_piece_made : PieceOfTransfer → TransferPieceMade
-transfer_piece_made = or_made (λ a. a.action) (or_made (λ c. c.plan.made) (or_made cpus_of (λ c. c.plan.made)))
-
-abbrev pub IsNewRaises : Composite VisitPlan Act → Type 0
-IsNewRaises c = HasFirst (λ (a : Act). a.action) (λ a. Unit {0}) (λ action g view. MayAct g view action) IsAct (IsPieceAt visit_stages c.plan.made (visits_place c.plan)) (visits_left c.plan.made (visits_place c.plan)) MayVisit IsVisits c.plan.made c.piece
-
-abbrev pub IsNewCopiesPart : Composite Copies Act → Type 0
-IsNewCopiesPart c = HasFirst (λ (a : Act). a.action) (λ a. Unit {0}) (λ action g view. MayAct g view action) IsAct (IsPieceAt copies_stages c.plan.made c.plan.stage) (copies_left c.plan.made c.plan.stage) MayCopies IsCopying c.plan.made c.piece
+transfer_piece_made = or_made (λ a. a.action) (or_made visits_made (or_made cpus_of copies_run_made))
 
 abbrev pub IsNewTransferPiece : PieceOfTransfer → Type 0
-IsNewTransferPiece = IsNewOr (λ a. Unit {0}) (IsNewOr IsNewRaises (IsNewOr IsNewShoot IsNewCopiesPart))
+IsNewTransferPiece = IsNewOr (λ a. Unit {0}) (IsNewOr IsNewVisitsRun (IsNewOr IsNewShoot IsNewCopiesRun))
 
 -- the word that the reply carries with which a piece ended (0 where it carries none, of which nothing is claimed)
 abbrev pub transfer_told : TransferPieceEnd → ℕ

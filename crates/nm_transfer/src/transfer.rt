@@ -14,8 +14,8 @@ ghost use Rattle.nm_transfer.specs.Stages.{IsNewTransfer, transfer_piece, transf
 
 use crate::words::TakenWords;
 use nm_base::{Geometry, PageWord, table_word};
-use nm_compose::{Act, Composite, Next, Or, Plan};
-use nm_copying::Copies;
+use nm_compose::{Act, Next, Or, Plan};
+use nm_copying::{Copies, CopiesRun};
 use nm_event::{Action, Reply};
 use nm_mappings::{VisitPlan, Visits};
 use nm_shoot::Shoot;
@@ -85,7 +85,7 @@ pub(crate) enum Stage {
 }
 
 /// A piece of a transfer: an action, visits of virtual pages, a shootdown, or a copy.
-pub type TransferPiece = Or<Act, Or<Visits, Or<Shoot, Composite<Copies, Act>>>>;
+pub type TransferPiece = Or<Act, Or<Visits, Or<Shoot, CopiesRun>>>;
 
 /// Takes the table words of a page out, in ascending order, and raises the virtual pages; shoots their translations down;
 /// copies the page into a frame, or gives up the shadow of its home; sets the new home; and maps the virtual pages to it. The
@@ -285,7 +285,7 @@ fn raises(plan: VisitPlan) -> TransferPiece
     ensures made { transfer_piece_made result ≡ Or.Other (Or.This plan.made) }
     ensures new { IsNewTransferPiece result }
 {
-    Or::Other(Or::This(Composite::new(plan)))
+    Or::Other(Or::This(Visits::new(plan)))
 }
 
 /// The piece that runs a shootdown.
@@ -303,7 +303,7 @@ fn copies(plan: Copies) -> TransferPiece
     ensures made { transfer_piece_made result ≡ Or.Other (Or.Other (Or.Other plan.made)) }
     ensures new { IsNewTransferPiece result }
 {
-    Or::Other(Or::Other(Or::Other(Composite::new(plan))))
+    Or::Other(Or::Other(Or::Other(CopiesRun::new(plan))))
 }
 
 impl Plan<TransferPiece> for Transfer {

@@ -14,16 +14,17 @@ use Rattle.nm_shoot.specs.Flushed.{MayShoot, IsFlushed}
 use Rattle.nm_copying.specs.Copying.{IsCopying, MayCopies, IsCopied}
 use Rattle.nm_copying.specs.declared.copies.CopiesMade.{CopiesMade}
 use Rattle.nm_prepare.specs.Placing.{IsPlanPlaced, RunsPlaced}
-use Rattle.nm_prepare.specs.Preparing.{IsPrepare}
-use Rattle.nm_prepare.specs.Ready.{MayPrepare, IsPrepared}
+use Rattle.nm_prepare.specs.Ready.{MayPrepare}
 use Rattle.nm_prepare.specs.declared.prepare.PrepareMade.{PrepareMade}
 use Rattle.nm_prepare.specs.declared.prepare.Prepared.{Prepared}
 use Rattle.nm_prepare.proofs.Placed.{at-placed, run-placed}
+use Rattle.nm_prepare.specs.Runs.{IsPrepareOf}
 use Rattle.nm_commit.specs.Unmapping.{UnmapsOne, MayUnmapping, IsUnmappedOne}
-use Rattle.nm_commit.specs.Deciding.{IsDeciding, MayDecide, IsDecision}
+use Rattle.nm_commit.specs.Deciding.{MayDecide, IsDecision}
 use Rattle.nm_commit.specs.declared.unmap.UnmapMade.{UnmapMade}
 use Rattle.nm_commit.specs.declared.decide.DecideMade.{DecideMade}
 use Rattle.nm_commit.specs.declared.decide.Decided.{Decided}
+use Rattle.nm_commit.specs.Runs.{IsDecidingOf}
 use Rattle.nm_txn.specs.declared.end.TxnEnd.{TxnEnd}
 use Rattle.nm_txn.specs.declared.txn.Txn.{Txn}
 use Rattle.nm_txn.specs.declared.txn.TxnStage.{TxnStage}
@@ -33,17 +34,11 @@ use Rattle.nm_txn.specs.Stages.{by_prepared, by_flushed, by_copied, by_taken, by
 
 -- The shapes of what is left of the choice.
 
-abbrev PrepareShape : Geometry × PrepareMade → Geometry → Own → Prepared → Type 0
-PrepareShape made g own outcome = IsPrepare made.1 g own outcome
-
 abbrev ShootShape : ℕ → Geometry → Own → ℕ → Type 0
 ShootShape cpus g own number = IsShootdown cpus own number
 
-abbrev DecideShape : Geometry × DecideMade → Geometry → Own → Decided → Type 0
-DecideShape made g own outcome = IsDeciding made.1 g own outcome
-
 abbrev Rest3 : Or UnmapMade (Geometry × DecideMade) → Geometry → Own → Or ℕ Decided → Type 0
-Rest3 = IsOr UnmapsOne DecideShape
+Rest3 = IsOr UnmapsOne IsDecidingOf
 
 abbrev Rest2 : Or CopiesMade (Or UnmapMade (Geometry × DecideMade)) → Geometry → Own → Or (Unit {0}) (Or ℕ Decided) → Type 0
 Rest2 = IsOr IsCopying Rest3
@@ -86,12 +81,12 @@ can-decided made g own (Other (Other (Other (Other end)))) after shown can = can
 
 pub prepare-run : {O : Type 0} (knows : Geometry → View → View → TxnParts → Type 0) (after : Geometry → Prepared → Own → O → Type 0) (made : Geometry × PrepareMade) (g : Geometry) (first now : View)
     → MayPrepare made.0 made.1 g now → knows g first now (This made) → ((end : Prepared) → CanEnd (after g end))
-    → IsPieceRun MayTxnPiece IsTxnPiece knows (λ g. by_prepared (after g)) (Follows (PrepareShape made g) (after g)) (This made) g first now
+    → IsPieceRun MayTxnPiece IsTxnPiece knows (λ g. by_prepared (after g)) (Follows (IsPrepareOf made g) (after g)) (This made) g first now
 prepare-run knows after made g first now may known can = record {
   begin = may;
   known = known;
   can = λ own end shown. can-prepared made g own end (after g) shown can;
-  fits = λ own outcome f. this-follows PrepareShape Rest1 (by_prepared (after g)) made g own outcome f;
+  fits = λ own outcome f. this-follows IsPrepareOf Rest1 (by_prepared (after g)) made g own outcome f;
 }
 
 pub flush-run : {O : Type 0} (knows : Geometry → View → View → TxnParts → Type 0) (after : Geometry → Own → O → Type 0) (cpus : ℕ) (g : Geometry) (first now : View)
@@ -102,7 +97,7 @@ flush-run knows after cpus g first now may known can = record {
   known = known;
   can = λ own end shown. can-flushed cpus g own end (after g) shown can;
   fits = λ own outcome f. this-follows ShootShape Rest2 (λ end. by_flushed (after g) (Other end)) cpus g own outcome
-      (other-follows PrepareShape Rest1 (by_flushed (after g)) (This cpus) g own outcome f);
+      (other-follows IsPrepareOf Rest1 (by_flushed (after g)) (This cpus) g own outcome f);
 }
 
 pub copy-run : {O : Type 0} (knows : Geometry → View → View → TxnParts → Type 0) (after : Geometry → Own → O → Type 0) (made : CopiesMade) (g : Geometry) (first now : View)
@@ -114,7 +109,7 @@ copy-run knows after made g first now may known can = record {
   can = λ own end shown. can-copied made g own end (after g) shown can;
   fits = λ own outcome f. this-follows IsCopying Rest3 (λ end. by_copied (after g) (Other (Other end))) made g own outcome
       (other-follows ShootShape Rest2 (λ end. by_copied (after g) (Other end)) (This made) g own outcome
-      (other-follows PrepareShape Rest1 (by_copied (after g)) (Other (This made)) g own outcome f));
+      (other-follows IsPrepareOf Rest1 (by_copied (after g)) (Other (This made)) g own outcome f));
 }
 
 pub unmap-run : {O : Type 0} (knows : Geometry → View → View → TxnParts → Type 0) (after : Geometry → ℕ → Own → O → Type 0) (made : UnmapMade) (g : Geometry) (first now : View)
@@ -124,23 +119,23 @@ unmap-run knows after made g first now may known can = record {
   begin = may;
   known = known;
   can = λ own end shown. can-taken made g own end (after g) shown can;
-  fits = λ own outcome f. this-follows UnmapsOne DecideShape (λ end. by_taken (after g) (Other (Other (Other end)))) made g own outcome
+  fits = λ own outcome f. this-follows UnmapsOne IsDecidingOf (λ end. by_taken (after g) (Other (Other (Other end)))) made g own outcome
       (other-follows IsCopying Rest3 (λ end. by_taken (after g) (Other (Other end))) (This made) g own outcome
       (other-follows ShootShape Rest2 (λ end. by_taken (after g) (Other end)) (Other (This made)) g own outcome
-      (other-follows PrepareShape Rest1 (by_taken (after g)) (Other (Other (This made))) g own outcome f)));
+      (other-follows IsPrepareOf Rest1 (by_taken (after g)) (Other (Other (This made))) g own outcome f)));
 }
 
 pub decide-run : {O : Type 0} (knows : Geometry → View → View → TxnParts → Type 0) (after : Geometry → Decided → Own → O → Type 0) (made : Geometry × DecideMade) (g : Geometry) (first now : View)
     → MayDecide made.0 made.1 g now → knows g first now (Other (Other (Other (Other made)))) → ((end : Decided) → CanEnd (after g end))
-    → IsPieceRun MayTxnPiece IsTxnPiece knows (λ g. by_decided (after g)) (Follows (DecideShape made g) (after g)) (Other (Other (Other (Other made)))) g first now
+    → IsPieceRun MayTxnPiece IsTxnPiece knows (λ g. by_decided (after g)) (Follows (IsDecidingOf made g) (after g)) (Other (Other (Other (Other made)))) g first now
 decide-run knows after made g first now may known can = record {
   begin = may;
   known = known;
   can = λ own end shown. can-decided made g own end (after g) shown can;
-  fits = λ own outcome f. other-follows UnmapsOne DecideShape (λ end. by_decided (after g) (Other (Other (Other end)))) made g own outcome
+  fits = λ own outcome f. other-follows UnmapsOne IsDecidingOf (λ end. by_decided (after g) (Other (Other (Other end)))) made g own outcome
       (other-follows IsCopying Rest3 (λ end. by_decided (after g) (Other (Other end))) (Other made) g own outcome
       (other-follows ShootShape Rest2 (λ end. by_decided (after g) (Other end)) (Other (Other made)) g own outcome
-      (other-follows PrepareShape Rest1 (by_decided (after g)) (Other (Other (Other made))) g own outcome f)));
+      (other-follows IsPrepareOf Rest1 (by_decided (after g)) (Other (Other (Other made))) g own outcome f)));
 }
 
 -- The steps.

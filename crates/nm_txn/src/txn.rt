@@ -6,11 +6,11 @@ ghost use Rattle.nm_txn.specs.Stages.{txn_piece, txn_word_in, end_in};
 
 use crate::end::TxnEnd;
 use nm_base::Geometry;
-use nm_commit::{Decide, DecideMade, DecidePiece, Decided, UnmapOne};
-use nm_compose::{Act, Composite, Next, Or, Plan};
-use nm_copying::Copies;
+use nm_commit::{Decide, DecideMade, DecideRun, Decided, UnmapOne, UnmapRun};
+use nm_compose::{Next, Or, Plan};
+use nm_copying::{Copies, CopiesRun};
 use nm_event::Spent;
-use nm_prepare::{Prepare, PrepareMade, PreparePiece, Prepared};
+use nm_prepare::{Prepare, PrepareMade, PrepareRun, Prepared};
 use nm_shoot::Shoot;
 
 /// How far a transaction has come.
@@ -34,16 +34,7 @@ pub(crate) enum TxnStage {
 
 /// A piece of a transaction: the steps up to the first flush, a shootdown, the copy of the page, the unmapping, or the
 /// decision.
-pub type TxnPiece<'a> = Or<
-    Composite<Prepare<'a>, PreparePiece>,
-    Or<
-        Shoot,
-        Or<
-            Composite<Copies, Act>,
-            Or<Composite<UnmapOne, Act>, Composite<Decide<'a>, DecidePiece>>,
-        >,
-    >,
->;
+pub type TxnPiece<'a> = Or<PrepareRun<'a>, Or<Shoot, Or<CopiesRun, Or<UnmapRun, DecideRun<'a>>>>>;
 
 /// How a piece of a transaction ends.
 pub type TxnPieceEnd = Or<Prepared, Or<u64, Or<(), Or<u64, Decided>>>>;
@@ -81,15 +72,15 @@ impl<'a> Txn<'a> {
         let PrepareMade { page, vpage, spent } = self.made;
         match stage {
             TxnStage::Idle | TxnStage::Preparing => {
-                Or::This(Composite::new(Prepare::new(g, page, vpage, spent)))
+                Or::This(PrepareRun::new(Prepare::new(g, page, vpage, spent)))
             }
             TxnStage::Flushing { .. } | TxnStage::FlushingAgain { .. } => {
                 Or::Other(Or::This(Shoot::new(g.cpus)))
             }
-            TxnStage::Copying { frame, .. } => Or::Other(Or::Other(Or::This(Composite::new(
+            TxnStage::Copying { frame, .. } => Or::Other(Or::Other(Or::This(CopiesRun::new(
                 Copies::new(g, page, frame),
             )))),
-            TxnStage::Unmapping { .. } => Or::Other(Or::Other(Or::Other(Or::This(Composite::new(
+            TxnStage::Unmapping { .. } => Or::Other(Or::Other(Or::Other(Or::This(UnmapRun::new(
                 UnmapOne::new(page, vpage),
             ))))),
             TxnStage::Deciding { home, frame, word } => {
@@ -100,7 +91,7 @@ impl<'a> Txn<'a> {
                     home,
                     frame,
                 };
-                Or::Other(Or::Other(Or::Other(Or::Other(Composite::new(Decide::new(g, made))))))
+                Or::Other(Or::Other(Or::Other(Or::Other(DecideRun::new(Decide::new(g, made))))))
             }
         }
     }

@@ -55,11 +55,12 @@ impl VPageSet {
     pub fn of_page(g: &Geometry, page: u32) -> VPageSet
         ensures { result ≡ vpages_of g.now page }
     {
+        let _vpages = &g.vpages;
         let mut pages = VPageSet::new();
-        for vpage in 0..g.vpages.len() as u32 {
-            if g.backing(vpage) == Some(page) {
-                pages.push(vpage);
-            }
+        let mut from = 0;
+        while let Some(vpage) = g.next_vpage(page, from) {
+            pages.push(vpage);
+            from = vpage + 1;
         }
         pages
     }

@@ -38,18 +38,25 @@ const READ_ONLY: Option<VPage> = Some(VPage {
     writable: false,
 });
 
+/// The geometry of one processor with pages of four words.
+fn of(alloc: Global, tiers: &[u32], vpages: &[Option<VPage>]) -> Result<Geometry, Fail>
+    ensures { IfOk result IsGeometry }
+{
+    let g = Geometry::new(alloc, 4, tiers, 1, vpages)?;
+    Ok(g)
+}
+
 /// The geometry of a machine.
 fn geometry(alloc: Global, machine: Machine) -> Result<Geometry, Fail>
     ensures { IfOk result IsGeometry }
 {
-    let g = match machine {
-        Machine::Plain => Geometry::new(alloc, 4, &[2, 10], 1, &[PAGE])?,
-        Machine::Aliased => Geometry::new(alloc, 4, &[2, 10], 1, &[PAGE, PAGE])?,
-        Machine::ThreeTiers => Geometry::new(alloc, 4, &[2, 2, 8], 1, &[PAGE])?,
-        Machine::ThreePages => Geometry::new(alloc, 4, &[3, 11], 1, &[PAGE, PAGE_1, PAGE_2])?,
-        Machine::ReadOnly => Geometry::new(alloc, 4, &[4, 8], 1, &[PAGE, READ_ONLY])?,
-    };
-    Ok(g)
+    match machine {
+        Machine::Plain => of(alloc, &[2, 10], &[PAGE]),
+        Machine::Aliased => of(alloc, &[2, 10], &[PAGE, PAGE]),
+        Machine::ThreeTiers => of(alloc, &[2, 2, 8], &[PAGE]),
+        Machine::ThreePages => of(alloc, &[3, 11], &[PAGE, PAGE_1, PAGE_2]),
+        Machine::ReadOnly => of(alloc, &[4, 8], &[PAGE, READ_ONLY]),
+    }
 }
 
 /// The state of a machine in which nothing was done.

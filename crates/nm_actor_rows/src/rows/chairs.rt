@@ -1,7 +1,7 @@
 //! The chair of a machine that has no page, no tier and no processor: a smallest chair.
 
-ghost use Rattle.std.specs.Prelude.{◌≡◌, ◌≤◌, false};
-ghost use Rattle.nm_io.specs.Count.{Rose};
+ghost use Rattle.std.specs.Prelude.{◌≡◌, false};
+ghost use Rattle.nm_io.specs.Count.{next_count};
 
 use nm_actor::{PagePort, Stepper, Tells};
 use nm_event::{Action, Full, Lane, Reply};
@@ -67,8 +67,7 @@ impl Stepper for Alone {
 
 /// Counts once more; the greatest count stays.
 fn rise(count: &mut u64)
-    ensures rose { Rose count.old count.new }
-    ensures kept { count.old ≤ count.new }
+    ensures { count.new ≡ next_count count.old }
 {
     *count = count.saturating_add(1);
 }

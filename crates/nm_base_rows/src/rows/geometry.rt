@@ -33,7 +33,10 @@ fn reads_a_geometry(rt: HostRuntime) -> Result<(), Fail> {
         &[
             g.next_vpage(1, 0) == Some(0),
             g.next_vpage(1, 1) == Some(2),
+            g.next_vpage(1, 2) == Some(2),
             g.next_vpage(1, 3).is_none(),
+            g.next_vpage(1, u32::MAX).is_none(),
+            g.next_vpage(2, 0).is_none(),
             g.next_vpage(0, 0).is_none(),
         ],
     );

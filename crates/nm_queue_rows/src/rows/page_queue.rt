@@ -59,6 +59,34 @@ fn answers_exactly_and_gives_what_is_left(rt: HostRuntime) -> Result<(), Fail> {
     Ok(())
 }
 
+// The second pass takes what the first one put, and the other way round, and finds the queue empty and full as the first does.
+#[test]
+fn a_later_pass_looks_as_the_first_does(rt: HostRuntime) -> Result<(), Fail> {
+    let (queue, mut first) = PageQueue::new(rt.alloc(), 2)?;
+    let mut second = queue.pass(&rt, &mut first);
+    assert!(rt; play(&rt, &queue, &mut first, &[Push(5)]));
+    assert!(rt;
+        play(
+            &rt,
+            &queue,
+            &mut second,
+            &[Pop(Some(5)), Pop(None), Push(6), Push(7), Full(8)]
+        )
+    );
+    assert!(rt; play(&rt, &queue, &mut first, &[Full(8), Pop(Some(6)), Push(9)]));
+    assert!(rt;
+        play(
+            &rt,
+            &queue,
+            &mut second,
+            &[Full(8), Pop(Some(7)), Pop(Some(9)), Pop(None)]
+        )
+    );
+    queue.join(&rt, &mut first, second);
+    assert!(rt; queue.close(&rt, first).is_empty());
+    Ok(())
+}
+
 #[test]
 fn gives_nothing_where_nothing_is_left(rt: HostRuntime) -> Result<(), Fail> {
     let (queue, pass) = PageQueue::new(rt.alloc(), 4096)?;

@@ -2,8 +2,8 @@ use Rattle.std.proofs.Common.{ap, subst, rules}
 use Rattle.nm_base.specs.Geometry.{IsGeometry}
 use Rattle.nm_play.proofs.Members.{Kind}
 use Rattle.nm_crew.proofs.Ends.{empty-room}
-use Rattle.nm_crew.proofs.Simulating.{machine-of, few-order}
-use Rattle.nm_crew.proofs.Crewing.{opens-all, acts-all, as-many, crew-run}
+use Rattle.nm_crew.proofs.Simulating.{machine-of}
+use Rattle.nm_crew.proofs.Crewing.{opens-all, acts-all, as-many, watched-run}
 use Rattle.nm_crew.proofs.run.run_crew.Goals as goal
 
 pub run_schedule-requires-clause-may : goal.run_schedule-requires-clause-may
@@ -23,13 +23,7 @@ pub end_words-requires : goal.end_words-requires
 end_words-requires g c =
     let is : IsGeometry c.args.g.now = subst IsGeometry c.g.view_is c.g.invariant.geometry in
     let run = c.in_ok-run.ensures.run in
-    empty-room c.args.g.now c.in_ok-run.run'.state.geometry c.in_ok-end.end (machine-of c.args.g.now c.in_ok-run.run'.events.items c.in_ok-run.run'.state is run.run run.reached) c.in_ok-end.ensures
-
-pub overflow_cast-turns : goal.overflow_cast-turns
-overflow_cast-turns g c =
-    let run = c.in_ok-run.ensures.run in
-    let few = few-order c.args.g.now c.args.schedule.now run.played c.in_ok-run.run'.order.items c.requires.schedule run.scheduled run.ordered in
-    search rules
+    empty-room c.args.g.now c.in_ok-run.run'.state.geometry c.in_ok-end.end (machine-of c.args.g.now run.events c.in_ok-run.run'.state is run.run.run run.run.reached) c.in_ok-end.ensures
 
 pub returns-clause-run : goal.returns-clause-run
 returns-clause-run g c =
@@ -38,6 +32,6 @@ returns-clause-run g c =
     let kr : Kind g.row.R.Denot g.row.R-Made.Denot = record { geometry = g.R.Actor.geometry; number = g.R.Actor.number; made = g.R.Actor.made; agrees = g.R.Actor.agrees } in
     let run = c.in_ok-run.run' in
     let is : IsGeometry c.args.g.now = subst IsGeometry c.g.view_is c.g.invariant.geometry in
-    crew-run kc km kr c.args.g.now c.args.schedule.now run.crew.cpus.items run.crew.migrator run.crew.reclaimer run.state run.events.items run.order.items _ _
+    watched-run kc km kr c.args.g.now c.args.schedule.now run.crew.cpus.items run.crew.migrator run.crew.reclaimer run.state (g.W.Watcher.kept run.watcher c.args.g.now) _ _
     (as-many g.C.Actor.made c.args.crew.cpus.items run.crew.cpus.items c.args.g.now.cpus (ap (λ k. k.cpus) c.in_ok-run.ensures.made) c.requires.many)
-    is c.requires.schedule c.in_ok-run.ensures.run (search rules) c.end_words.ensures
+    is c.requires.schedule c.in_ok-run.ensures.run c.end_words.ensures

@@ -1,40 +1,11 @@
-use Rattle.std.proofs.Common.{◌+◌, ℕ, Bool, false, Option, ap, ◌∙◌}
-use Rattle.nm_base.specs.Geometry.{Geometry}
-use Rattle.nm_script.specs.Plain.{Script}
-use Rattle.nm_programs.proofs.Running.{run-with}
-use Rattle.nm_migrator.proofs.Acting.{migrator-acts}
-use Rattle.nm_sched.proofs.Migrators.{migrator-part}
-use Rattle.nm_sched.proofs.Ending.{reclaimer-acts, reclaimer-part}
+use Rattle.std.proofs.Common.{map}
+use Rattle.nm_sched.proofs.Keeping.{kept-run}
 use Rattle.nm_sched.proofs.simulation.simulate.Goals as goal
 
-pub run_programs-requires-clause-migrator : goal.run_programs-requires-clause-migrator
-run_programs-requires-clause-migrator c =
-    let machine = ap (λ s. s.geometry) c.script.view_is in
-    record {
-      machine = ap (λ m. m.0) c.in_ok-migrator.ensures.made ∙ machine;
-      same = ap (λ m. m.0.cpus) c.in_ok-migrator.ensures.made ∙ ap (λ k. k.cpus) machine;
-      new = c.in_ok-migrator.ensures.new;
-    }
-
-pub run_programs-requires-clause-reclaimer : goal.run_programs-requires-clause-reclaimer
-run_programs-requires-clause-reclaimer c =
-    let machine = ap (λ s. s.geometry) c.script.view_is in
-    record {
-      machine = c.in_ok-reclaimer.ensures.geometry ∙ machine;
-      same = ap (λ k. k.cpus + 1) (c.in_ok-reclaimer.ensures.geometry ∙ machine);
-      new = c.in_ok-reclaimer.ensures.new;
-    }
-
-pub run_programs-requires-clause-migrator_acts : goal.run_programs-requires-clause-migrator_acts
-run_programs-requires-clause-migrator_acts c = λ x h. migrator-acts x h
-
-pub run_programs-requires-clause-reclaimer_acts : goal.run_programs-requires-clause-reclaimer_acts
-run_programs-requires-clause-reclaimer_acts c = λ x h. reclaimer-acts _ _ x h
+pub simulate_with-requires-clause-nothing : goal.simulate_with-requires-clause-nothing
+simulate_with-requires-clause-nothing c = record { listed = c.new.ensures.events; ordered = c.new.ensures.order }
 
 pub returns : goal.returns
 returns c =
-    let script = c.args.script.now in
-    let made_of : Script → Geometry × Option ℕ × Bool = λ s. (s.geometry, s.retry, false) in
-    let made = c.in_ok-migrator.ensures.made ∙ ap made_of c.script.view_is in
-    let machine = c.in_ok-reclaimer.ensures.geometry ∙ ap (λ s. s.geometry) c.script.view_is in
-    run-with _ _ _ _ script _ (λ turns ended counts h. migrator-part script _ turns ended counts made h) (λ turns ended counts h. reclaimer-part _ _ script _ turns ended counts machine h) c.in_ok-run.ensures
+    let run = c.in_ok-run.run' in
+    kept-run c.args.script.now run.watcher.events.items run.watcher.order.items (map (λ r. r.items) run.results.items) run.end run.tally run.turns c.in_ok-run.ensures

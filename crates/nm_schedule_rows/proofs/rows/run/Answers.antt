@@ -9,3 +9,6 @@ run_schedule-requires-clause-may g c =
     (record { machine = c.listed.ensures.made.0; same = c.listed.ensures.made.1; listed = c.listed.ensures.fresh })
     (record { machine = c.listed-2.ensures.made.0; same = c.listed-2.ensures.made.1; listed = c.listed-2.ensures.fresh })
     (record { machine = c.listed-3.ensures.made.0; same = c.listed-3.ensures.made.1; listed = c.listed-3.ensures.fresh })
+
+pub run_schedule-requires-clause-nothing : goal.run_schedule-requires-clause-nothing
+run_schedule-requires-clause-nothing g c = record { listed = c.new.ensures.events; ordered = c.new.ensures.order }

@@ -1,9 +1,11 @@
 -- The words, the layout and the first seat of a machine in which nothing was done.
-use Rattle.std.proofs.Common.{◌≡◌, [], length, sym, ap, ◌∙◌, subst}
+use Rattle.std.proofs.Common.{◌≡◌, ◌≤◌, [], length, sym, ap, ◌∙◌, subst}
+use Rattle.std.specs.Vec.{vec_capacity}
 use Rattle.atomic_table.specs.Table as table
 use Rattle.nm_base.specs.Geometry.{IsGeometry}
 use Rattle.nm_words.specs.Words.{HasSizes, opening_words}
 use Rattle.nm_words.specs.Flat.{flat, total_words}
+use Rattle.nm_core.specs.State.{actor_count}
 use Rattle.nm_rule.specs.Knows.{first_knowledge}
 use Rattle.nm_rule.specs.Shows.{Shows}
 use Rattle.nm_rule.proofs.Shared.{begins}
@@ -34,6 +36,8 @@ invariant_of-arena c =
       count = made.0 ∙ size ∙ ap total_words (sym same);
       laid = subst (λ m. IsLayoutOf m c.of-layout.result) (sym same) c.of-layout.ensures;
       sizes = subst (λ m. HasSizes m w) (sym same) c.in_ok-words.ensures.sizes;
+      empty = c.in_ok-room.ensures.empty;
+      room = subst (λ m. actor_count m ≤ vec_capacity c.in_ok-room.room) (sym same) c.in_ok-room.ensures.room;
     }
 
 pub invariant_of-result : goal.invariant_of-result

@@ -3,4 +3,4 @@ use Rattle.nm_migrator.proofs.Again.{begun-again}
 use Rattle.nm_migrator.proofs.migrating.MigratingResumingMigratorPiece.resume.Goals as goal
 
 pub returns-clause-next : goal.returns-clause-next
-returns-clause-next c = begun-again IsNewMigratorWork c.args.self.now c.go.new.self c.go.result c.go.ensures.stage c.go.ensures.made c.go.ensures.new
+returns-clause-next c = begun-again IsNewMigratorWork c.args.self.now c.go.new.self c.once_more-self.result c.go.result c.once_more-self.ensures c.go.ensures.stage c.go.ensures.made c.go.ensures.new

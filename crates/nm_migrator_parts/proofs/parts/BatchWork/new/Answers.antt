@@ -1,6 +1,6 @@
 use Rattle.std.proofs.Common.{sym, subst, ◌∙◌}
-use Rattle.nm_batch_run.specs.declared.run.BatchRun.{BatchRun}
-use Rattle.nm_batch_run.specs.Runs.{IsNewBatchRun}
+use Rattle.nm_batch.specs.declared.run.BatchRun.{BatchRun}
+use Rattle.nm_batch.specs.Runs.{IsNewBatchRun}
 use Rattle.nm_migrator_parts.proofs.parts.BatchWork.new.Goals as goal
 
 pub returns-clause-new : goal.returns-clause-new

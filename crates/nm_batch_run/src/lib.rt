@@ -1,6 +1,0 @@
-//! What runs a batch of transactions, as a part that tells of itself by names.
-#![tactic(auto)]
-
-pub mod run;
-
-pub use run::BatchRun;
