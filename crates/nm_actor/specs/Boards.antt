@@ -1,5 +1,5 @@
 -- What a board tells: who sits, who has stood, and what the chairs of those that have stood told.
-use Rattle.std.specs.Prelude.{◌≡◌, ◌≢◌, ℕ, ◌+◌, ◌==◌, if◌then◌else◌, Bool, true, false, List, [], ◌∷◌, ◌++◌, map, sum_by, count_by, Option, None, Some, IsSomeAnd}
+use Rattle.std.specs.Prelude.{◌≡◌, ◌≢◌, ℕ, ◌+◌, ◌==◌, if◌then◌else◌, Bool, true, false, List, [], ◌∷◌, ◌++◌, map, sum_by, count_by, Option, None, Some, is_some, IsSomeAnd}
 use Rattle.std.specs.List.{range_with_len}
 use Rattle.nm_base.specs.Geometry.{Geometry}
 use Rattle.nm_action.specs.Own.{Own}
@@ -29,11 +29,12 @@ pub record BoardState (N : Type 0) : Type 0 where
 abbrev pub with_entry : {A : Type 0} → ℕ → A → (ℕ → A) → ℕ → A
 with_entry actor entry table a = if a == actor then entry else table a
 
--- a chair is of this board, and its actor has sat and not stood
+-- a chair is of this board, its actor has sat and not stood, and it was given rest exactly if the board gave it
 pub record IsChairOf {N : Type 0} (b : BoardState N) (c : ChairState N) : Type 0 where
   pub name : c.board ≡ b.name
   pub geometry : c.geometry ≡ b.geometry
   pub sits : b.seats c.actor ≡ sitting
+  pub rested : is_some c.others ≡ b.rested
 
 -- a lane of a chair on which nothing was done
 pub record IsOpeningLane (l : LaneState) : Type 0 where

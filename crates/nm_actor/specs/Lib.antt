@@ -4,3 +4,4 @@ pub mod Actors
 pub mod Chairs
 pub mod Boards
 pub mod Drives
+pub mod Alone

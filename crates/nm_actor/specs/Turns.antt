@@ -1,12 +1,12 @@
 -- The answered turns of an actor, and the lists that are read off them.
-use Rattle.std.specs.Prelude.{ℕ, List, [], ◌∷◌, ◌++◌}
+use Rattle.std.specs.Prelude.{◌≡◌, ℕ, List, [], ◌∷◌, ◌++◌}
 use Rattle.nm_base.specs.Geometry.{Geometry}
 use Rattle.nm_action.specs.declared.turn.Lane.{Lane}
 use Rattle.nm_action.specs.declared.turn.Lane.TheVariants.{Candidates, Pending}
 use Rattle.nm_action.specs.declared.turn.Turn.{Turn}
 use Rattle.nm_action.specs.declared.turn.Turn.TheVariants.{Do, Put, Take}
 use Rattle.nm_action.specs.declared.turn.Heard.{Heard}
-use Rattle.nm_action.specs.declared.turn.Heard.TheVariants.{Answer, PutDone, Took}
+use Rattle.nm_action.specs.declared.turn.Heard.TheVariants.{Answer, PutDone, Took, TookNone}
 use Rattle.nm_action.specs.Own.{Own}
 use Rattle.nm_view.specs.Views.{View}
 use Rattle.nm_view.specs.Opening.{opening}
@@ -51,3 +51,10 @@ lane_lists turns = record { candidates = lane_list Candidates turns; pending = l
 -- the actor's view after these turns
 abbrev pub turns_view : Geometry → ℕ → Turns → View
 turns_view g number turns = view_after g (opening g number) (own_list turns)
+
+-- the last that these turns did in a lane was to find it empty: after a take that gave no page nothing was put or taken
+pub record IsDrained (lane : Lane) (turns : Turns) : Type 0 where
+  pub front : Turns
+  pub rest : Turns
+  pub is : turns ≡ front ++ (Take lane, TookNone) ∷ rest
+  pub still : lane_list lane rest ≡ []

@@ -30,16 +30,17 @@ pub trait Board {
         ensures chair { IsOpeningChair (board self.old) actor (Self.Chair.state result) };
 
     /// Tells the last chair what each lane holds: the pages that the lane lists of all chairs put and did not take. From then
-    /// on, until it stands, the chair tells the lane lists of the others. Conditions: the chair is of this board, its actor
-    /// sits, and no other actor does.
+    /// on, until it stands, the chair tells the lane lists of the others. Conditions: `rest` was not called, the chair is of
+    /// this board, its actor sits, and no other actor does.
     fn rest<T: Wait>(&mut self, rt: &T, chair: &mut Self::Chair)
+        requires before { (board self.old).rested ≡ false }
         requires of { IsChairOf (board self.old) (Self.Chair.state chair.old) }
         requires last { IsLast (board self.old) (Self.Chair.state chair.old) }
         ensures board { IsRestedBoard (board self.old) (board self.new) }
         ensures chair { IsRested (board self.old) (Self.Chair.state chair.old) (Self.Chair.state chair.new) };
 
-    /// Takes a chair back, and tells its lists from then on. Condition: the chair is of this board, and its actor has sat
-    /// and not stood.
+    /// Takes a chair back, and tells its lists from then on. Condition: the chair is of this board, its actor has sat and
+    /// not stood, and after `rest` it is the chair that was given it.
     fn stand<T: Wait>(&mut self, rt: &T, chair: Self::Chair)
         requires { IsChairOf (board self.old) (Self.Chair.state chair) }
         ensures { board self.new ≡ with_stood (Self.Chair.state chair) (board self.old) };

@@ -1,4 +1,4 @@
-use Rattle.std.proofs.Common.{◌≡◌, ◌∙◌, ℕ, refl, sym, ap}
+use Rattle.std.proofs.Common.{◌≡◌, ◌∙◌, ℕ, is_some, refl, sym, ap}
 use Rattle.nm_actor.specs.Chairs.{ChairState}
 use Rattle.nm_actor.specs.Boards.{BoardState}
 use Rattle.nm_actor_rows.proofs.Seating.{none_sits}
@@ -9,7 +9,11 @@ rest-requires-clause-of g c = record {
   name = refl;
   geometry = refl;
   sits = rw c.sit-chair.ensures.chair.sitter (ap (λ (b : BoardState ℕ). b.seats 1) c.sit-chair.ensures.board);
+  rested = ap is_some c.sit-chair.ensures.chair.others ∙ sym (ap (λ (b : BoardState ℕ). b.rested) c.sit-chair.ensures.board);
 }
+
+pub rest-requires-clause-before : goal.rest-requires-clause-before
+rest-requires-clause-before g c = ap (λ (b : BoardState ℕ). b.rested) c.sit-chair.ensures.board
 
 pub rest-requires-clause-last : goal.rest-requires-clause-last
 rest-requires-clause-last g c = λ actor other sits.
@@ -22,4 +26,5 @@ stand-requires g c =
       name = refl;
       geometry = refl;
       sits = rw actor (ap (λ (b : BoardState ℕ). b.seats 1) c.rest.ensures.board ∙ ap (λ (b : BoardState ℕ). b.seats 1) c.sit-chair.ensures.board);
+      rested = ap (λ (x : ChairState ℕ). is_some x.others) c.rest.ensures.chair.is ∙ sym (ap (λ (b : BoardState ℕ). b.rested) c.rest.ensures.board);
     }
