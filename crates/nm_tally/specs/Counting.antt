@@ -1,12 +1,12 @@
 -- What is kept of an own list to count its events one by one.
-use Rattle.std.specs.Prelude.{◌≡◌, ℕ, ◌<◌, Bool, false, List, [], ◌∷◌, length, slice_index_or}
+use Rattle.std.specs.Prelude.{◌≡◌, ℕ, ◌<◌, Bool, true, false, List, [], ◌∷◌, length, slice_index_or}
 use Rattle.nm_action.specs.declared.action.Action.{Action}
 use Rattle.nm_action.specs.declared.action.Action.TheVariants.{Lock, Unlock, Mark}
 use Rattle.nm_action.specs.declared.action.Reply.{Reply}
 use Rattle.nm_action.specs.Own.{Own}
 use Rattle.nm_tally.specs.declared.counter.Counter.{Counter}
 use Rattle.nm_tally.specs.declared.counter.Reclaiming.{Reclaiming}
-use Rattle.nm_tally.specs.Counts.{locked_with, is_locked, gives_up, unlocks_after, puts_back, is_given_up, is_unlocked_after, is_put_back, events_tally}
+use Rattle.nm_tally.specs.Counts.{zero_tally, counts_with, locked_with, is_locked, gives_up, unlocks_after, puts_back, is_given_up, is_unlocked_after, is_put_back, events_tally}
 
 -- the events of a list put before these, one by one, so that the last stands first
 abbrev pub backwards : Own → Own → Own
@@ -19,6 +19,11 @@ IsCountable pages (Lock page) = page < pages
 IsCountable pages (Unlock page) = page < pages
 IsCountable pages (Mark page from to) = page < pages
 IsCountable pages action = Unit {0}
+
+-- an action of a kind that counts nothing counts nothing, whatever came before it and whatever the reply
+abbrev pub CountsNothing : Action → Bool → Type 0
+CountsNothing action true = Unit {0}
+CountsNothing action false = (inside back : Bool) (reply : Reply) → counts_with inside back action reply ≡ zero_tally
 
 -- how far a shadow has come that is freed, after one action more
 abbrev pub reclaiming_with : Action → Reclaiming → Reclaiming

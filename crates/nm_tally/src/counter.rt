@@ -5,7 +5,7 @@ ghost use Rattle.nm_action.specs.declared.action.Action.{Action};
 ghost use Rattle.nm_action.specs.Own.{Own};
 ghost use Rattle.nm_base.specs.Geometry.{page_count};
 ghost use Rattle.nm_tally.specs.Counts.{zero_tally, mark_counts, counts_with, is_inside};
-ghost use Rattle.nm_tally.specs.Counting.{IsCountable, CountsEvents, AreFlags, reclaiming_with, backwards};
+ghost use Rattle.nm_tally.specs.Counting.{IsCountable, CountsNothing, CountsEvents, AreFlags, reclaiming_with, backwards};
 
 use nm_action::{Action, Bit, Reply, Tally};
 use nm_base::Geometry;
@@ -61,6 +61,21 @@ fn mark_counts(inside: bool, from: u64, to: u64) -> Tally
         }
     } else {
         none
+    }
+}
+
+/// Whether an action is of a kind that counts anything.
+fn may_count(action: Action) -> bool
+    ensures { CountsNothing action result }
+{
+    match action {
+        Action::Soften { .. }
+        | Action::Grant { .. }
+        | Action::Mark { .. }
+        | Action::CopyStore { .. }
+        | Action::Bump
+        | Action::ReleaseTurn { .. } => true,
+        _ => false,
     }
 }
 
@@ -123,9 +138,12 @@ impl Counter {
         ensures pages { length self.new.locked.items ≡ length self.old.locked.items }
         ensures counted { (own : Own) → CountsEvents self.old own → CountsEvents self.new (own ++ (action, reply) ∷ []) }
     {
-        let inside = self.is_inside(action);
-        let counts = event_counts(inside, self.reclaiming.put_back, action, reply);
-        self.tally = self.tally.plus(counts);
+        // Few events count anything, and a sum of tallies is dear beside a step.
+        if may_count(action) {
+            let inside = self.is_inside(action);
+            let counts = event_counts(inside, self.reclaiming.put_back, action, reply);
+            self.tally = self.tally.plus(counts);
+        }
         self.reclaiming = self.reclaiming.with(action);
         self.keep_lock(action, reply);
     }
