@@ -114,6 +114,11 @@ abbrev pub report_text : Report → List ℕ
 report_text r =
     cpus_text r.script.programs r.results r.script.geometry.cpus ++ tiers_text r.script.geometry r.end.roles ++ pages_text r.script.geometry r.end ++ counts_text r
 
+-- its lines but for the four of the counts
+abbrev pub told_text : Report → List ℕ
+told_text r =
+    cpus_text r.script.programs r.results r.script.geometry.cpus ++ tiers_text r.script.geometry r.end.roles ++ pages_text r.script.geometry r.end ++ settled_text r.end.settled
+
 -- a result is of a kind that the line can have
 abbrev pub IsResultOf : Line → LineResult → Type 0
 IsResultOf (Load v w) (Loaded x) = Unit {0}

@@ -11,7 +11,7 @@ mod totals;
 pub use follows::follows_fits;
 pub use line_result::LineResult;
 pub use nm_core::{EndWords, Role};
-pub use printing::{print, print_cpu};
+pub use printing::{print, print_cpu, print_told};
 pub use report::Report;
 pub use roles::{counts_filters, counts_sum};
 pub use totals::summary;

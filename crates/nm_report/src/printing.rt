@@ -6,7 +6,7 @@ ghost use Rattle.nm_base.specs.Geometry.{frame_count, page_count};
 ghost use Rattle.nm_script.specs.Items.{place_text};
 ghost use Rattle.nm_core.specs.EndWords.{HasEndRoom};
 ghost use Rattle.nm_report.specs.Ends.{NamesInRange, is_free_role, is_mapped_role, is_shadow_role, is_held_role, named_beside};
-ghost use Rattle.nm_report.specs.Texts.{IsPrintable, AllFit, EachFits, report_text, asked_text, given_text, made_text, all_made_text, cpu_text, cpus_text, roles_text, tier_text, tiers_text, shadow_text, home_text, page_text, pages_text, tally_text, faults_text, marks_text, moves_text, work_text, settled_text, counts_text};
+ghost use Rattle.nm_report.specs.Texts.{IsPrintable, AllFit, EachFits, report_text, told_text, asked_text, given_text, made_text, all_made_text, cpu_text, cpus_text, roles_text, tier_text, tiers_text, shadow_text, home_text, page_text, pages_text, tally_text, faults_text, marks_text, moves_text, work_text, settled_text, counts_text};
 
 use crate::line_result::LineResult;
 use crate::report::Report;
@@ -29,6 +29,20 @@ pub fn print(alloc: Global, report: &Report<'_>) -> Result<Vec<u8>, AllocError>
     push_tiers(&mut out, report)?;
     push_pages(&mut out, report)?;
     push_counts(&mut out, report)?;
+    Ok(out)
+}
+
+/// The lines of a report but for the four of its counts. `AllocError` comes where there is no memory for them.
+pub fn print_told(alloc: Global, report: &Report<'_>) -> Result<Vec<u8>, AllocError>
+    requires { IsPrintable report.now }
+    ensures { IfOk result (λ text. text.items ≡ told_text report.now) }
+{
+    let mut out = Vec::new(alloc);
+    push_cpus(&mut out, report)?;
+    push_tiers(&mut out, report)?;
+    push_pages(&mut out, report)?;
+    let end = report.end;
+    push_settled(&mut out, end.settled)?;
     Ok(out)
 }
 
