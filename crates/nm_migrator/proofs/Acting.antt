@@ -12,7 +12,7 @@ use Rattle.nm_routine_part.specs.Parts.{HasMore, IsEmptyAtEnd, IsRoutinePart}
 use Rattle.nm_routine_part.proofs.Parts.{part-of-routine, first-more, part-at-first, empty-at-end}
 use Rattle.nm_migrator_work.specs.Works.{migrator_work_made, IsNewMigratorWork, MayMigratorWork, IsMigratorWork, AwaitsMigratorWork}
 use Rattle.nm_migrator.specs.declared.actor.MigratorActor.{MigratorActor}
-use Rattle.nm_migrator.specs.Ends.{migrator_counts}
+use Rattle.nm_migrator_work.specs.Ends.{migrator_counts}
 use Rattle.nm_migrator.specs.Migrating.{MigratesFrom, IsMigratingBy}
 use Rattle.nm_migrator.specs.Stages.{migrator_kept, migrating_left, IsMigratingAt}
 use Rattle.nm_migrator.specs.Parts.{MigratorWorker, migrator_made, HasMadeWhole, IsMigratorPartBy, AgreesWorker, worker_counted, IsNewMigratorWorker, IsNewMigrator, AgreesMigrator}

@@ -13,8 +13,8 @@ use Rattle.nm_migrator_work.specs.Works.{migrator_work_made, MayMigratorWork, Is
 use Rattle.nm_migrator.specs.declared.migrating.Migrating.{Migrating}
 use Rattle.nm_migrator.specs.declared.migrating.MigratingStage.{MigratingStage}
 use Rattle.nm_migrator.specs.declared.migrating.MigratingStage.TheVariants.{New, TakingCandidate, Judging, Heating, PuttingHot, Cooling, PuttingBack, Spilling, TakingPending, PuttingTwice, Planning, Batching, PuttingAgain, Moving, PuttingMoved, Asking, TakingLast, Unmarking, Over}
-use Rattle.nm_migrator.specs.Ends.{migrator_counts}
-use Rattle.nm_migrator.specs.Planned.{MigratorKept}
+use Rattle.nm_migrator_work.specs.Ends.{migrator_counts}
+use Rattle.nm_migrator_work.specs.Planned.{MigratorKept}
 use Rattle.nm_migrator.specs.Migrating.{MigratorRounds, MigratesFrom, IsMigratingBy}
 use Rattle.nm_migrator.specs.Stages.{migrator_kept, stage_task, migrating_left, IsMigratorKept, KnownAt, IsNewTask, IsMigratingAt}
 use Rattle.nm_migrator.proofs.Ending.{some-from}

@@ -1,5 +1,5 @@
 -- A list of the task of a stage, and of what is left after it, is a list of what comes with that stage.
-use Rattle.nm_migrator.specs.Planned.{MigratorKept}
+use Rattle.nm_migrator_work.specs.Planned.{MigratorKept}
 use Rattle.std.proofs.Common.{ℕ, ◌+◌, Option}
 use Rattle.nm_base.specs.Geometry.{Geometry}
 use Rattle.nm_action.specs.declared.turn.Lane.{Lane}
@@ -14,7 +14,7 @@ use Rattle.nm_migrator_work.specs.Works.{MigratorWorkMade, MigratorWorkEnd, IsMi
 use Rattle.nm_migrator.specs.declared.migrating.Migrating.{Migrating}
 use Rattle.nm_migrator.specs.declared.migrating.MigratingStage.{MigratingStage}
 use Rattle.nm_migrator.specs.declared.migrating.MigratingStage.TheVariants.{New, TakingCandidate, Judging, Heating, PuttingHot, Cooling, PuttingBack, Spilling, TakingPending, PuttingTwice, Planning, Batching, PuttingAgain, Moving, PuttingMoved, Asking, TakingLast, Unmarking, Over}
-use Rattle.nm_migrator.specs.Ends.{full_in, taken_page_in, migrator_counts}
+use Rattle.nm_migrator_work.specs.Ends.{full_in, taken_page_in, migrator_counts}
 use Rattle.nm_migrator.specs.Migrating.{Sequence, Does, Puts, Taken, TakesMapped, AfterCandidate, AfterLast}
 use Rattle.nm_migrator.specs.Stages.{migrator_kept, next_of, stage_task, left_at, comes_at, PutLeft, BackLeft, CandidatesLeft, TakenLeft, AgainLeft, MovesLeft, MoreLeft}
 use Rattle.nm_migrator.proofs.Looping.{sometimes-out, puts-once, takes-once}

@@ -18,8 +18,8 @@ use Rattle.nm_migrator_work.proofs.Listing.{all-ended}
 use Rattle.nm_migrator.specs.declared.migrating.Migrating.{Migrating}
 use Rattle.nm_migrator.specs.declared.migrating.MigratingStage.{MigratingStage}
 use Rattle.nm_migrator.specs.declared.migrating.MigratingStage.TheVariants.{New, TakingCandidate, Judging, Heating, PuttingHot, Cooling, PuttingBack, Spilling, TakingPending, PuttingTwice, Planning, Batching, PuttingAgain, Moving, PuttingMoved, Asking, TakingLast, Unmarking, Over}
-use Rattle.nm_migrator.specs.Ends.{mark_reply_in, looks_in, cooled_in, batch_in, move_in, drawn_in, all_ended_in, work_in, full_in, taken_page_in, migrator_counts}
-use Rattle.nm_migrator.specs.Planned.{MigratorKept, nothing_kept, unaborted, is_among, most_taken, Plan, no_plan, planned, again_of, batched, is_busy_move, kept_drawn}
+use Rattle.nm_migrator_work.specs.Ends.{mark_reply_in, looks_in, cooled_in, batch_in, move_in, drawn_in, all_ended_in, work_in, full_in, taken_page_in, migrator_counts}
+use Rattle.nm_migrator_work.specs.Planned.{MigratorKept, nothing_kept, unaborted, is_among, most_taken, Plan, no_plan, planned, again_of, batched, is_busy_move, kept_drawn}
 use Rattle.nm_migrator.specs.Migrating.{Sequence, Does, Puts, Taken, TakesMappedTry, TakesMapped, Spills, AfterCool, Cools, AfterHeat, Heats, Judges, UnmarkNext, Unmarks, AfterLast, Asks, MoveNext, MovesLocked, PutNext, AfterBatch, Batches, PlanNext, Plans, AfterTakes, PendingTaken, TakesPending, AfterCandidate, MigratorRounds, MigratesFrom, IsMigrating, IsMigratingBy}
 use Rattle.nm_migrator.specs.Stages.{migrator_kept, migrator_plan, next_of, left_at, migrating_left, TakenLeft, MoreLeft}
 use Rattle.nm_migrator.proofs.Looping.{page-put, can-does, can-puts, can-put-left, can-takes, can-taken}

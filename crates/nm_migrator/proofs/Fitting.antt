@@ -12,8 +12,8 @@ use Rattle.nm_worker.specs.Notes.{Notes}
 use Rattle.nm_migrator_work.specs.Works.{made_mark, made_batch}
 use Rattle.nm_migrator.specs.declared.migrating.Migrating.{Migrating}
 use Rattle.nm_migrator.specs.declared.migrating.MigratingStage.TheVariants.{TakingCandidate, Judging, TakingPending, PuttingTwice, Planning, Batching, PuttingAgain, Moving, Asking, TakingLast, Unmarking}
-use Rattle.nm_migrator.specs.Ends.{mark_reply_in, batch_in}
-use Rattle.nm_migrator.specs.Planned.{MigratorKept, Plan, no_plan, is_mapped, is_among, most_taken, is_moved_locked, first_or, planned_by, planned, aborts_with, again_of, batched}
+use Rattle.nm_migrator_work.specs.Ends.{mark_reply_in, batch_in}
+use Rattle.nm_migrator_work.specs.Planned.{MigratorKept, Plan, no_plan, is_mapped, is_among, most_taken, is_moved_locked, first_or, planned_by, planned, aborts_with, again_of, batched}
 use Rattle.nm_migrator.specs.Migrating.{Sequence, Does, Puts, AfterHeat, Unmarks, AfterLast, MovesLocked, AfterBatch, Batches, Plans, TakesPending, AfterCandidate}
 use Rattle.nm_migrator.specs.Stages.{migrator_kept, migrator_plan, next_of, comes_at, CandidateLeft, LastLeft, JudgedLeft, CandidatesLeft, PendingLeft, TakenLeft, TakesLeft, MoreLeft, PageLeft, PlansLeft, PlannedLeft, BatchesLeft, BatchedLeft, AgainLeft, MovesLeft, UnmarksLeft}
 

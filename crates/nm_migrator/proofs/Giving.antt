@@ -1,5 +1,5 @@
 -- The task of a stage is given.
-use Rattle.nm_migrator.specs.Planned.{MigratorKept}
+use Rattle.nm_migrator_work.specs.Planned.{MigratorKept}
 use Rattle.std.proofs.Common.{◌≡◌, ℕ, ◌+◌, ◌≤◌, inl, inr, [], length, refl, sym, ap, subst, arith}
 use Rattle.nm_base.specs.Geometry.{Geometry}
 use Rattle.nm_action.specs.declared.spent.Spent.{Spent}
@@ -15,7 +15,7 @@ use Rattle.nm_migrator_work.proofs.Beginning.{may-mark, may-looks, may-cool, may
 use Rattle.nm_migrator.specs.declared.migrating.Migrating.{Migrating}
 use Rattle.nm_migrator.specs.declared.migrating.MigratingStage.{MigratingStage}
 use Rattle.nm_migrator.specs.declared.migrating.MigratingStage.TheVariants.{New, TakingCandidate, Judging, Heating, PuttingHot, Cooling, PuttingBack, Spilling, TakingPending, PuttingTwice, Planning, Batching, PuttingAgain, Moving, PuttingMoved, Asking, TakingLast, Unmarking, Over}
-use Rattle.nm_migrator.specs.Ends.{migrator_counts}
+use Rattle.nm_migrator_work.specs.Ends.{migrator_counts}
 use Rattle.nm_migrator.specs.Migrating.{Sequence}
 use Rattle.nm_migrator.specs.Stages.{migrator_kept, stage_task, comes_at, migrating_left, KnownAt, IsResting, IsMigratingAt, IsNewTask, Gives}
 use Rattle.nm_migrator.proofs.Ending.{HasTask, can-left}

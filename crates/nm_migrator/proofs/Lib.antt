@@ -5,6 +5,5 @@ pub mod Giving
 pub mod Resting
 pub mod Planning
 pub mod Fitting
-pub mod Counting
 pub mod Acting
 pub mod Again

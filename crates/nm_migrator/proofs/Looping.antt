@@ -11,8 +11,8 @@ use Rattle.nm_worker.specs.Notes.{put_heard, take_heard}
 use Rattle.nm_worker.proofs.Routing.{some-work}
 use Rattle.nm_migrator_work.specs.Works.{MigratorWorkMade, MigratorWorkEnd, IsMigratorWork}
 use Rattle.nm_migrator_work.proofs.Listing.{some-migrator-work}
-use Rattle.nm_migrator.specs.Ends.{migrator_counts}
-use Rattle.nm_migrator.specs.Planned.{MigratorKept, is_mapped}
+use Rattle.nm_migrator_work.specs.Ends.{migrator_counts}
+use Rattle.nm_migrator_work.specs.Planned.{MigratorKept, is_mapped}
 use Rattle.nm_migrator.specs.Migrating.{Sequence, Does, PutsTry, Puts, Taken, TakesMappedTry, TakesMapped}
 use Rattle.nm_migrator.specs.Stages.{PutLeft}
 

@@ -10,7 +10,7 @@ use Rattle.nm_view.proofs.Finds.{once_join, absent_join}
 use Rattle.nm_vpages.specs.VPages.{vpages_of}
 use Rattle.nm_batch.proofs.Lists.{absent-head, absent-tail}
 use Rattle.nm_migrator_work.proofs.Beginning.{mapped-is-page}
-use Rattle.nm_migrator.specs.Planned.{has_any, is_mapped, is_among, most_taken, Plan, no_plan, is_retried, is_moved_locked}
+use Rattle.nm_migrator_work.specs.Planned.{has_any, is_mapped, is_among, most_taken, Plan, no_plan, is_retried, is_moved_locked}
 use Rattle.nm_migrator.specs.Stages.{IsMappedPage, AreTaken, IsMove, IsPlanWith}
 
 -- Pages.

@@ -20,7 +20,7 @@ use Rattle.nm_migrator_work.proofs.Resting.{mark-rests, looks-rests, cool-rests,
 use Rattle.nm_migrator.specs.declared.migrating.Migrating.{Migrating}
 use Rattle.nm_migrator.specs.declared.migrating.MigratingStage.{MigratingStage}
 use Rattle.nm_migrator.specs.declared.migrating.MigratingStage.TheVariants.{New, TakingCandidate, Judging, Heating, PuttingHot, Cooling, PuttingBack, Spilling, TakingPending, PuttingTwice, Planning, Batching, PuttingAgain, Moving, PuttingMoved, Asking, TakingLast, Unmarking, Over}
-use Rattle.nm_migrator.specs.Ends.{batch_in, drawn_in, work_in, words_in, migrator_counts}
+use Rattle.nm_migrator_work.specs.Ends.{batch_in, drawn_in, work_in, words_in, migrator_counts}
 use Rattle.nm_migrator.specs.Stages.{migrator_kept, stage_task, left_at, migrating_left, KnownAt, IsResting, IsMigratingAt, Gives}
 
 -- the view after a task, by how that ended

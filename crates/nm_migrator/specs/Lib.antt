@@ -1,5 +1,3 @@
-pub mod Ends
-pub mod Planned
 pub mod Migrating
 pub mod Stages
 pub mod Parts

@@ -12,8 +12,8 @@ use Rattle.nm_cool.specs.declared.cool.Cooled.{Cooled}
 use Rattle.nm_cool.specs.declared.cool.Cooled.TheVariants.{Busy, Cold}
 use Rattle.nm_worker.specs.Notes.{Notes, IsWorkDone, IsPut, IsTake}
 use Rattle.nm_migrator_work.specs.Works.{MigratorWorkMade, MigratorWorkEnd, IsMigratorWork, made_mark, made_looks, made_cool, made_batch, made_move, made_ask}
-use Rattle.nm_migrator.specs.Ends.{mark_reply_in, looks_in, cooled_in, batch_in, move_in, drawn_in, all_ended_in, migrator_counts}
-use Rattle.nm_migrator.specs.Planned.{MigratorKept, nothing_kept, unaborted, is_mapped, is_among, most_taken, Plan, no_plan, planned, again_of, batched, is_busy_move, kept_drawn}
+use Rattle.nm_migrator_work.specs.Ends.{mark_reply_in, looks_in, cooled_in, batch_in, move_in, drawn_in, all_ended_in, migrator_counts}
+use Rattle.nm_migrator_work.specs.Planned.{MigratorKept, nothing_kept, unaborted, is_mapped, is_among, most_taken, Plan, no_plan, planned, again_of, batched, is_busy_move, kept_drawn}
 
 -- a pattern of sequences of the migrator, and what is kept at the end of each
 abbrev pub Sequence : Type 1

@@ -16,10 +16,10 @@ use Rattle.nm_actor.specs.Actors.{gave_end}
 use Rattle.nm_routine_part.specs.Parts.{IsEmptyAtEnd, IsRoutinePart}
 use Rattle.nm_migrator_work.specs.declared.piece.MigratorPiece.{MigratorPiece}
 use Rattle.nm_migrator_work.specs.Works.{migrator_work_made, IsNewMigratorWork, MayMigratorWork, IsMigratorWork, AwaitsMigratorWork}
-use Rattle.nm_migrator.specs.Ends.{migrator_counts}
+use Rattle.nm_migrator_work.specs.Ends.{migrator_counts}
 use Rattle.nm_migrator.specs.declared.migrating.Migrating.{Migrating}
 use Rattle.nm_migrator.specs.declared.actor.MigratorActor.{MigratorActor}
-use Rattle.nm_migrator.specs.Planned.{MigratorKept}
+use Rattle.nm_migrator_work.specs.Planned.{MigratorKept}
 use Rattle.nm_migrator.specs.Migrating.{Sequence, IsMigrating, IsMigratingBy}
 use Rattle.nm_migrator.specs.Stages.{migrator_kept, migrating_made, migrating_left, IsMigratingAt}
 

@@ -25,8 +25,8 @@ use Rattle.nm_migrator_work.specs.Works.{MigratorWorkMade, MigratorWorkEnd, migr
 use Rattle.nm_migrator.specs.declared.migrating.Migrating.{Migrating}
 use Rattle.nm_migrator.specs.declared.migrating.MigratingStage.{MigratingStage}
 use Rattle.nm_migrator.specs.declared.migrating.MigratingStage.TheVariants.{New, TakingCandidate, Judging, Heating, PuttingHot, Cooling, PuttingBack, Spilling, TakingPending, PuttingTwice, Planning, Batching, PuttingAgain, Moving, PuttingMoved, Asking, TakingLast, Unmarking, Over}
-use Rattle.nm_migrator.specs.Ends.{mark_reply_in, looks_in, cooled_in, batch_in, move_in, drawn_in, all_ended_in, work_in, full_in, taken_page_in, migrator_counts}
-use Rattle.nm_migrator.specs.Planned.{MigratorKept, nothing_kept, Plan, most_taken, planned, again_of, batched, is_busy_move, kept_drawn}
+use Rattle.nm_migrator_work.specs.Ends.{mark_reply_in, looks_in, cooled_in, batch_in, move_in, drawn_in, all_ended_in, work_in, full_in, taken_page_in, migrator_counts}
+use Rattle.nm_migrator_work.specs.Planned.{MigratorKept, nothing_kept, Plan, most_taken, planned, again_of, batched, is_busy_move, kept_drawn}
 use Rattle.nm_migrator.specs.Migrating.{Sequence, Does, Puts, Taken, TakesMapped, Spills, AfterCool, Cools, AfterHeat, Heats, Judges, Unmarks, AfterLast, Asks, MovesLocked, AfterBatch, Batches, Plans, AfterTakes, PendingTaken, TakesPending, AfterCandidate, MigratorRounds}
 
 -- What is kept.

@@ -2,8 +2,6 @@
 #![tactic(auto)]
 
 pub mod actor;
-pub mod ends;
-pub mod lists;
 pub mod migrating;
 pub mod steps;
 

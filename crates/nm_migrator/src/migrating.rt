@@ -8,18 +8,18 @@ ghost use Rattle.nm_view.specs.Views.{View};
 ghost use Rattle.nm_view.specs.Opening.{opening};
 ghost use Rattle.nm_migrator_work.specs.Works.{migrator_work_made, IsNewMigratorWork, MayMigratorWork, IsMigratorWork, MigratorWorkLeaves, MigratorWorkEnded};
 ghost use Rattle.nm_migrator.specs.declared.migrating.MigratingStage.{MigratingStage};
-ghost use Rattle.nm_migrator.specs.Ends.{migrator_counts};
+ghost use Rattle.nm_migrator_work.specs.Ends.{migrator_counts};
 ghost use Rattle.nm_migrator.specs.Migrating.{IsMigratingBy};
 ghost use Rattle.nm_migrator.specs.Stages.{migrator_kept, migrating_made, migrating_left, stage_task, IsNewTask, MayComeTo, IsNewMigrating, IsMigratingAt};
 
-use crate::ends::{
-    all_ended_in, batch_in, cooled_in, drawn_in, full_in, is_busy_in, looks_in, mark_reply_in,
-    migrator_counts, taken_page_in, words_in, work_in,
-};
-use crate::lists::copied;
 use nm_base::Geometry;
 use nm_batch::PieceList;
 use nm_event::{Lane, Spent, Tally};
+use nm_migrator_work::ends::{
+    all_ended_in, batch_in, cooled_in, drawn_in, full_in, is_busy_in, looks_in, mark_reply_in,
+    migrator_counts, taken_page_in, words_in, work_in,
+};
+use nm_migrator_work::lists::copied;
 use nm_migrator_work::{
     MigratorEnd, MigratorPiece, ask_work, batch_work, cool_work, looks_work, mark_work, move_work,
 };
@@ -189,9 +189,9 @@ impl<'a> Routine<MigratorPiece<'a>> for Migrating<'a> {
     type Made = (Geometry, Option<u32>, u64);
 
     ghost use Rattle.nm_migrator.specs.Stages.{migrator_kept, migrating_made, IsNewMigrating, IsMigratingAt, migrating_left};
-    ghost use Rattle.nm_migrator.specs.Planned.{MigratorKept};
+    ghost use Rattle.nm_migrator_work.specs.Planned.{MigratorKept};
     ghost use Rattle.nm_migrator.specs.Migrating.{IsMigratingBy};
-    ghost use Rattle.nm_migrator.specs.Ends.{migrator_counts};
+    ghost use Rattle.nm_migrator_work.specs.Ends.{migrator_counts};
 
     ghost made = { migrating_made };
 

@@ -5,19 +5,19 @@ ghost use Rattle.nm_base.specs.Geometry.{page_count};
 ghost use Rattle.nm_transfer.specs.Stages.{HoldsWords};
 ghost use Rattle.nm_vpages.specs.VPages.{most_vpages};
 ghost use Rattle.nm_migrator_work.specs.Works.{IsNewMigratorWork};
-ghost use Rattle.nm_migrator.specs.Planned.{most_taken};
+ghost use Rattle.nm_migrator_work.specs.Planned.{most_taken};
 ghost use Rattle.nm_migrator.specs.Stages.{migrator_kept, migrator_plan, migrating_made, CandidateLeft, LastLeft, JudgedLeft, HeatedLeft, CooledLeft, BackLeft, PutLeft, CandidatesLeft, PendingLeft, TakenLeft, TakesLeft, PageLeft, PlansLeft, PlannedLeft, BatchesLeft, BatchedLeft, AgainLeft, MovesLeft, MovedLeft, AskedLeft, UnmarksLeft, HasAborts, IsMigratorKept, IsCandidate, HasTakenPages, IsTakingPages, HasPlan, IsPlanning, HasPlanned, IsBatching, HasMoves, HasAgain, IsPuttingAgain, IsPuttingMoved, IsMove, Gives};
 
-use crate::lists::{
-    aborts_of, again_of, clear_aborts, count_aborts_in, first_or, is_among, is_mapped,
-    is_moved_locked,
-};
 use crate::migrating::{Migrating, MigratingStage};
 use nm_batch::PieceList;
 use nm_cool::Cooled;
 use nm_drawing::Drawn;
 use nm_event::{Reply, Spent};
 use nm_migrator_work::MigratorPiece;
+use nm_migrator_work::lists::{
+    aborts_of, again_of, clear_aborts, count_aborts_in, first_or, is_among, is_mapped,
+    is_moved_locked,
+};
 use nm_transfer::TakenWords;
 use nm_txn::TxnEnd;
 use nm_vpages::VPageSet;

@@ -17,8 +17,8 @@ use Rattle.nm_locked.specs.declared.locked.LockedEnd.{LockedEnd}
 use Rattle.nm_drawing.specs.declared.drawing.Drawn.{Drawn}
 use Rattle.nm_worker.specs.Notes.{Notes, IsPut, IsTake}
 use Rattle.nm_migrator_work.specs.Works.{MigratorWorkMade, MigratorWorkEnd, IsMigratorWork, made_mark, made_looks, made_cool, made_batch, made_move, made_ask}
-use Rattle.nm_migrator.specs.Ends.{mark_reply_in, looks_in, cooled_in, batch_in, all_ended_in, migrator_counts}
-use Rattle.nm_migrator.specs.Planned.{MigratorKept, nothing_kept, unaborted, is_mapped, is_among, most_taken, Plan, no_plan, planned, again_of, batched, is_busy_move, kept_drawn}
+use Rattle.nm_migrator_work.specs.Ends.{mark_reply_in, looks_in, cooled_in, batch_in, all_ended_in, migrator_counts}
+use Rattle.nm_migrator_work.specs.Planned.{MigratorKept, nothing_kept, unaborted, is_mapped, is_among, most_taken, Plan, no_plan, planned, again_of, batched, is_busy_move, kept_drawn}
 use Rattle.nm_migrator.specs.Migrating.{Sequence, Does, PutsTry, Puts, Taken, TakesMappedTry, TakesMapped, Spills, AfterCool, Cools, AfterHeat, Heats, Judges, UnmarkNext, Unmarks, AfterLast, Asks, MoveNext, MovesLocked, PutNext, AfterBatch, Batches, PlanNext, Plans, AfterTakes, PendingTaken, TakesPending, AfterCandidate, MigratorRound, MigratorRounds, IsMigrating}
 use Rattle.nm_choice.specs.Deterministic.{AgreeUpToAnswers}
 use Rattle.nm_choice.proofs.Patterns.{one-ends, agree-follows, agree-either, agree-each, agree-sometimes, one-sometimes}

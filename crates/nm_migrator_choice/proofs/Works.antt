@@ -26,7 +26,7 @@ use Rattle.nm_drawing.specs.declared.drawing.Drawn.{Drawn}
 use Rattle.nm_drawing.specs.Draws.{IsDrawingList}
 use Rattle.nm_migrator_work.specs.declared.work.MigratorWork.TheVariants.{Mark, Looks, Cool, Batch, Move, Ask}
 use Rattle.nm_migrator_work.specs.Works.{MigratorWorkMade, MigratorWorkEnd, IsMigratorWork, made_mark, made_looks, made_cool, made_batch, made_move, made_ask}
-use Rattle.nm_migrator.specs.Ends.{mark_reply_in, looks_in, cooled_in, batch_in, move_in, drawn_in, all_ended_in, pieces_counts, move_counts, migrator_counts}
+use Rattle.nm_migrator_work.specs.Ends.{mark_reply_in, looks_in, cooled_in, batch_in, move_in, drawn_in, all_ended_in, pieces_counts, move_counts, migrator_counts}
 use Rattle.nm_choice.specs.Deterministic.{AreRepliesApart, AgreeOnTold}
 use Rattle.nm_choice.proofs.Acts.{one-act}
 use Rattle.nm_note_choice.proofs.Works.{IsOfKind, kind-told, with_spent, with_counts, drawing-told}

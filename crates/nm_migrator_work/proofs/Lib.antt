@@ -1,5 +1,6 @@
 pub mod Beginning
 pub mod Choosing
-pub mod Ends
+pub mod Endings
 pub mod Listing
 pub mod Resting
+pub mod Counting

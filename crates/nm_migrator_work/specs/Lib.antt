@@ -1,2 +1,4 @@
 pub mod Kinds
 pub mod Works
+pub mod Ends
+pub mod Planned

@@ -1,6 +1,8 @@
 //! The work of the migrator.
 #![tactic(auto)]
 
+pub mod ends;
+pub mod lists;
 pub mod piece;
 pub mod work;
 

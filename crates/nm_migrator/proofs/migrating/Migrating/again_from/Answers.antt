@@ -2,7 +2,7 @@ use Rattle.std.proofs.Common.{◌<◌, arith}
 use Rattle.nm_batch.proofs.Lists.{drop-within}
 use Rattle.nm_migrator_work.specs.Works.{IsNewMigratorWork}
 use Rattle.nm_migrator.specs.declared.migrating.MigratingStage.TheVariants.{PuttingAgain}
-use Rattle.nm_migrator.specs.Planned.{most_taken}
+use Rattle.nm_migrator_work.specs.Planned.{most_taken}
 use Rattle.nm_migrator.specs.Stages.{migrator_kept, AgainLeft, MovesLeft}
 use Rattle.nm_migrator.proofs.Giving.{gives-stage, gives-fit}
 use Rattle.nm_migrator.proofs.Fitting.{again-one, again-all}

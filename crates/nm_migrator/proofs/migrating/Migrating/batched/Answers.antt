@@ -2,9 +2,9 @@ use Rattle.std.proofs.Common.{◌≡◌, ◌≤◌, length, ap, ◌∙◌, arith
 use Rattle.nm_migrator_work.specs.Works.{IsNewMigratorWork}
 use Rattle.nm_migrator.specs.declared.migrating.Migrating.{Migrating}
 use Rattle.nm_base.specs.Geometry.{page_count}
-use Rattle.nm_migrator.specs.Planned.{most_taken}
+use Rattle.nm_migrator_work.specs.Planned.{most_taken}
 use Rattle.nm_migrator.specs.Stages.{BatchedLeft, AgainLeft}
-use Rattle.nm_migrator.proofs.Counting.{aborts-length}
+use Rattle.nm_migrator_work.proofs.Counting.{aborts-length}
 use Rattle.nm_migrator.proofs.Giving.{gives-fit}
 use Rattle.nm_migrator.proofs.Fitting.{again-starts}
 use Rattle.nm_migrator.proofs.migrating.Migrating.batched.Goals as goal

@@ -3,7 +3,7 @@ use Rattle.nm_batch.proofs.Lists.{all-drop, drop-within}
 use Rattle.nm_migrator_work.specs.Works.{IsNewMigratorWork}
 use Rattle.nm_migrator.specs.declared.migrating.Migrating.{Migrating}
 use Rattle.nm_migrator.specs.declared.migrating.MigratingStage.TheVariants.{TakingCandidate, Moving}
-use Rattle.nm_migrator.specs.Planned.{most_taken}
+use Rattle.nm_migrator_work.specs.Planned.{most_taken}
 use Rattle.nm_migrator.specs.Stages.{migrator_kept, MovesLeft, IsMove, Gives}
 use Rattle.nm_migrator.proofs.Giving.{gives, gives-stage}
 use Rattle.nm_migrator.proofs.Fitting.{moves-one, moves-all}

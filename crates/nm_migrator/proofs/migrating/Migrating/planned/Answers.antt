@@ -5,7 +5,7 @@ use Rattle.nm_migrator_work.specs.Works.{IsNewMigratorWork}
 use Rattle.nm_migrator.specs.declared.migrating.Migrating.{Migrating}
 use Rattle.nm_vpages.specs.VPages.{vpages_of}
 use Rattle.nm_migrator_work.proofs.Beginning.{mapped-is-page}
-use Rattle.nm_migrator.specs.Planned.{first_or, is_moved_locked}
+use Rattle.nm_migrator_work.specs.Planned.{first_or, is_moved_locked}
 use Rattle.nm_migrator.specs.Stages.{migrator_plan, PlansLeft, PlannedLeft, IsMappedPage, IsPlanWith}
 use Rattle.nm_migrator.proofs.Giving.{gives-fit}
 use Rattle.nm_migrator.proofs.Planning.{plan-move, plan-piece, some-move}

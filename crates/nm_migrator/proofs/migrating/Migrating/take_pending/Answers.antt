@@ -1,7 +1,7 @@
 use Rattle.std.proofs.Common.{◌<◌, ◌≤◌, length, arith}
 use Rattle.nm_migrator_work.specs.Works.{IsNewMigratorWork}
 use Rattle.nm_migrator.specs.declared.migrating.MigratingStage.TheVariants.{TakingPending}
-use Rattle.nm_migrator.specs.Planned.{most_taken}
+use Rattle.nm_migrator_work.specs.Planned.{most_taken}
 use Rattle.nm_migrator.specs.Stages.{TakenLeft, TakesLeft}
 use Rattle.nm_migrator.proofs.Giving.{gives-stage, gives-fit}
 use Rattle.nm_migrator.proofs.Fitting.{takes-one, takes-all}

@@ -4,7 +4,7 @@ use Rattle.nm_view.specs.Opening.{opening}
 use Rattle.nm_action.specs.declared.turn.Lane.TheVariants.{Candidates}
 use Rattle.nm_migrator_work.specs.Works.{IsNewMigratorWork}
 use Rattle.nm_migrator.specs.declared.migrating.MigratingStage.TheVariants.{TakingCandidate}
-use Rattle.nm_migrator.specs.Planned.{MigratorKept, nothing_kept}
+use Rattle.nm_migrator_work.specs.Planned.{MigratorKept, nothing_kept}
 use Rattle.nm_migrator.specs.Migrating.{MigratorRounds, IsMigrating, IsMigratingBy}
 use Rattle.nm_migrator.proofs.Giving.{gives-stage, gives-more}
 use Rattle.nm_migrator.proofs.Ending.{some-migrating}

@@ -9,8 +9,8 @@ use Rattle.nm_drawing.specs.declared.drawing.Drawn.{Drawn}
 use Rattle.nm_transfer.specs.Stages.{HoldsWords}
 use Rattle.nm_migrator_work.specs.Works.{MigratorWorkEnd, IsNewMigratorWork, MigratorWorkEnded}
 use Rattle.nm_migrator.specs.declared.migrating.MigratingStage.TheVariants.{New, TakingCandidate, Judging, Heating, PuttingHot, Cooling, PuttingBack, Spilling, TakingPending, PuttingTwice, Planning, Batching, PuttingAgain, Moving, PuttingMoved, Asking, TakingLast, Unmarking, Over}
-use Rattle.nm_migrator.specs.Ends.{mark_reply_in, looks_in, cooled_in, batch_in, move_in, drawn_in, all_ended_in, words_in, work_in}
-use Rattle.nm_migrator.specs.Planned.{is_busy_move}
+use Rattle.nm_migrator_work.specs.Ends.{mark_reply_in, looks_in, cooled_in, batch_in, move_in, drawn_in, all_ended_in, words_in, work_in}
+use Rattle.nm_migrator_work.specs.Planned.{is_busy_move}
 use Rattle.nm_migrator.specs.Stages.{migrator_kept, CandidateLeft, LastLeft, JudgedLeft, HeatedLeft, CooledLeft, BackLeft, PutLeft, CandidatesLeft, TakenLeft, PageLeft, PlannedLeft, BatchedLeft, AgainLeft, MovesLeft, MovedLeft, AskedLeft, Gives}
 use Rattle.nm_migrator.proofs.Resting.{known-at, after-at, words-back, goes-on}
 use Rattle.nm_migrator.proofs.migrating.MigratingRoutineMigratorPiece.go_on.Goals as goal

@@ -1,6 +1,6 @@
 use Rattle.std.proofs.Common.{◌∙◌, drop, ◌+◌}
-use Rattle.nm_migrator.proofs.Counting.{among-next}
-use Rattle.nm_migrator.proofs.lists.is_among.Goals as goal
+use Rattle.nm_migrator_work.proofs.Counting.{among-next}
+use Rattle.nm_migrator_work.proofs.lists.is_among.Goals as goal
 
 pub loop-index-preserved : goal.loop-index-preserved
 loop-index-preserved c =

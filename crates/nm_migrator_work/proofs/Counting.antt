@@ -4,7 +4,7 @@ use Rattle.std.proofs.Math.ListN.{length-set}
 use Rattle.std.proofs.lemmas.Bool.{eqb-true}
 use Rattle.nm_txn.specs.declared.end.TxnEnd.{TxnEnd}
 use Rattle.nm_txn.specs.declared.end.TxnEnd.TheVariants as ends
-use Rattle.nm_migrator.specs.Planned.{is_among, aborts_after, aborts_with}
+use Rattle.nm_migrator_work.specs.Planned.{is_among, aborts_after, aborts_with}
 
 among-by : (page b : ℕ) (rest : List ℕ) (test : Bool) → (b == page) ≡ test → b ≢ page → (test || is_among page rest) ≡ is_among page rest
 among-by page b rest true is other = absurd (other (eqb-true b page is))

@@ -2,7 +2,7 @@
 
 ghost use Rattle.std.specs.Prelude.{◌≡◌, ◌+◌, ◌<◌, ◌≤◌, [], length, slice_index, slice_set, All};
 ghost use Rattle.nm_view.specs.Lists.{first};
-ghost use Rattle.nm_migrator.specs.Planned.{is_mapped, is_among, first_or, aborted_more, again_of, aborts_with, is_again, is_moved_locked};
+ghost use Rattle.nm_migrator_work.specs.Planned.{is_mapped, is_among, first_or, aborted_more, again_of, aborts_with, is_again, is_moved_locked};
 
 use nm_base::Geometry;
 use nm_batch::PieceList;
@@ -10,14 +10,14 @@ use nm_txn::TxnEnd;
 use nm_vpages::VPageSet;
 
 /// Whether some virtual page is mapped to a page.
-pub(crate) fn is_mapped(g: &Geometry, page: u32) -> bool
+pub fn is_mapped(g: &Geometry, page: u32) -> bool
     ensures { result ≡ is_mapped g.now page }
 {
     !VPageSet::of_page(g, page).is_empty()
 }
 
 /// Whether a page stands in a list.
-pub(crate) fn is_among(page: u32, pages: &PieceList<u32>) -> bool
+pub fn is_among(page: u32, pages: &PieceList<u32>) -> bool
     ensures { result ≡ is_among page pages.now }
 {
     for index in 0..pages.len() {
@@ -32,7 +32,7 @@ pub(crate) fn is_among(page: u32, pages: &PieceList<u32>) -> bool
 }
 
 /// The first of these virtual pages; where there is none, the least virtual page of the page.
-pub(crate) fn first_or(mapped: &VPageSet, others: &VPageSet) -> u32
+pub fn first_or(mapped: &VPageSet, others: &VPageSet) -> u32
     ensures { result ≡ first_or mapped.now others.now }
 {
     match mapped.next(0) {
@@ -42,7 +42,7 @@ pub(crate) fn first_or(mapped: &VPageSet, others: &VPageSet) -> u32
 }
 
 /// Whether a page with so many words that are not 0 is moved while it is locked.
-pub(crate) fn is_moved_locked(retry: Option<u32>, aborts: u32, count: u32) -> bool
+pub fn is_moved_locked(retry: Option<u32>, aborts: u32, count: u32) -> bool
     ensures { result ≡ is_moved_locked retry aborts count }
 {
     count >= 2
@@ -54,7 +54,7 @@ pub(crate) fn is_moved_locked(retry: Option<u32>, aborts: u32, count: u32) -> bo
 }
 
 /// The same list once more.
-pub(crate) fn copied(list: &PieceList<(u32, u32)>) -> PieceList<(u32, u32)>
+pub fn copied(list: &PieceList<(u32, u32)>) -> PieceList<(u32, u32)>
     ensures { result ≡ list.now }
 {
     let mut copy = PieceList::new();
@@ -77,7 +77,7 @@ fn is_again(end: TxnEnd) -> bool
 }
 
 /// The pages of the pieces that are tried again, in order.
-pub(crate) fn again_of(pieces: &PieceList<(u32, u32)>, ends: &PieceList<TxnEnd>) -> PieceList<u32>
+pub fn again_of(pieces: &PieceList<(u32, u32)>, ends: &PieceList<TxnEnd>) -> PieceList<u32>
     ensures pages { result ≡ again_of pieces.now ends.now }
     ensures few { length result ≤ 8 }
 {
@@ -105,11 +105,7 @@ fn count_abort(aborts: &mut [u32], page: u32)
 }
 
 /// Counts the aborts of these pieces. Condition: there is a count for each page.
-pub(crate) fn count_aborts(
-    aborts: &mut [u32],
-    pieces: &PieceList<(u32, u32)>,
-    ends: &PieceList<TxnEnd>,
-)
+pub fn count_aborts(aborts: &mut [u32], pieces: &PieceList<(u32, u32)>, ends: &PieceList<TxnEnd>)
     requires { All (λ p. first p < length aborts.old) pieces.now }
     ensures { aborts.new ≡ aborts_with pieces.now ends.now aborts.old }
 {
@@ -125,7 +121,7 @@ pub(crate) fn count_aborts(
 }
 
 /// The same of a vector.
-pub(crate) fn count_aborts_in(
+pub fn count_aborts_in(
     aborts: &mut Vec<u32>,
     pieces: &PieceList<(u32, u32)>,
     ends: &PieceList<TxnEnd>,
@@ -137,7 +133,7 @@ pub(crate) fn count_aborts_in(
 }
 
 /// Sets the count of a page to 0. Condition: there is a count for it.
-pub(crate) fn clear_aborts(aborts: &mut Vec<u32>, page: u32)
+pub fn clear_aborts(aborts: &mut Vec<u32>, page: u32)
     requires { page < length aborts.old.items }
     ensures { aborts.new.items ≡ slice_set aborts.old.items page 0 }
 {
@@ -145,7 +141,7 @@ pub(crate) fn clear_aborts(aborts: &mut Vec<u32>, page: u32)
 }
 
 /// How many aborts of a page were counted. Condition: there is a count for it.
-pub(crate) fn aborts_of(aborts: &[u32], page: u32) -> u32
+pub fn aborts_of(aborts: &[u32], page: u32) -> u32
     requires { page < length aborts.now }
     ensures { result ≡ slice_index aborts.now page }
 {

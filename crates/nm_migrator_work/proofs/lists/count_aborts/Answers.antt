@@ -1,7 +1,7 @@
 use Rattle.std.proofs.Common.{◌<◌, length, ℕ, arith}
 use Rattle.nm_view.specs.Lists.{first}
 use Rattle.nm_batch.proofs.Lists.{all-drop}
-use Rattle.nm_migrator.proofs.lists.count_aborts.Goals as goal
+use Rattle.nm_migrator_work.proofs.lists.count_aborts.Goals as goal
 
 pub count_abort-requires : goal.count_abort-requires
 count_abort-requires c =

@@ -2,22 +2,23 @@
 
 ghost use Rattle.std.specs.Prelude.{◌≡◌};
 ghost use Rattle.nm_tally.specs.Counts.{zero_tally};
-ghost use Rattle.nm_migrator.specs.Planned.{is_busy_move};
-ghost use Rattle.nm_migrator.specs.Ends.{mark_reply_in, looks_in, cooled_in, batch_in, move_in, drawn_in, all_ended_in, words_in, work_in, full_in, taken_page_in, piece_counts, pieces_counts, move_counts, migrator_counts};
+ghost use Rattle.nm_migrator_work.specs.Planned.{is_busy_move};
+ghost use Rattle.nm_migrator_work.specs.Ends.{mark_reply_in, looks_in, cooled_in, batch_in, move_in, drawn_in, all_ended_in, words_in, work_in, full_in, taken_page_in, piece_counts, pieces_counts, move_counts, migrator_counts};
 
+use crate::piece::MigratorEnd;
+use crate::work::MigratorWork;
 use nm_batch::PieceList;
 use nm_cool::Cooled;
 use nm_drawing::Drawn;
 use nm_event::{Reply, Spent, Tally};
 use nm_locked::LockedEnd;
 use nm_looks::Seen;
-use nm_migrator_work::{MigratorEnd, MigratorWork};
 use nm_transfer::TakenWords;
 use nm_txn::TxnEnd;
 use nm_worker::Ended;
 
 /// The end of a piece of work.
-pub(crate) fn work_in(end: Ended<MigratorEnd>) -> MigratorEnd
+pub fn work_in(end: Ended<MigratorEnd>) -> MigratorEnd
     ensures { result ≡ work_in end }
 {
     match end {
@@ -27,7 +28,7 @@ pub(crate) fn work_in(end: Ended<MigratorEnd>) -> MigratorEnd
 }
 
 /// Whether a lane was full.
-pub(crate) fn full_in(end: &Ended<MigratorEnd>) -> bool
+pub fn full_in(end: &Ended<MigratorEnd>) -> bool
     ensures { result ≡ full_in end.now }
 {
     match end {
@@ -37,7 +38,7 @@ pub(crate) fn full_in(end: &Ended<MigratorEnd>) -> bool
 }
 
 /// The page that was taken from a lane.
-pub(crate) fn taken_page_in(end: &Ended<MigratorEnd>) -> Option<u32>
+pub fn taken_page_in(end: &Ended<MigratorEnd>) -> Option<u32>
     ensures { result ≡ taken_page_in end.now }
 {
     match end {
@@ -47,7 +48,7 @@ pub(crate) fn taken_page_in(end: &Ended<MigratorEnd>) -> Option<u32>
 }
 
 /// The reply to a Mark.
-pub(crate) fn mark_reply_in(end: MigratorEnd) -> Reply
+pub fn mark_reply_in(end: MigratorEnd) -> Reply
     ensures { result ≡ mark_reply_in end }
 {
     match end {
@@ -57,7 +58,7 @@ pub(crate) fn mark_reply_in(end: MigratorEnd) -> Reply
 }
 
 /// What Looks have seen.
-pub(crate) fn looks_in(end: MigratorEnd) -> Seen
+pub fn looks_in(end: MigratorEnd) -> Seen
     ensures { result ≡ looks_in end }
 {
     match end {
@@ -67,7 +68,7 @@ pub(crate) fn looks_in(end: MigratorEnd) -> Seen
 }
 
 /// How a candidate was cooled.
-pub(crate) fn cooled_in(end: MigratorEnd) -> Cooled
+pub fn cooled_in(end: MigratorEnd) -> Cooled
     ensures { result ≡ cooled_in end }
 {
     match end {
@@ -77,7 +78,7 @@ pub(crate) fn cooled_in(end: MigratorEnd) -> Cooled
 }
 
 /// How the pieces of a batch ended, in order, and what was drawn then.
-pub(crate) fn batch_in(end: MigratorEnd) -> Drawn<PieceList<TxnEnd>>
+pub fn batch_in(end: MigratorEnd) -> Drawn<PieceList<TxnEnd>>
     ensures { result ≡ batch_in end }
 {
     match end {
@@ -90,7 +91,7 @@ pub(crate) fn batch_in(end: MigratorEnd) -> Drawn<PieceList<TxnEnd>>
 }
 
 /// Whether a locked move ended since its page was busy.
-pub(crate) fn is_busy_in(end: &MigratorEnd) -> bool
+pub fn is_busy_in(end: &MigratorEnd) -> bool
     ensures { result ≡ is_busy_move (move_in end.now) }
 {
     match end {
@@ -113,7 +114,7 @@ fn is_busy_move(end: LockedEnd) -> bool
 }
 
 /// What was drawn when a locked move ended.
-pub(crate) fn drawn_in(end: &MigratorEnd) -> Spent
+pub fn drawn_in(end: &MigratorEnd) -> Spent
     ensures { result ≡ drawn_in end.now }
 {
     match end {
@@ -123,7 +124,7 @@ pub(crate) fn drawn_in(end: &MigratorEnd) -> Spent
 }
 
 /// The list for taken words that a locked move gives back.
-pub(crate) fn words_in(end: MigratorEnd) -> Option<TakenWords>
+pub fn words_in(end: MigratorEnd) -> Option<TakenWords>
     ensures { result ≡ words_in end }
 {
     match end {
@@ -133,7 +134,7 @@ pub(crate) fn words_in(end: MigratorEnd) -> Option<TakenWords>
 }
 
 /// Whether all processors have ended.
-pub(crate) fn all_ended_in(end: MigratorEnd) -> bool
+pub fn all_ended_in(end: MigratorEnd) -> bool
     ensures { result ≡ all_ended_in end }
 {
     match end {
@@ -189,7 +190,7 @@ fn move_counts(end: LockedEnd) -> Tally
 }
 
 /// What the end of a piece of work counts.
-pub(crate) fn migrator_counts(end: &MigratorEnd) -> Tally
+pub fn migrator_counts(end: &MigratorEnd) -> Tally
     ensures { result ≡ migrator_counts end.now }
 {
     match end {

@@ -8,7 +8,7 @@ use Rattle.nm_locked.specs.declared.locked.LockedEnd.{LockedEnd}
 use Rattle.nm_locked.specs.declared.locked.LockedEnd.TheVariants as moves
 use Rattle.nm_drawing.specs.declared.drawing.Drawn.{Drawn}
 use Rattle.nm_vpages.specs.VPages.{vpages_of}
-use Rattle.nm_migrator.specs.Ends.{nothing_drawn}
+use Rattle.nm_migrator_work.specs.Ends.{nothing_drawn}
 
 -- how often the transactions of each page were aborted since the page was last marked as pending, by page; and what the actor
 -- has drawn
