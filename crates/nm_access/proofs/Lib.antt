@@ -6,3 +6,4 @@ pub mod Answers
 pub mod Trying
 pub mod Faulting
 pub mod Looking
+pub mod Running

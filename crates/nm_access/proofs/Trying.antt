@@ -41,6 +41,7 @@ use Rattle.nm_access.specs.Accessing.{IsAccessReady, access_turn, access_left, t
 use Rattle.nm_access.specs.Moving.{AwaitsOf, IsStepOf, held_of, IsBegunWell, IsTrying}
 use Rattle.nm_access.proofs.TurnSteps.{tries-as, tries-after, turns-append, turns-push, then-own}
 use Rattle.nm_access.proofs.Ends.{touches-can, translates-can}
+use Rattle.nm_access.proofs.Running.{kept-running}
 use Rattle.nm_access.proofs.Going.{goes}
 
 -- Actions inside a piece of an access.
@@ -86,7 +87,7 @@ list-more front turns own turn action heard reply is given told = rw (is, given,
 -- a catch up has begun
 pub poll-awaits : (cache : TranslationCache) (kept : Kept) (g : Geometry) (view : View) → cache.stage ≡ Polling → kept_of cache ≡ kept → IsKeptWith g kept view → AwaitsCatch cache kept g view [] Poll
 poll-awaits cache kept g view at same h =
-    let base : IsCatching Polling kept kept g view [] Poll = record { is = refl; due = left-start (CatchesUp g kept); known = h; seat = refl } in
+    let base : IsCatching Polling kept kept g view [] Poll = record { is = refl; due = left-start (CatchesUp g kept); known = h; seat = refl; running = λ began. began } in
     subst (λ (s : CatchStage). IsCatching s (kept_of cache) kept g view [] Poll) (sym at) (subst (λ (k : Kept). IsCatching Polling k kept g view [] Poll) (sym same) base)
 
 pub poll-begun : (g : Geometry) (kept : Kept) → IsBegunWith (CatchesUp g kept) [] Poll
@@ -124,6 +125,7 @@ trying-goes {F} {M} {X} kinds made_of awaits_of a cache action g was view turns 
           is = sym (append-nil turns);
           due = h.due;
           free = h.ready.free;
+          running = kept-running g kept (view_then g view turns) h.ready.all h.ready.on;
           awaited = poll-awaits cache kept g (view_then g view turns) at same h.ready.all;
         };
       };
@@ -164,7 +166,7 @@ catch-more {F} {M} {X} kinds made_of awaits_of a later heard reply result next g
         may = h.may;
         ends = h.ends;
         counted = h.counted;
-        at = record { before = x.before; front = x.front; own = own; action = next; given = refl; is = refl; due = x.due; free = x.free; awaited = asked.awaited };
+        at = record { before = x.before; front = x.front; own = own; action = next; given = refl; is = refl; due = x.due; free = x.free; running = x.running; awaited = asked.awaited };
       };
       begun = piece-begun (IsWholeAccess kinds g a.made was) x.front own next (CatchesUp g x.before) (after_catch kinds g a.made held a.hinted) 1 x.due asked.begun (after-catch-can kinds g a.made held a.hinted);
     }))

@@ -15,7 +15,7 @@ use Rattle.nm_action.specs.declared.turn.Heard.{Heard}
 use Rattle.nm_action.specs.declared.turn.Heard.TheVariants.{Answer}
 use Rattle.nm_action.specs.Own.{Own}
 use Rattle.nm_view.specs.Lists.{find}
-use Rattle.nm_view.specs.Views.{View}
+use Rattle.nm_view.specs.Views.{View, end_word}
 use Rattle.nm_view.specs.Operations.{peeked_page}
 use Rattle.nm_permit.specs.Permitted.{Allowed}
 use Rattle.nm_event.specs.After.{view_after}
@@ -155,6 +155,7 @@ pub record IsAtCatch {M X : Type 0} (kinds : FaultKinds M X) (made : AccessMade)
   pub is : turns ≡ front ++ action_turns own
   pub due : IsLeft (IsWholeAccess kinds g made was) front (Sometimes (λ tries. Tries g made (Translates kinds g made tries) (record { kept = before; ends = ends }) hinted))
   pub free : HasNothingOpen (view_then g view front)
+  pub running : (view_then g view front).acked ≢ end_word
   pub awaited : AwaitsCatch cache before g (view_then g view front) own action
 
 -- a fault with this data has made the list `inner`, and the turns since it began are the actions `own`

@@ -28,7 +28,7 @@ use Rattle.nm_catchup.specs.declared.cache.TranslationCache.{TranslationCache}
 use Rattle.nm_catchup.specs.declared.cache.CatchStage.{CatchStage}
 use Rattle.nm_catchup.specs.declared.cache.CatchStage.TheVariants.{Resting, Polling, Peeking, Acknowledging}
 use Rattle.nm_catchup.specs.CatchUp.{Kept, entry_of, is_news, peeked_with, told_word, Acknowledges, PeeksFrom, CatchesUp}
-use Rattle.nm_catchup.specs.Catching.{kept_of, fresh_peek, IsKeptWith, HasPeeked, KnownInCatch, catch_action, catch_left, IsCatching, AwaitsCatch, IsCatchAsked, IsCaughtUp, IsCatchStep, IsPeekingFrom}
+use Rattle.nm_catchup.specs.Catching.{kept_of, fresh_peek, GoesOn, IsKeptWith, HasPeeked, KnownInCatch, catch_action, catch_left, IsCatching, AwaitsCatch, IsCatchAsked, IsCaughtUp, IsCatchStep, IsPeekingFrom}
 use Rattle.nm_catchup.proofs.Acts.{left-acts, begun-acts}
 use Rattle.nm_catchup.proofs.Entries.{kept-as, polled-news, peeked-one, acknowledged}
 use Rattle.nm_catchup.proofs.Loops.{peek-next, ack-next, left-can}
@@ -63,10 +63,10 @@ permitted-at g (Acknowledging number) kept view known = record { range = tt; per
 -- the translations come to a stage, and give its action
 pub goes : (c : TranslationCache) (was : Kept) (g : Geometry) (view : View) (own : Own)
     → IsLeft (CatchesUp g was) own (Follows (IsAct (catch_action c.stage) g) (catch_left g c.stage (kept_of c)))
-    → KnownInCatch g c.stage (kept_of c) (view_after g view own) → desk g (view_after g view own) ≡ desk g view → IsCatchAsked c was g view own (catch_action c.stage)
-goes c was g view own due known seat = record {
+    → KnownInCatch g c.stage (kept_of c) (view_after g view own) → desk g (view_after g view own) ≡ desk g view → GoesOn g view own → IsCatchAsked c was g view own (catch_action c.stage)
+goes c was g view own due known seat running = record {
   permitted = permitted-at g c.stage (kept_of c) (view_after g view own) known;
-  awaited = record { is = refl; due = due; known = known; seat = seat };
+  awaited = record { is = refl; due = due; known = known; seat = seat; running = running };
   begun = begun-acts g (CatchesUp g was) own (catch_action c.stage) (catch_left g c.stage (kept_of c)) due (left-can g c.stage (kept_of c));
 }
 
@@ -83,7 +83,7 @@ goes-peek c from number page was g view own at least h =
       has = record { all = h.has.all; polled = h.has.polled; most = h.has.most; peeked = λ w e lt there. peeked-below g number from page w kept (view_after g view own) h.has least e lt there };
       cached = least.cached;
     })
-    h.seat)
+    h.seat h.running)
 
 -- no cached page is left, and the number is acknowledged
 pub goes-ack : (c : TranslationCache) (from number : ℕ) (was : Kept) (g : Geometry) (view : View) (own : Own) → c.stage ≡ Acknowledging number → HasNoneFrom (entry_of (kept_of c)) from
@@ -94,7 +94,7 @@ goes-ack c from number was g view own at none h =
     subst S (sym at) (goes (record c { stage = Acknowledging number }) was g view own
     (left-as (CatchesUp g was) own (PeeksFrom g number from kept) (Acknowledges g number kept) h.due (λ rest o. ack-next g number from kept rest o none))
     (record { all = h.has.all; polled = h.has.polled; most = h.has.most; peeked = λ w e lt there. peeked-all g number from w kept (view_after g view own) h.has none e there })
-    h.seat)
+    h.seat h.running)
 
 -- An action was answered.
 
@@ -105,6 +105,12 @@ whole-now whole own left o due now = subst (λ (l : Own). whole l o) (append-nil
 heard-seat : (stage : CatchStage) (kept was : Kept) (g : Geometry) (view : View) (own : Own) (action : Action) (reply : Reply) → IsLoud action
     → IsCatching stage kept was g view own action → desk g (view_after g view (own ++ (action, reply) ∷ [])) ≡ desk g view
 heard-seat stage kept was g view own action reply loud h = ap (λ (v : View). desk g v) (view-push g view own action reply) ∙ (desk-stays g (view_after g view own) action reply loud ∙ h.seat)
+
+-- an answer that leaves what was acknowledged as it is leaves a processor going on
+heard-running : (stage : CatchStage) (kept was : Kept) (g : Geometry) (view : View) (own : Own) (action : Action) (reply : Reply)
+    → (after_of g (view_after g view own) action reply).acked ≡ (view_after g view own).acked → IsCatching stage kept was g view own action → GoesOn g view (own ++ (action, reply) ∷ [])
+heard-running stage kept was g view own action reply same h = λ began ended.
+    h.running began (sym same ∙ ap (λ (v : View). v.acked) (sym (view-push g view own action reply)) ∙ ended)
 
 heard-due : (stage : CatchStage) (kept was : Kept) (g : Geometry) (view : View) (own : Own) (action : Action) (reply : Reply)
     → IsCatching stage kept was g view own action → Fits g (view_after g view own) action reply → IsLeft (CatchesUp g was) (own ++ (action, reply) ∷ []) (catch_left g stage kept reply)
@@ -120,6 +126,7 @@ news-now kept was g view own number news h fits = record {
       (λ rest o r. either-yes (is_news kept.acked number) (PeeksFrom g number 0 kept) (Ends kept) rest o news r);
   has = subst (λ (v : View). HasPeeked g number 0 kept v) (sym (view-push g view own Poll (Word number))) (polled-news g kept (view_after g view own) number h.known fits.told.said);
   seat = heard-seat Polling kept was g view own Poll (Word number) (λ q. q) h;
+  running = heard-running Polling kept was g view own Poll (Word number) refl h;
 }
 
 true-false : true ≡ false → ⊥
@@ -148,6 +155,7 @@ peek-now kept was g view own number page stamp h fits = record {
   due = heard-due (Peeking number page) kept was g view own (Peek page) (Word stamp) h fits;
   has = subst (λ (v : View). HasPeeked g number (page + 1) (peeked_with page stamp kept) v) (sym (view-push g view own (Peek page) (Word stamp))) (peeked-one g kept (view_after g view own) number page stamp h.known.has);
   seat = heard-seat (Peeking number page) kept was g view own (Peek page) (Word stamp) (λ q. q) h;
+  running = heard-running (Peeking number page) kept was g view own (Peek page) (Word stamp) refl h;
 }
 
 -- the number was acknowledged

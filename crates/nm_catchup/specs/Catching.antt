@@ -1,5 +1,5 @@
 -- How far a catch up has come.
-use Rattle.std.specs.Prelude.{◌≡◌, ℕ, ◌<◌, ◌≤◌, ◌+◌, true, length, Some, IsSome, IfSome}
+use Rattle.std.specs.Prelude.{◌≡◌, ◌≢◌, ℕ, ◌<◌, ◌≤◌, ◌+◌, true, length, Some, IsSome, IfSome}
 use Rattle.nm_base.specs.Geometry.{Geometry, IsGeometry}
 use Rattle.nm_base.specs.Ranges.{IsVPage}
 use Rattle.nm_action.specs.declared.action.AckTo.TheVariants.{Seen}
@@ -12,7 +12,7 @@ use Rattle.nm_action.specs.Own.{Own}
 use Rattle.nm_view.specs.declared.view.CacheEntry.{CacheEntry}
 use Rattle.nm_view.specs.declared.view.Peeked.{Peeked}
 use Rattle.nm_view.specs.Lists.{find}
-use Rattle.nm_view.specs.Views.{View, most_bumps}
+use Rattle.nm_view.specs.Views.{View, most_bumps, end_word}
 use Rattle.nm_view.specs.Operations.{IsProcessor, cached_page, peeked_page}
 use Rattle.nm_permit.specs.Permitted.{Allowed}
 use Rattle.nm_event.specs.Fitting.{Fits}
@@ -103,12 +103,17 @@ catch_left g (Acknowledging number) kept reply = Ends (record kept { acked = Som
 
 -- In all of these `was` is what was kept, and `view` the view, when the catch up began, and `own` the list since then.
 
+-- a processor that had not ended when a catch up began has not ended since
+abbrev pub GoesOn : Geometry → View → Own → Type 0
+GoesOn g view own = view.acked ≢ end_word → (view_after g view own).acked ≢ end_word
+
 -- the answer to an action is awaited at a stage, where this is kept
 pub record IsCatching (stage : CatchStage) (kept was : Kept) (g : Geometry) (view : View) (own : Own) (action : Action) : Type 0 where
   pub is : action ≡ catch_action stage
   pub due : IsLeft (CatchesUp g was) own (Follows (IsAct (catch_action stage) g) (catch_left g stage kept))
   pub known : KnownInCatch g stage kept (view_after g view own)
   pub seat : desk g (view_after g view own) ≡ desk g view
+  pub running : GoesOn g view own
 
 -- the same of the translations
 abbrev pub AwaitsCatch : TranslationCache → Kept → Geometry → View → Own → Action → Type 0
@@ -147,3 +152,4 @@ pub record IsPeekingFrom (g : Geometry) (number from : ℕ) (kept was : Kept) (v
   pub due : IsLeft (CatchesUp g was) own (PeeksFrom g number from kept)
   pub has : HasPeeked g number from kept (view_after g view own)
   pub seat : desk g (view_after g view own) ≡ desk g view
+  pub running : GoesOn g view own

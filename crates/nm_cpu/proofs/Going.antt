@@ -39,7 +39,9 @@ use Rattle.nm_cpu.specs.declared.actor.CpuStage.TheVariants.{Accessing, Ending}
 use Rattle.nm_cpu.specs.Programs.{CpuEnd, IsLineOf, IsCpu, line_access, carried_with, IsProgramMade}
 use Rattle.nm_cpu.specs.Lines.{AccessLeft, NextLeft, after_access, after_line}
 use Rattle.nm_cpu.specs.Parts.{IsCpuPart}
-use Rattle.nm_cpu.specs.Agreeing.{geometry_of, made_program, cpu_view, accesses_of_turns, IsBetweenLines, IsAtNext, IsAtAccess, IsAtEnding, IsAtCpuStage, IsLeftAt, ComesNextTurn, IsAdvanced}
+use Rattle.nm_cpu.specs.Agreeing.{geometry_of, made_program, cpu_view, accesses_of_turns, IsBetweenLines, IsAtNext, IsAtAccess, IsAtEnding, IsAtCpuStage, ComesNextTurn, IsAdvanced}
+use Rattle.nm_access.proofs.Running.{kept-running}
+use Rattle.nm_cpu.proofs.Running.{left-at}
 use Rattle.nm_cpu.proofs.Followed.{followed-part, followed-all}
 use Rattle.nm_cpu.proofs.Mapped.{line-made, one-line, line-at, none-left}
 use Rattle.nm_cpu.proofs.Ends.{after-access-can, inside-begun}
@@ -83,12 +85,6 @@ comes-next kinds g program turns (Put lane page) not begun = begun
 comes-next kinds g program turns (Take lane) not begun = begun
 comes-next kinds g program turns End not begun = tt
 
-left-at : (view : View) (turn : Turn) → turn ≢ End → IsLeftAt view (Some turn)
-left-at view (Do action) not = tt
-left-at view (Put lane page) not = tt
-left-at view (Take lane) not = tt
-left-at view End not = absurd (not refl)
-
 pub sum-as : (a b c d : Tally) → a ≡ c → b ≡ d → sum_of a b ≡ sum_of c d
 sum-as a b c d e f = ap (λ (t : Tally). sum_of t b) e ∙ ap (λ (t : Tally). sum_of c t) f
 
@@ -104,7 +100,7 @@ pub going : {F M X : Type 0} (kinds : FaultKinds M X) (made_of : F → M) (await
 going {F} {M} {X} kinds made_of awaits_of c turns turn done lines more ends not permitted begun cpu room between counted at =
     let P : Tally → Bool → Type 0 = λ counts b. IsCpuPart kinds (geometry_of c) c.made.number (made_program c) turns b c.results.items (sum_of counts c.access.tally) in
     record {
-      at = record { cpu = cpu; room = room; next = comes-next kinds (geometry_of c) (made_program c) turns turn not begun; permitted = permitted; left = left-at (cpu_view c turns) turn not; at = at };
+      at = record { cpu = cpu; room = room; next = comes-next kinds (geometry_of c) (made_program c) turns turn not begun; permitted = permitted; left = left-at kinds made_of awaits_of c turns turn not at; at = at };
       part = λ counts is. subst (λ (b : Bool). P counts b) (sym (goes-on turn not)) (record {
         ends = ends;
         sequence = record { next = turn; begun = begun };
@@ -184,6 +180,7 @@ ending-begins {F} {M} {X} kinds made_of awaits_of c n turns number all h =
       ends = h.ends;
       counted = h.counted;
       free = h.ready.free;
+      running = kept-running (geometry_of c) (kept_of c.access.cache) (cpu_view c turns) h.ready.all h.ready.on;
       as_many = sym between.as_many ∙ sym (ap (λ (l : List Line). length l) whole);
       follows = subst A (sym whole) (followed-all c.made.number h.done c.results.items c.loads (accesses_of_turns c turns) between.follows);
       due = due;

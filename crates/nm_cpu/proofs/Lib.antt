@@ -4,6 +4,7 @@ pub mod Silent
 pub mod Lines
 pub mod Ends
 pub mod Mapped
+pub mod Running
 pub mod Going
 pub mod Opening
 pub mod Accessed

@@ -137,7 +137,7 @@ at-kept kinds made_of awaits_of Accessing c counter turn turns last h = record {
   };
   awaited = h.awaited;
 }
-at-kept kinds made_of awaits_of Ending c counter turn turns last h = record { given = h.given; same = h.same; ends = h.ends; counted = h.counted; free = h.free; as_many = h.as_many; follows = h.follows; due = h.due }
+at-kept kinds made_of awaits_of Ending c counter turn turns last h = record { given = h.given; same = h.same; ends = h.ends; counted = h.counted; free = h.free; running = h.running; as_many = h.as_many; follows = h.follows; due = h.due }
 at-kept kinds made_of awaits_of Over c counter turn turns last h = h
 
 pub turn-kept : {F M X : Type 0} (kinds : FaultKinds M X) (made_of : F → M) (awaits_of : F → Geometry → View → Own → Action → Type 0) (c : Processor F) (counter : Counter) (turn : Turn) (turns : Turns) (last : Option Turn)

@@ -20,6 +20,7 @@ use Rattle.nm_script.specs.declared.script.Line.{Line}
 use Rattle.nm_cpu.specs.Programs.{CpuEnd, fresh_kept, IsProgramMade, IsLineOf, IsCpu}
 use Rattle.nm_cpu.specs.Parts.{IsSequenceBegun}
 use Rattle.nm_cpu.specs.Agreeing.{geometry_of, made_program, IsAtNew, IsAtCpuStage, FollowsCpu}
+use Rattle.nm_cpu.proofs.Running.{off-running}
 use Rattle.nm_cpu.proofs.Followed.{followed-part}
 use Rattle.nm_cpu.proofs.Lines.{some-loads}
 use Rattle.nm_cpu.proofs.Ends.{program-can}
@@ -67,7 +68,7 @@ starts kinds made_of awaits_of c cpu at fresh results loads room events pages =
         follows = followed-part c.made.number (made_program c) [] (made_program c) c.results.items c.loads first.0 [] between.is between.as_many between.loads between.follows;
         counted = sum-as c.counter.tally c.access.tally (events_tally []) (ends_tally kinds.counts []) events.tally fresh.counted;
       };
-      at = record { cpu = cpu; room = room; next = refl; permitted = tt; left = tt; at = subst (λ s. IsAtCpuStage kinds made_of awaits_of s c [] None) (sym at) here };
+      at = record { cpu = cpu; room = room; next = refl; permitted = tt; left = off-running; at = subst (λ s. IsAtCpuStage kinds made_of awaits_of s c [] None) (sym at) here };
       events = events;
       pages = pages;
       kept = tt;

@@ -1,5 +1,5 @@
 -- What a processor agrees with, and how far it has come.
-use Rattle.std.specs.Prelude.{◌≡◌, ℕ, ◌≤◌, Bool, true, false, List, [], ◌∷◌, ◌++◌, length, vec_capacity, Option, Some, None}
+use Rattle.std.specs.Prelude.{◌≡◌, ◌≢◌, ℕ, ◌≤◌, Bool, true, false, List, [], ◌∷◌, ◌++◌, length, vec_capacity, Option, Some, None}
 use Rattle.nm_base.specs.Geometry.{Geometry, page_count}
 use Rattle.nm_action.specs.declared.action.Action.{Action}
 use Rattle.nm_action.specs.declared.action.AckTo.TheVariants as ack
@@ -155,6 +155,7 @@ pub record IsAtEnding {F M X : Type 0} (kinds : FaultKinds M X) (c : Processor F
   pub ends : List X
   pub counted : c.access.tally ≡ ends_tally kinds.counts ends
   pub free : HasNothingOpen (cpu_view c turns)
+  pub running : (cpu_view c turns).acked ≢ end_word
   pub as_many : length c.results.items ≡ length (made_program c)
   pub follows : AreMade c.made.number (made_program c) c.results.items (accesses_of_turns c turns)
   pub due : IsLeft (IsProgramMade kinds (geometry_of c) (made_program c)) turns (Follows (Hears (geometry_of c) (Do (Ack ack.End))) (λ heard. Ends (record { results = c.results.items; ends = ends })))
@@ -191,10 +192,10 @@ pub record IsEndedCpu (view : View) : Type 0 where
   pub free : HasNothingOpen view
   pub acked : view.acked ≡ end_word
 
--- where End was given the view is that of a processor that has ended
+-- where End was given the view is that of a processor that has ended, and before that it has not acknowledged its end
 abbrev pub IsLeftAt : View → Option Turn → Type 0
 IsLeftAt view (Some End) = IsEndedCpu view
-IsLeftAt view _ = Unit {0}
+IsLeftAt view last = view.acked ≢ end_word
 
 -- how far it has come: the last turn comes next in its sequence, and its action is permitted
 pub record IsAtCpuTurn {F M X : Type 0} (kinds : FaultKinds M X) (made_of : F → M) (awaits_of : F → Geometry → View → Own → Action → Type 0) (c : Processor F) (turns : Turns) (last : Option Turn) : Type 0 where

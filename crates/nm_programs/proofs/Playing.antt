@@ -41,11 +41,11 @@ cpu-agreed kinds made_of awaits_of script cpu c turns ended made h =
     let Ended : Bool → Type 0 = λ b. IsCpuPart kinds c.made.geometry.now c.made.number c.made.program.now turns b c.results.items counts in
     subst Machine made.machine (subst Number made.same (subst Program made.program (subst Ended (cpu-end h.last ∙ sym h.given) h.agreed.part)))
 
--- where it gave End, its view is that of a processor that has ended
+-- where it gave End, its view is that of a processor that has ended, and else of one that goes on
 left-by : (view : View) (turn : Turn) → IsLeftAt view (Some turn) → IsLeftByCpu (play.is_end turn) view
-left-by view (Do action) h = tt
-left-by view (Put lane page) h = tt
-left-by view (Take lane) h = tt
+left-by view (Do action) h = h
+left-by view (Put lane page) h = h
+left-by view (Take lane) h = h
 left-by view End h = h
 
 pub cpu-left : {F M X : Type 0} (kinds : FaultKinds M X) (made_of : F → M) (awaits_of : F → Geometry → View → Own → Action → Type 0) (script : Script) (cpu : ℕ) (c : Processor F) (turns : Turns) (ended : Bool)

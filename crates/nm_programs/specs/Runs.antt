@@ -1,5 +1,5 @@
 -- The run of a script, and the report of it.
-use Rattle.std.specs.Prelude.{◌≡◌, ℕ, ◌+◌, ◌<◌, Bool, true, false, List, [], length, slice_index_or, Option}
+use Rattle.std.specs.Prelude.{◌≡◌, ◌≢◌, ℕ, ◌+◌, ◌<◌, Bool, true, false, List, [], length, slice_index_or, Option}
 use Rattle.nm_flat.specs.Memory.{own_part_of}
 use Rattle.nm_action.specs.declared.action.Event.{Event}
 use Rattle.nm_action.specs.declared.tally.Tally.{Tally}
@@ -7,7 +7,7 @@ use Rattle.nm_action.specs.declared.turn.Turn.{Turn}
 use Rattle.nm_core.specs.EndWords.{EndWords}
 use Rattle.nm_core.specs.State.{actor_count}
 use Rattle.nm_core.specs.Runs.{accesses_of}
-use Rattle.nm_view.specs.Views.{View}
+use Rattle.nm_view.specs.Views.{View, end_word}
 use Rattle.nm_actor.specs.Turns.{Turns, own_list, turns_view}
 use Rattle.nm_script.specs.Plain.{Script}
 use Rattle.nm_report.specs.declared.line_result.LineResult.{LineResult}
@@ -34,10 +34,10 @@ results_of run cpu = slice_index_or run.results cpu []
 abbrev pub report_of : Script → SimRun → Report
 report_of script run = record { script = script; results = run.results; end = run.end; tally = run.tally }
 
--- a processor that has ended leaves nothing open in its view, and has acknowledged its end
+-- a processor that has ended leaves nothing open in its view, and has acknowledged its end; one that has not ended has not acknowledged it
 abbrev pub IsLeftByCpu : Bool → View → Type 0
 IsLeftByCpu true view = IsEndedCpu view
-IsLeftByCpu false view = Unit {0}
+IsLeftByCpu false view = view.acked ≢ end_word
 
 -- a processor's part of the turns is that of its program, gave these results and counted this, which is what its own list does; its accesses
 -- among the events follow its program with the results; and where it has ended it has left nothing open
