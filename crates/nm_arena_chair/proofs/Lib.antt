@@ -1,0 +1,3 @@
+pub mod LaneAnswers
+pub mod Stepping
+pub mod Kept
