@@ -9,27 +9,27 @@ use Rattle.nm_action.specs.declared.turn.Heard.TheVariants.{PutDone, PutFull, To
 use Rattle.nm_action.specs.Own.{Own}
 use Rattle.nm_part.specs.Patterns.{Either}
 use Rattle.nm_actor.specs.Turns.{Turns, own_list}
+use Rattle.nm_actor.specs.Alone.{FitsLane}
 use Rattle.nm_worker.specs.Notes.{Notes, noted_turns, IsPut, IsTake}
-use Rattle.nm_migrator.specs.Planned.{is_mapped}
+use Rattle.nm_migrator_work.specs.Planned.{is_mapped}
 use Rattle.nm_migrator.specs.Migrating.{Sequence, PutsTry, Puts, Taken, TakesMappedTry, TakesMapped}
 use Rattle.nm_note_marks.specs.Contents.{own_noted}
 use Rattle.nm_note_marks.proofs.Patterns.{noted-append}
-use Rattle.nm_pending.specs.PendingTurns.{FitsPending}
 use Rattle.nm_migrator_marks.proofs.Among.{IsAmong, among-left, among-right}
 use Rattle.nm_migrator_marks.proofs.Clearing.{MigratorOutcome, Clears, ClearsWith, ClearsAfter, fits-parts, owed-more}
 
 -- notes of which the first is a turn that is no action
-record StartsWith (pages : List ℕ) (notes back : Notes) (given : Turn) (heard : Heard) : Type 0 where
+record StartsWith (pages left : List ℕ) (notes back : Notes) (given : Turn) (heard : Heard) : Type 0 where
   own : own_noted notes ≡ own_noted back
-  fits : FitsPending pages ((given, heard) ∷ noted_turns back)
+  fits : FitsLane Pending pages ((given, heard) ∷ noted_turns back) left
 
-one-turn : (pages : List ℕ) (notes front back : Notes) (given : Turn) (heard : Heard) → notes ≡ front ++ back → front ≡ record { turn = given; heard = heard; counts = None } ∷ [] → own_list ((given, heard) ∷ []) ≡ []
-    → FitsPending pages (noted_turns notes) → StartsWith pages notes back given heard
-one-turn pages notes front back given heard is first none fits =
-    let F : Turns → Type 0 = λ l. FitsPending pages (l ++ noted_turns back) in
+one-turn : (pages left : List ℕ) (notes front back : Notes) (given : Turn) (heard : Heard) → notes ≡ front ++ back → front ≡ record { turn = given; heard = heard; counts = None } ∷ [] → own_list ((given, heard) ∷ []) ≡ []
+    → FitsLane Pending pages (noted_turns notes) left → StartsWith pages left notes back given heard
+one-turn pages left notes front back given heard is first none fits =
+    let F : Turns → Type 0 = λ l. FitsLane Pending pages (l ++ noted_turns back) left in
     record {
       own = ap own_noted is ∙ noted-append front back ∙ ap (λ (l : Own). l ++ own_noted back) (ap own_noted first ∙ none);
-      fits = subst F (ap noted_turns first) (fits-parts pages notes front back is fits);
+      fits = subst F (ap noted_turns first) (fits-parts pages left notes front back is fits);
     }
 
 -- ---- puts into the pending pages
@@ -40,39 +40,35 @@ put-owed page held pages b (inl (inl same)) = inr (among-right b pages (page ∷
 put-owed page held pages b (inl (inr mine)) = inl mine
 put-owed page held pages b (inr there) = inr (among-left b pages (page ∷ []) there)
 
-put-by : (g : Geometry) (held : List ℕ) (page : ℕ) (after : Sequence) → ClearsAfter g held after → (n : ℕ) → ClearsAfter g (page ∷ held) (PutsTry page after n) → (before : Own) (pages : List ℕ) (full : Bool) (notes front back : Notes) (outcome : MigratorOutcome)
-    → notes ≡ front ++ back → IsPut Pending page front full → Either full (PutsTry page after n) after back outcome → FitsPending pages (noted_turns notes) → Clears g before (page ∷ held) pages (own_noted notes)
-put-by g held page after rest n again before pages true notes front back outcome is put h fits =
-    let s = one-turn pages notes front back (turn.Put Pending page) PutFull is put.is refl fits in
-    let C : Own → Type 0 = λ l. Clears g before (page ∷ held) pages l in
-    let F : List ℕ → Type 0 = λ l. FitsPending l (noted_turns back) in
-    subst C (sym s.own) (again before pages back outcome h (subst F s.fits.1.0 s.fits.1.1))
-put-by g held page after rest n again before pages false notes front back outcome is put h fits =
-    let s = one-turn pages notes front back (turn.Put Pending page) PutDone is put.is refl fits in
-    let C : Own → Type 0 = λ l. Clears g before (page ∷ held) pages l in
-    let F : List ℕ → Type 0 = λ l. FitsPending l (noted_turns back) in
-    subst C (sym s.own) (owed-more g before (page ∷ held) held pages (pages ++ page ∷ []) (own_noted back) (λ b mapped owed. put-owed page held pages b owed) (rest before (pages ++ page ∷ []) back outcome h (subst F s.fits.1.0 s.fits.1.1)))
+put-by : (g : Geometry) (held : List ℕ) (page : ℕ) (after : Sequence) → ClearsAfter g held after → (n : ℕ) → ClearsAfter g (page ∷ held) (PutsTry page after n) → (before : Own) (pages : List ℕ) (full : Bool) (notes front back : Notes) (outcome : MigratorOutcome) (left : List ℕ)
+    → notes ≡ front ++ back → IsPut Pending page front full → Either full (PutsTry page after n) after back outcome → FitsLane Pending pages (noted_turns notes) left → Clears g before (page ∷ held) pages (own_noted notes) left
+put-by g held page after rest n again before pages true notes front back outcome left is put h fits =
+    let s = one-turn pages left notes front back (turn.Put Pending page) PutFull is put.is refl fits in
+    let C : Own → Type 0 = λ l. Clears g before (page ∷ held) pages l left in
+    subst C (sym s.own) (again before pages back outcome left h s.fits)
+put-by g held page after rest n again before pages false notes front back outcome left is put h fits =
+    let s = one-turn pages left notes front back (turn.Put Pending page) PutDone is put.is refl fits in
+    let C : Own → Type 0 = λ l. Clears g before (page ∷ held) pages l left in
+    subst C (sym s.own) (owed-more g before (page ∷ held) held pages (pages ++ page ∷ []) (own_noted back) left (λ b mapped owed. put-owed page held pages b owed) (rest before (pages ++ page ∷ []) back outcome left h s.fits))
 
 puts-try : (g : Geometry) (held : List ℕ) (page : ℕ) (after : Sequence) → ClearsAfter g held after → (n : ℕ) → ClearsAfter g (page ∷ held) (PutsTry page after n)
-puts-try g held page after rest zero before pages notes outcome h fits = absurd h
-puts-try g held page after rest (suc n) before pages notes outcome h fits = put-by g held page after rest n (puts-try g held page after rest n) before pages h.end notes h.front h.back outcome h.is h.shown h.rest fits
+puts-try g held page after rest zero before pages notes outcome left h fits = absurd h
+puts-try g held page after rest (suc n) before pages notes outcome left h fits = put-by g held page after rest n (puts-try g held page after rest n) before pages h.end notes h.front h.back outcome left h.is h.shown h.rest fits
 
 pub puts-clears : (g : Geometry) (held : List ℕ) (page : ℕ) (after : Sequence) → ClearsAfter g held after → ClearsAfter g (page ∷ held) (Puts page after)
-puts-clears g held page after rest before pages notes outcome h fits = puts-try g held page after rest h.tries before pages notes outcome h.is fits
+puts-clears g held page after rest before pages notes outcome left h fits = puts-try g held page after rest h.tries before pages notes outcome left h.is fits
 
 -- a put into the candidates leaves the pending pages
-pub put-candidate : (g : Geometry) (held : List ℕ) (page : ℕ) (after : Bool → Sequence) → ((full : Bool) → ClearsAfter g held (after full)) → (before : Own) (pages : List ℕ) (full : Bool) (notes front back : Notes) (outcome : MigratorOutcome)
-    → notes ≡ front ++ back → IsPut Candidates page front full → after full back outcome → FitsPending pages (noted_turns notes) → Clears g before held pages (own_noted notes)
-put-candidate g held page after rest before pages true notes front back outcome is put h fits =
-    let s = one-turn pages notes front back (turn.Put Candidates page) PutFull is put.is refl fits in
-    let C : Own → Type 0 = λ l. Clears g before held pages l in
-    let F : List ℕ → Type 0 = λ l. FitsPending l (noted_turns back) in
-    subst C (sym s.own) (rest true before pages back outcome h (subst F s.fits.1.0 s.fits.1.1))
-put-candidate g held page after rest before pages false notes front back outcome is put h fits =
-    let s = one-turn pages notes front back (turn.Put Candidates page) PutDone is put.is refl fits in
-    let C : Own → Type 0 = λ l. Clears g before held pages l in
-    let F : List ℕ → Type 0 = λ l. FitsPending l (noted_turns back) in
-    subst C (sym s.own) (rest false before pages back outcome h (subst F s.fits.1.0 s.fits.1.1))
+pub put-candidate : (g : Geometry) (held : List ℕ) (page : ℕ) (after : Bool → Sequence) → ((full : Bool) → ClearsAfter g held (after full)) → (before : Own) (pages : List ℕ) (full : Bool) (notes front back : Notes) (outcome : MigratorOutcome) (left : List ℕ)
+    → notes ≡ front ++ back → IsPut Candidates page front full → after full back outcome → FitsLane Pending pages (noted_turns notes) left → Clears g before held pages (own_noted notes) left
+put-candidate g held page after rest before pages true notes front back outcome left is put h fits =
+    let s = one-turn pages left notes front back (turn.Put Candidates page) PutFull is put.is refl fits in
+    let C : Own → Type 0 = λ l. Clears g before held pages l left in
+    subst C (sym s.own) (rest true before pages back outcome left h s.fits)
+put-candidate g held page after rest before pages false notes front back outcome left is put h fits =
+    let s = one-turn pages left notes front back (turn.Put Candidates page) PutDone is put.is refl fits in
+    let C : Own → Type 0 = λ l. Clears g before held pages l left in
+    subst C (sym s.own) (rest false before pages back outcome left h s.fits)
 
 -- ---- takes from the candidates
 
@@ -83,28 +79,26 @@ taken-by g held pages before page one other so then true is = so is
 taken-by g held pages before page one other so then false is = then is
 
 take-by : (g : Geometry) (held pages : List ℕ) (before : Own) (after : Option ℕ → Sequence) → ((page : ℕ) → is_mapped g page ≡ true → ClearsWith g before held pages (after (Some page))) → ClearsWith g before held pages (after None)
-    → (n : ℕ) → ClearsWith g before held pages (TakesMappedTry g Candidates after n) → (end : Option ℕ) (notes front back : Notes) (outcome : MigratorOutcome) → notes ≡ front ++ back → IsTake Candidates front end → Taken g (TakesMappedTry g Candidates after n) after end back outcome
-    → FitsPending pages (noted_turns notes) → Clears g before held pages (own_noted notes)
-take-by g held pages before after some none n again None notes front back outcome is take h fits =
-    let s = one-turn pages notes front back (turn.Take Candidates) TookNone is take.is refl fits in
-    let C : Own → Type 0 = λ l. Clears g before held pages l in
-    let F : List ℕ → Type 0 = λ l. FitsPending l (noted_turns back) in
-    subst C (sym s.own) (none back outcome h (subst F s.fits.1.0 s.fits.1.1))
-take-by g held pages before after some none n again (Some page) notes front back outcome is take h fits =
-    let s = one-turn pages notes front back (turn.Take Candidates) (Took page) is take.is refl fits in
-    let C : Own → Type 0 = λ l. Clears g before held pages l in
-    let F : List ℕ → Type 0 = λ l. FitsPending l (noted_turns back) in
+    → (n : ℕ) → ClearsWith g before held pages (TakesMappedTry g Candidates after n) → (end : Option ℕ) (notes front back : Notes) (outcome : MigratorOutcome) (left : List ℕ) → notes ≡ front ++ back → IsTake Candidates front end → Taken g (TakesMappedTry g Candidates after n) after end back outcome
+    → FitsLane Pending pages (noted_turns notes) left → Clears g before held pages (own_noted notes) left
+take-by g held pages before after some none n again None notes front back outcome left is take h fits =
+    let s = one-turn pages left notes front back (turn.Take Candidates) TookNone is take.is refl fits in
+    let C : Own → Type 0 = λ l. Clears g before held pages l left in
+    subst C (sym s.own) (none back outcome left h s.fits)
+take-by g held pages before after some none n again (Some page) notes front back outcome left is take h fits =
+    let s = one-turn pages left notes front back (turn.Take Candidates) (Took page) is take.is refl fits in
+    let C : Own → Type 0 = λ l. Clears g before held pages l left in
     subst C (sym s.own) (taken-by g held pages before page (after (Some page)) (TakesMappedTry g Candidates after n) (some page) (λ unmapped. again)
-    (is_mapped g page) refl back outcome h (subst F s.fits.1.0 s.fits.1.1))
+    (is_mapped g page) refl back outcome left h s.fits)
 
 take-candidates-try : (g : Geometry) (held pages : List ℕ) (before : Own) (after : Option ℕ → Sequence) → ((page : ℕ) → is_mapped g page ≡ true → ClearsWith g before held pages (after (Some page))) → ClearsWith g before held pages (after None)
     → (n : ℕ) → ClearsWith g before held pages (TakesMappedTry g Candidates after n)
-take-candidates-try g held pages before after some none zero notes outcome h fits = absurd h
-take-candidates-try g held pages before after some none (suc n) notes outcome h fits = take-by g held pages before after some none n (take-candidates-try g held pages before after some none n) h.end notes h.front h.back outcome h.is h.shown h.rest fits
+take-candidates-try g held pages before after some none zero notes outcome left h fits = absurd h
+take-candidates-try g held pages before after some none (suc n) notes outcome left h fits = take-by g held pages before after some none n (take-candidates-try g held pages before after some none n) h.end notes h.front h.back outcome left h.is h.shown h.rest fits
 
 pub takes-candidates : (g : Geometry) (held pages : List ℕ) (before : Own) (after : Option ℕ → Sequence) → ((page : ℕ) → is_mapped g page ≡ true → ClearsWith g before held pages (after (Some page))) → ClearsWith g before held pages (after None)
     → ClearsWith g before held pages (TakesMapped g Candidates after)
-takes-candidates g held pages before after some none notes outcome h fits = take-candidates-try g held pages before after some none h.tries notes outcome h.is fits
+takes-candidates g held pages before after some none notes outcome left h fits = take-candidates-try g held pages before after some none h.tries notes outcome left h.is fits
 
 -- ---- takes from the pending pages
 
@@ -129,32 +123,30 @@ dropped-owed g page held pages rest b is unmapped mapped (inr there) =
     ]
 
 took-by : (g : Geometry) (held : List ℕ) (after : Option ℕ → Sequence) → ((page : ℕ) → is_mapped g page ≡ true → ClearsAfter g (page ∷ held) (after (Some page)))
-    → (n : ℕ) → ClearsAfter g held (TakesMappedTry g Pending after n) → (before : Own) (pages rest : List ℕ) (page : ℕ) → pages ≡ page ∷ rest → (b : Bool) → is_mapped g page ≡ b → (back : Notes) (outcome : MigratorOutcome) → Either b (after (Some page)) (TakesMappedTry g Pending after n) back outcome
-    → FitsPending rest (noted_turns back) → Clears g before held pages (own_noted back)
-took-by g held after some n again before pages rest page first true is back outcome h fits =
-    owed-more g before held (page ∷ held) pages rest (own_noted back) (λ b mapped owed. took-owed page held pages rest b first owed) (some page is before rest back outcome h fits)
-took-by g held after some n again before pages rest page first false is back outcome h fits =
-    owed-more g before held held pages rest (own_noted back) (λ b mapped owed. dropped-owed g page held pages rest b first is mapped owed) (again before rest back outcome h fits)
+    → (n : ℕ) → ClearsAfter g held (TakesMappedTry g Pending after n) → (before : Own) (pages rest : List ℕ) (page : ℕ) → pages ≡ page ∷ rest → (b : Bool) → is_mapped g page ≡ b → (back : Notes) (outcome : MigratorOutcome) (left : List ℕ) → Either b (after (Some page)) (TakesMappedTry g Pending after n) back outcome
+    → FitsLane Pending rest (noted_turns back) left → Clears g before held pages (own_noted back) left
+took-by g held after some n again before pages rest page first true is back outcome left h fits =
+    owed-more g before held (page ∷ held) pages rest (own_noted back) left (λ b mapped owed. took-owed page held pages rest b first owed) (some page is before rest back outcome left h fits)
+took-by g held after some n again before pages rest page first false is back outcome left h fits =
+    owed-more g before held held pages rest (own_noted back) left (λ b mapped owed. dropped-owed g page held pages rest b first is mapped owed) (again before rest back outcome left h fits)
 
-take-pending-by : (g : Geometry) (held : List ℕ) (after : Option ℕ → Sequence) → ((page : ℕ) → is_mapped g page ≡ true → ClearsAfter g (page ∷ held) (after (Some page))) → ((before : Own) → ClearsWith g before held [] (after None))
-    → (n : ℕ) → ClearsAfter g held (TakesMappedTry g Pending after n) → (before : Own) (pages : List ℕ) (end : Option ℕ) (notes front back : Notes) (outcome : MigratorOutcome) → notes ≡ front ++ back → IsTake Pending front end → Taken g (TakesMappedTry g Pending after n) after end back outcome
-    → FitsPending pages (noted_turns notes) → Clears g before held pages (own_noted notes)
-take-pending-by g held after some none n again before pages None notes front back outcome is take h fits =
-    let s = one-turn pages notes front back (turn.Take Pending) TookNone is take.is refl fits in
-    let C : Own → Type 0 = λ l. Clears g before held pages l in
-    let P : List ℕ → Type 0 = λ l. Clears g before held l (own_noted back) in
-    let F : List ℕ → Type 0 = λ l. FitsPending l (noted_turns back) in
-    subst C (sym s.own) (subst P (sym s.fits.1.0.0) (none before back outcome h (subst F s.fits.1.0.1 s.fits.1.1)))
-take-pending-by g held after some none n again before pages (Some page) notes front back outcome is take h fits =
-    let s = one-turn pages notes front back (turn.Take Pending) (Took page) is take.is refl fits in
-    let C : Own → Type 0 = λ l. Clears g before held pages l in
-    subst C (sym s.own) (took-by g held after some n again before pages s.fits.0 page s.fits.1.0 (is_mapped g page) refl back outcome h s.fits.1.1)
+take-pending-by : (g : Geometry) (held : List ℕ) (after : Option ℕ → Sequence) → ((page : ℕ) → is_mapped g page ≡ true → ClearsAfter g (page ∷ held) (after (Some page))) → ClearsAfter g held (after None)
+    → (n : ℕ) → ClearsAfter g held (TakesMappedTry g Pending after n) → (before : Own) (pages : List ℕ) (end : Option ℕ) (notes front back : Notes) (outcome : MigratorOutcome) (left : List ℕ) → notes ≡ front ++ back → IsTake Pending front end → Taken g (TakesMappedTry g Pending after n) after end back outcome
+    → FitsLane Pending pages (noted_turns notes) left → Clears g before held pages (own_noted notes) left
+take-pending-by g held after some none n again before pages None notes front back outcome left is take h fits =
+    let s = one-turn pages left notes front back (turn.Take Pending) TookNone is take.is refl fits in
+    let C : Own → Type 0 = λ l. Clears g before held pages l left in
+    subst C (sym s.own) (none before pages back outcome left h s.fits)
+take-pending-by g held after some none n again before pages (Some page) notes front back outcome left is take h fits =
+    let s = one-turn pages left notes front back (turn.Take Pending) (Took page) is take.is refl fits in
+    let C : Own → Type 0 = λ l. Clears g before held pages l left in
+    subst C (sym s.own) (took-by g held after some n again before pages s.fits.0 page s.fits.1 (is_mapped g page) refl back outcome left h s.fits.2)
 
-take-pending-try : (g : Geometry) (held : List ℕ) (after : Option ℕ → Sequence) → ((page : ℕ) → is_mapped g page ≡ true → ClearsAfter g (page ∷ held) (after (Some page))) → ((before : Own) → ClearsWith g before held [] (after None))
+take-pending-try : (g : Geometry) (held : List ℕ) (after : Option ℕ → Sequence) → ((page : ℕ) → is_mapped g page ≡ true → ClearsAfter g (page ∷ held) (after (Some page))) → ClearsAfter g held (after None)
     → (n : ℕ) → ClearsAfter g held (TakesMappedTry g Pending after n)
-take-pending-try g held after some none zero before pages notes outcome h fits = absurd h
-take-pending-try g held after some none (suc n) before pages notes outcome h fits = take-pending-by g held after some none n (take-pending-try g held after some none n) before pages h.end notes h.front h.back outcome h.is h.shown h.rest fits
+take-pending-try g held after some none zero before pages notes outcome left h fits = absurd h
+take-pending-try g held after some none (suc n) before pages notes outcome left h fits = take-pending-by g held after some none n (take-pending-try g held after some none n) before pages h.end notes h.front h.back outcome left h.is h.shown h.rest fits
 
-pub takes-pending : (g : Geometry) (held : List ℕ) (after : Option ℕ → Sequence) → ((page : ℕ) → is_mapped g page ≡ true → ClearsAfter g (page ∷ held) (after (Some page))) → ((before : Own) → ClearsWith g before held [] (after None))
+pub takes-pending : (g : Geometry) (held : List ℕ) (after : Option ℕ → Sequence) → ((page : ℕ) → is_mapped g page ≡ true → ClearsAfter g (page ∷ held) (after (Some page))) → ClearsAfter g held (after None)
     → ClearsAfter g held (TakesMapped g Pending after)
-takes-pending g held after some none before pages notes outcome h fits = take-pending-try g held after some none h.tries before pages notes outcome h.is fits
+takes-pending g held after some none before pages notes outcome left h fits = take-pending-try g held after some none h.tries before pages notes outcome left h.is fits

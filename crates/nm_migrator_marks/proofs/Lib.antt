@@ -8,3 +8,4 @@ pub mod Moving
 pub mod Planning
 pub mod Unmarking
 pub mod Migrating
+pub mod Draining

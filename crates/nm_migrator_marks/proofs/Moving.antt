@@ -14,8 +14,8 @@ use Rattle.nm_locked.specs.Moves.{IsLockedInMove}
 use Rattle.nm_batch.specs.Places.{batch_made}
 use Rattle.nm_migrator_work.specs.declared.work.MigratorWork.TheVariants.{Mark, Looks, Cool, Batch, Move, Ask}
 use Rattle.nm_migrator_work.specs.Works.{MigratorWorkEnd, IsMigratorWork, made_batch, made_move}
-use Rattle.nm_migrator.specs.Ends.{batch_in, move_in, drawn_in, migrator_counts}
-use Rattle.nm_migrator.specs.Planned.{MigratorKept, again_of, where_again, is_again, batched, is_busy_move, kept_drawn}
+use Rattle.nm_migrator_work.specs.Ends.{batch_in, move_in, drawn_in, migrator_counts}
+use Rattle.nm_migrator_work.specs.Planned.{MigratorKept, again_of, where_again, is_again, batched, is_busy_move, kept_drawn}
 use Rattle.nm_migrator.specs.Migrating.{Sequence, Puts, MoveNext, MovesLocked, PutNext, AfterBatch, Batches}
 use Rattle.nm_marks.specs.Contents.{HasEvent}
 use Rattle.nm_marks.specs.Marks.{IsTakenBack}

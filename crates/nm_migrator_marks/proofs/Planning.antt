@@ -2,17 +2,16 @@
 use Rattle.std.proofs.Common.{◌≡◌, ℕ, zero, suc, ◌⊎◌, Bool, true, false, List, [], ◌∷◌, ◌++◌, length, slice_index, Option, refl, inl, inr}
 use Rattle.nm_base.specs.Geometry.{Geometry}
 use Rattle.nm_action.specs.declared.turn.Lane.{Lane}
-use Rattle.nm_action.specs.Own.{Own}
 use Rattle.nm_vpages.specs.VPages.{vpages_of}
 use Rattle.nm_part.specs.Patterns.{Either}
 use Rattle.nm_worker.specs.Notes.{Notes}
 use Rattle.nm_migrator_work.specs.Works.{IsMigratorWork, made_looks}
-use Rattle.nm_migrator.specs.Ends.{looks_in, migrator_counts}
-use Rattle.nm_migrator.specs.Planned.{MigratorKept, is_among, Plan, no_plan, is_moved_locked, first_or, planned, planned_by}
+use Rattle.nm_migrator_work.specs.Ends.{looks_in, migrator_counts}
+use Rattle.nm_migrator_work.specs.Planned.{MigratorKept, is_among, Plan, no_plan, is_moved_locked, first_or, planned, planned_by}
 use Rattle.nm_migrator.specs.Migrating.{Sequence, Puts, Plans, AfterTakes, PendingTaken, TakesPending}
 use Rattle.nm_note_marks.specs.Contents.{own_noted}
 use Rattle.nm_migrator_marks.proofs.Among.{IsAmong, among-left, among-right, among-either, pages_of, pages-more}
-use Rattle.nm_migrator_marks.proofs.Clearing.{ClearsWith, ClearsAfter, does-clears, owed-more}
+use Rattle.nm_migrator_marks.proofs.Clearing.{ClearsAfter, does-clears, owed-more}
 use Rattle.nm_migrator_marks.proofs.Lanes.{puts-clears, takes-pending}
 use Rattle.nm_migrator_marks.proofs.Works.{look-returns}
 use Rattle.nm_migrator_marks.proofs.Heating.{NextClears}
@@ -20,13 +19,13 @@ use Rattle.nm_migrator_marks.proofs.Moving.{batches-clears}
 
 -- fewer pages are held
 pub held-fewer : {O : Type 0} (g : Geometry) (held later : List ℕ) (pattern : Notes → O → Type 0) → ((b : ℕ) → IsAmong b held → IsAmong b later) → ClearsAfter g later pattern → ClearsAfter g held pattern
-held-fewer g held later pattern so h before pages notes outcome shown fits =
-    owed-more g before held later pages pages (own_noted notes)
+held-fewer g held later pattern so h before pages notes outcome left shown fits =
+    owed-more g before held later pages pages (own_noted notes) left
     (λ b mapped owed. elim owed [
       | inl mine ↦ inl (so b mine)
       | inr queued ↦ inr queued
     ])
-    (h before pages notes outcome shown fits)
+    (h before pages notes outcome left shown fits)
 
 -- ---- the plan
 
@@ -83,10 +82,10 @@ takes-more g after some zero page taken = some page taken
 takes-more g after some (suc more) page taken =
     takes-pending g (page ∷ taken) (PendingTaken after (TakesPending g after more) (page ∷ taken))
     (λ b mapped. took-page g after (TakesPending g after more) (page ∷ taken) b (λ is. some page taken) (takes-more g after some more page (taken ++ b ∷ [])) (is_among b (page ∷ taken)) refl)
-    (λ before. some page taken before [])
+    (some page taken)
 
 -- none was taken yet
-pub takes-clears : (g : Geometry) (after : List ℕ → Sequence) → ((page : ℕ) (taken : List ℕ) → ClearsAfter g (page ∷ taken) (after (page ∷ taken))) → ((before : Own) → ClearsWith g before [] [] (after [])) → (more : ℕ) → ClearsAfter g [] (TakesPending g after (suc more) [])
+pub takes-clears : (g : Geometry) (after : List ℕ → Sequence) → ((page : ℕ) (taken : List ℕ) → ClearsAfter g (page ∷ taken) (after (page ∷ taken))) → ClearsAfter g [] (after []) → (more : ℕ) → ClearsAfter g [] (TakesPending g after (suc more) [])
 takes-clears g after some none more =
     takes-pending g [] (PendingTaken after (TakesPending g after more) [])
     (λ b mapped. took-page g after (TakesPending g after more) [] b (λ is. absurd (cc)) (takes-more g after some more b []) (is_among b []) refl)

@@ -7,21 +7,22 @@ use Rattle.nm_base.specs.Geometry.{Geometry, page_count}
 use Rattle.nm_base.specs.Ranges.{IsPage}
 use Rattle.nm_action.specs.declared.action.Action.TheVariants as action
 use Rattle.nm_action.specs.declared.turn.Lane.{Lane}
-use Rattle.nm_action.specs.declared.turn.Lane.TheVariants.{Candidates}
+use Rattle.nm_action.specs.declared.turn.Lane.TheVariants.{Candidates, Pending}
 use Rattle.nm_action.specs.Own.{Own}
 use Rattle.nm_part.specs.Patterns.{Either}
-use Rattle.nm_worker.specs.Notes.{Notes}
+use Rattle.nm_actor.specs.Alone.{FitsLane}
+use Rattle.nm_worker.specs.Notes.{Notes, noted_turns}
 use Rattle.nm_migrator_work.specs.declared.work.MigratorWork.TheVariants.{Mark, Looks, Cool, Batch, Move, Ask}
 use Rattle.nm_migrator_work.specs.Works.{MigratorWorkEnd, IsMigratorWork, made_mark, made_ask}
-use Rattle.nm_migrator.specs.Ends.{all_ended_in, migrator_counts}
-use Rattle.nm_migrator.specs.Planned.{MigratorKept}
+use Rattle.nm_migrator_work.specs.Ends.{all_ended_in, migrator_counts}
+use Rattle.nm_migrator_work.specs.Planned.{MigratorKept}
 use Rattle.nm_migrator.specs.Migrating.{Sequence, TakesMapped, Unmarks, AfterLast, Asks}
 use Rattle.nm_marks.proofs.Contents.{has-left, has-right}
 use Rattle.nm_unmarked.specs.Unmarking.{IsEndSeen, IsCandidateTakenBack}
 use Rattle.nm_note_marks.specs.Contents.{own_noted}
 use Rattle.nm_migrator_marks.proofs.Asking.{all-seen}
 use Rattle.nm_migrator_marks.proofs.Among.{IsAmong}
-use Rattle.nm_migrator_marks.proofs.Clearing.{Clears, ClearsWith, AreAllSeen, does-clears}
+use Rattle.nm_migrator_marks.proofs.Clearing.{Clears, ClearsWith, ClearsAfter, AreAllSeen, does-clears}
 use Rattle.nm_migrator_marks.proofs.Lanes.{takes-candidates}
 use Rattle.nm_migrator_marks.proofs.Works.{unmark-returns, ask-returns}
 use Rattle.nm_migrator_marks.proofs.Heating.{NextClears, judges-clears}
@@ -70,9 +71,10 @@ left-after g page left before own end seen h all b here = elim (all b here) [
   | inr swept ↦ inr (swept-more g b before own swept)
 ]
 
-unmarks-clears : (g : Geometry) (left : List ℕ) (kept : MigratorKept) (before : Own) → AreAllSeen g before → AreLeft g before left → ClearsWith g before [] [] (Unmarks g left kept)
-unmarks-clears g [] kept before seen all notes outcome h fits =
-    let C : Notes → Type 0 = λ l. Clears g before [] [] (own_noted l) in
+unmarks-clears : (g : Geometry) (left : List ℕ) (kept : MigratorKept) (before : Own) (pages : List ℕ) → AreAllSeen g before → AreLeft g before left → ClearsWith g before [] pages (Unmarks g left kept)
+unmarks-clears g [] kept before pages seen all notes outcome last h fits =
+    let C : Notes → Type 0 = λ l. Clears g before [] pages (own_noted l) last in
+    let F : Notes → Type 0 = λ l. FitsLane Pending pages (noted_turns l) last in
     subst C (sym h.none) (record {
       marks = tt;
       swept = λ b here.
@@ -84,36 +86,38 @@ unmarks-clears g [] kept before seen all notes outcome h fits =
       back = λ b. tt;
       paid = λ b mapped owed. elim owed [
         | inl none ↦ absurd none
-        | inr none ↦ absurd none
+        | inr queued ↦
+            let A : List ℕ → Type 0 = λ l. IsAmong b l in
+            inr (mapped, subst A (sym (subst F h.none fits)) queued)
       ];
     })
-unmarks-clears g (page ∷ left) kept before seen all notes outcome h fits =
-    does-clears g before [] [] IsMigratorWork migrator_counts (made_mark page 1 0) (λ end. Unmarks g left kept) (unmark-returns g page)
+unmarks-clears g (page ∷ left) kept before pages seen all notes outcome last h fits =
+    does-clears g before [] pages IsMigratorWork migrator_counts (made_mark page 1 0) (λ end. Unmarks g left kept) (unmark-returns g page)
     (λ own end shown. record {
       later = [];
       kept = λ b none. absurd none;
-      clear = unmarks-clears g left kept (before ++ own) (λ cpu there. has-left (IsEndSeen cpu) before own (seen cpu there)) (left-after g page left before own end seen shown all);
+      clear = unmarks-clears g left kept (before ++ own) pages (λ cpu there. has-left (IsEndSeen cpu) before own (seen cpu there)) (left-after g page left before own end seen shown all);
     })
-    notes outcome h fits
+    notes outcome last h fits
 
 -- ---- the question whether all have ended
 
-after-last : (g : Geometry) (next : Lane → MigratorKept → Sequence) (kept : MigratorKept) (before : Own) → NextClears g next → AreAllSeen g before → ClearsWith g before [] [] (TakesMapped g Candidates (AfterLast g next kept))
-after-last g next kept before n seen =
-    takes-candidates g [] [] before (AfterLast g next kept) (λ page mapped. judges-clears g next kept page mapped n before [])
-    (unmarks-clears g (range_with_len 0 (page_count g)) kept before seen (λ b here. inl (among-range 0 (page_count g) b (omega (arith)) (omega (arith, here)))))
+after-last : (g : Geometry) (next : Lane → MigratorKept → Sequence) (kept : MigratorKept) (before : Own) (pages : List ℕ) → NextClears g next → AreAllSeen g before → ClearsWith g before [] pages (TakesMapped g Candidates (AfterLast g next kept))
+after-last g next kept before pages n seen =
+    takes-candidates g [] pages before (AfterLast g next kept) (λ page mapped. judges-clears g next kept page mapped n before pages)
+    (unmarks-clears g (range_with_len 0 (page_count g)) kept before pages seen (λ b here. inl (among-range 0 (page_count g) b (omega (arith)) (omega (arith, here)))))
 
-asked : (g : Geometry) (next : Lane → MigratorKept → Sequence) (kept : MigratorKept) (before own : Own) (end : MigratorWorkEnd) → NextClears g next → IsMigratorWork (made_ask g) g own end
-    → ClearsWith g (before ++ own) [] [] (Either (all_ended_in end) (TakesMapped g Candidates (AfterLast g next kept)) (next Candidates kept))
-asked g next kept before own (Mark reply) n h = absurd h
-asked g next kept before own (Looks found) n h = absurd h
-asked g next kept before own (Cool end) n h = absurd h
-asked g next kept before own (Batch told) n h = absurd h
-asked g next kept before own (Move told) n h = absurd h
-asked g next kept before own (Ask true) n h = after-last g next kept (before ++ own) n (λ cpu there. has-right (IsEndSeen cpu) before own (all-seen g own h cpu there))
-asked g next kept before own (Ask false) n h = n Candidates kept (before ++ own) []
+asked : (g : Geometry) (next : Lane → MigratorKept → Sequence) (kept : MigratorKept) (before own : Own) (pages : List ℕ) (end : MigratorWorkEnd) → NextClears g next → IsMigratorWork (made_ask g) g own end
+    → ClearsWith g (before ++ own) [] pages (Either (all_ended_in end) (TakesMapped g Candidates (AfterLast g next kept)) (next Candidates kept))
+asked g next kept before own pages (Mark reply) n h = absurd h
+asked g next kept before own pages (Looks found) n h = absurd h
+asked g next kept before own pages (Cool end) n h = absurd h
+asked g next kept before own pages (Batch told) n h = absurd h
+asked g next kept before own pages (Move told) n h = absurd h
+asked g next kept before own pages (Ask true) n h = after-last g next kept (before ++ own) pages n (λ cpu there. has-right (IsEndSeen cpu) before own (all-seen g own h cpu there))
+asked g next kept before own pages (Ask false) n h = n Candidates kept (before ++ own) pages
 
-pub asks-clears : (g : Geometry) (next : Lane → MigratorKept → Sequence) (kept : MigratorKept) (before : Own) → NextClears g next → ClearsWith g before [] [] (Asks g next kept)
-asks-clears g next kept before n =
-    does-clears g before [] [] IsMigratorWork migrator_counts (made_ask g) (λ end. Either (all_ended_in end) (TakesMapped g Candidates (AfterLast g next kept)) (next Candidates kept)) (ask-returns g)
-    (λ own end shown. record { later = []; kept = λ b none. absurd none; clear = asked g next kept before own end n shown })
+pub asks-clears : (g : Geometry) (next : Lane → MigratorKept → Sequence) (kept : MigratorKept) → NextClears g next → ClearsAfter g [] (Asks g next kept)
+asks-clears g next kept n before pages =
+    does-clears g before [] pages IsMigratorWork migrator_counts (made_ask g) (λ end. Either (all_ended_in end) (TakesMapped g Candidates (AfterLast g next kept)) (next Candidates kept)) (ask-returns g)
+    (λ own end shown. record { later = []; kept = λ b none. absurd none; clear = asked g next kept before own pages end n shown })

@@ -1,3 +1,4 @@
 pub mod Off
 pub mod Stepping
 pub mod Fitting
+pub mod Leaving

@@ -2,6 +2,9 @@
 
 ghost use Rattle.std.specs.Prelude.{ℕ, List, []};
 ghost use Rattle.nm_base.specs.Geometry.{Geometry};
+ghost use Rattle.nm_action.specs.declared.turn.Lane.TheVariants.{Pending};
+ghost use Rattle.nm_actor.specs.Alone.{FitsLane};
+ghost use Rattle.nm_actor.specs.Turns.{Turns, IsDrained};
 ghost use Rattle.nm_script.specs.declared.schedule.Schedule.{Schedule};
 ghost use Rattle.nm_schedule.specs.declared.turn.Played.{Played};
 ghost use Rattle.nm_schedule.specs.Played.{turns_by};
@@ -13,4 +16,9 @@ ghost use Rattle.nm_pending.specs.PendingTurns.{FitsPending, HasPendingAlone};
 pub fn the_lane_pending_is_first_in_first_out()
     ensures { (g : Geometry) (schedule : Schedule) (played : List Played) (actor : ℕ) → IsScheduled g schedule played
         → HasPendingAlone g actor played → FitsPending [] (turns_by actor played) }
+{}
+
+/// Where the last that such an actor did in the lane was to find it empty, the lane is empty after its turns.
+pub fn a_drained_lane_is_left_empty()
+    ensures { (turns : Turns) → FitsPending [] turns → IsDrained Pending turns → FitsLane Pending [] turns [] }
 {}

@@ -13,11 +13,11 @@ use Rattle.nm_queue.proofs.Fifo.{leaves-left, fifo_now}
 use Rattle.nm_queue.proofs.Numbers.{times}
 
 -- how often a page stands in a list
-abbrev copies : ℕ → List ℕ → ℕ
+abbrev pub copies : ℕ → List ℕ → ℕ
 copies page xs = count_by (λ b. b == page) xs
 
 -- a count over the parts of some passes in a history
-abbrev over_parts : (LaneMove → Bool) → List ℕ → History → ℕ
+abbrev pub over_parts : (LaneMove → Bool) → List ℕ → History → ℕ
 over_parts p passes h = sum_by (λ r. count_by p (moves_by r h)) passes
 
 -- by one pass: a move more counts where it is the pass's own
@@ -58,7 +58,7 @@ over_more p (r ∷ rs) m h =
     ∙ ap (λ x. cond {A = ℕ} (p m.move) (times m.pass (r ∷ rs)) 0 + x) (sym (sum_by-cons (λ q. count_by p (moves_by q h)) r rs))
 
 -- where each move's pass stands in it once, the parts have each move once
-over_whole : (p : LaneMove → Bool) (passes : List ℕ) (h : History) → All (λ m. times m.pass passes ≡ 1) h → over_parts p passes h ≡ count_by p (map (λ m. m.move) h)
+pub over_whole : (p : LaneMove → Bool) (passes : List ℕ) (h : History) → All (λ m. times m.pass passes ≡ 1) h → over_parts p passes h ≡ count_by p (map (λ m. m.move) h)
 over_whole p passes [] once = none passes
   where
     none : (rs : List ℕ) → over_parts p rs [] ≡ 0
@@ -89,7 +89,7 @@ over_lists p k whole =
     ∙ sym (sum_by-cons (λ q. count_by p (moves_by q k.seen)) k.number (map (λ j. j.number) k.joined))
     ∙ over_whole p (pass_numbers k) k.seen whole.each
 
-put_copies : (page : ℕ) (h : History) → copies page (pages_put h) ≡ count_by (is_put page) (map (λ m. m.move) h)
+pub put_copies : (page : ℕ) (h : History) → copies page (pages_put h) ≡ count_by (is_put page) (map (λ m. m.move) h)
 put_copies page [] = refl
 put_copies page (m ∷ h) = by m.move (put_copies page h)
   where
@@ -97,7 +97,7 @@ put_copies page (m ∷ h) = by m.move (put_copies page h)
     by (put b) again = sum_by-cons (λ x. cond {A = ℕ} (x == page) 1 0) b (pages_put h) ∙ ap (λ x. cond {A = ℕ} (b == page) 1 0 + x) again ∙ sym (sum_by-cons (λ x. cond {A = ℕ} (is_put page x) 1 0) (put b) (map (λ x. x.move) h))
     by (took b) again = again ∙ sym (sum_by-cons (λ x. cond {A = ℕ} (is_put page x) 1 0) (took b) (map (λ x. x.move) h) ∙ (let c : ℕ = count_by (is_put page) (map (λ x. x.move) h) in let e : 0 + c ≡ c = omega arith in e))
 
-taken_copies : (page : ℕ) (h : History) → copies page (pages_taken h) ≡ count_by (is_took page) (map (λ m. m.move) h)
+pub taken_copies : (page : ℕ) (h : History) → copies page (pages_taken h) ≡ count_by (is_took page) (map (λ m. m.move) h)
 taken_copies page [] = refl
 taken_copies page (m ∷ h) = by m.move (taken_copies page h)
   where

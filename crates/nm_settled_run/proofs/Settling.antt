@@ -3,22 +3,32 @@ use Rattle.std.proofs.Common.{◌≡◌, ℕ, ◌+◌, ◌<◌, ◌==◌, ◌&&�
 use Rattle.nm_base.specs.Geometry.{Geometry, IsGeometry}
 use Rattle.nm_action.specs.declared.action.Event.{Event}
 use Rattle.nm_action.specs.declared.tally.Tally.{Tally}
+use Rattle.nm_action.specs.declared.turn.Lane.TheVariants.{Pending}
 use Rattle.nm_view.specs.Opening.{IsActor}
 use Rattle.nm_core.specs.Roles.{IsSettled}
 use Rattle.nm_core.specs.Runs.{IsRun, state_after}
 use Rattle.nm_core.specs.State.{actor_count}
+use Rattle.nm_actor.specs.Turns.{Turns}
+use Rattle.nm_actor.specs.Alone.{FitsLane}
 use Rattle.nm_script.specs.Plain.{Script}
 use Rattle.nm_schedule.specs.declared.turn.Played.{Played}
 use Rattle.nm_schedule.specs.declared.turn.SimTurn.{SimTurn}
-use Rattle.nm_schedule.specs.Played.{has_ended, events_of, order_of}
+use Rattle.nm_schedule.specs.Played.{turns_by, has_ended, events_of, order_of}
 use Rattle.nm_schedule.specs.Picks.{most_turns}
 use Rattle.nm_crew.specs.Crewed.{counts_at}
 use Rattle.nm_sched.specs.Plain.{SimRun}
 use Rattle.nm_sched.specs.Runs.{IsRunOfScript}
-use Rattle.nm_settled_play.proofs.Ending.{all-ended, settled-turns}
-use Rattle.nm_settled_play.proofs.Marking.{unmarked-turns}
+use Rattle.nm_play.proofs.Own.{own-turns}
+use Rattle.nm_programs.specs.Cpus.{program_of}
+use Rattle.nm_pending.specs.PendingTurns.{FitsPending}
+use Rattle.nm_pending.proofs.Fitting.{fits-lane}
+use Rattle.nm_pending.proofs.Leaving.{drained-fits}
+use Rattle.nm_settled_play.proofs.Ending.{all-ended}
+use Rattle.nm_settled_turns.specs.EndedParts.{AreEndedParts}
+use Rattle.nm_settled_turns.proofs.Parts.{others-off, drained}
+use Rattle.nm_settled_turns.proofs.Settling.{parts-settle}
 use Rattle.nm_settled_run.specs.AllEnded.{has_ended_in, HaveAllEnded}
-use Rattle.nm_settled_run.proofs.Parts.{AreAllEnded, marks-back, ended-turns}
+use Rattle.nm_settled_run.proofs.Parts.{AreAllEnded, parts-ended}
 
 -- the order of some turns tells who has ended
 ended-in : (actor : ℕ) (played : List Played) → has_ended played actor ≡ has_ended_in (order_of played) actor
@@ -36,7 +46,11 @@ settled-by script run is shown ended =
     let S : List Event → Type 0 = λ l. IsSettled (state_after g l) in
     let lasts : IsRun g (events_of played) = subst R sim.listed sim.run in
     let all : AreAllEnded script run played tally = record { ended = ended; cpus = shown.cpus; migrator = shown.migrator; reclaimer = shown.reclaimer } in
-    subst S (sym sim.listed) (settled-turns g played is lasts (ended-turns script run played tally all) (unmarked-turns g played is lasts (marks-back script run played tally all sim.scheduled)))
+    let turns : ℕ → Turns = λ actor. turns_by actor played in
+    let parts : AreEndedParts g (program_of script) script.retry turns = parts-ended script run played tally all in
+    let queued : FitsPending [] (turns_by g.cpus played) = fits-lane g script.schedule played g.cpus sim.scheduled (others-off g (program_of script) script.retry turns parts) in
+    let fits : FitsLane Pending [] (turns_by g.cpus played) [] = drained-fits (turns_by g.cpus played) queued (drained g (program_of script) script.retry turns parts Pending) in
+    subst S (sym sim.listed) (parts-settle g (events_of played) (program_of script) script.retry turns is lasts (λ actor. own-turns actor played) parts fits)
 
 pub settled-run : (script : Script) (run : SimRun) → IsGeometry script.geometry → IsRunOfScript script run → HaveAllEnded script.geometry run.order → IsSettled (state_after script.geometry run.events)
 settled-run script run is shown all =

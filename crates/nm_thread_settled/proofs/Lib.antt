@@ -1,0 +1,4 @@
+pub mod Parts
+pub mod Passing
+pub mod Counting
+pub mod Settling
