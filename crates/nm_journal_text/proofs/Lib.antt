@@ -1,0 +1,10 @@
+pub mod Ends
+pub mod Processors
+pub mod Completing
+pub mod Beginning
+pub mod More
+pub mod Wrong
+pub mod Lines
+pub mod Firsts
+pub mod OneVerdict
+pub mod Differences
