@@ -1,38 +1,29 @@
 -- The two faults, each as a part.
-use Rattle.std.specs.Prelude.{◌≡◌, []}
 use Rattle.nm_base.specs.Geometry.{Geometry}
 use Rattle.nm_action.specs.declared.action.Action.{Action}
 use Rattle.nm_action.specs.Own.{Own}
 use Rattle.nm_view.specs.Views.{View}
-use Rattle.nm_compose.specs.declared.act.Act.{Act}
-use Rattle.nm_compose.specs.Acts.{IsAct}
+use Rattle.nm_compose.specs.Acts.{AwaitsAct}
 use Rattle.nm_compose.specs.Choices.{AwaitsOr}
 use Rattle.nm_compose.specs.Composites.{HasFirst, IsRunning}
 use Rattle.nm_compose.specs.Stages.{IsPieceAt}
 use Rattle.nm_prepare.specs.Placing.{IsPlanPlaced}
 use Rattle.nm_pool.specs.Stages.{AwaitsPool}
-use Rattle.nm_copying.specs.Zeroing.{IsZeroing, zeroes_left, zeroes_stages}
+use Rattle.nm_copying.specs.Runs.{AwaitsZeroesRun}
 use Rattle.nm_shadow_fault.specs.declared.locks.Locks.{Locks}
 use Rattle.nm_shadow_fault.specs.Locking.{AwaitsLock}
 use Rattle.nm_shadow_fault.specs.ShadowFault.{IsShadowFault}
 use Rattle.nm_shadow_fault.specs.Granting.{FaultsMade, fault_made, MayFault, fault_piece_made, IsNewFaultPiece, MayFaultPiece, IsFaultPiece, fault_left, shadow_stages}
 use Rattle.nm_missing_fault.specs.SearchTasks.{AwaitsSearch}
 use Rattle.nm_missing_fault.specs.MissingFault.{IsMissingFault}
-use Rattle.nm_missing_fault.specs.Pieces.{ZeroesPart, missing_piece_made, IsNewMissingPiece, MayMissingPiece, IsMissingPiece}
+use Rattle.nm_missing_fault.specs.Pieces.{missing_piece_made, IsNewMissingPiece, MayMissingPiece, IsMissingPiece}
 use Rattle.nm_missing_fault.specs.Stages.{missing_piece_of, missing_left, KnownInMissing}
 use Rattle.nm_fault.specs.declared.run.MissingTask.{MissingTask}
 use Rattle.nm_fault.specs.declared.run.ShadowTask.{ShadowTask}
 
--- a page that is locked, a single action and the words that are set to 0, as pieces, await an answer
-
+-- a page that is locked, as a piece, awaits an answer
 abbrev pub LockAwaits : Locks → Geometry → View → Own → Action → Type 0
 LockAwaits p = AwaitsLock p.page
-
-abbrev pub OneAwaits : Act → Geometry → View → Own → Action → Type 0
-OneAwaits p g view own action = (own ≡ []) × (action ≡ p.action)
-
-abbrev pub ZeroesAwaits : ZeroesPart → Geometry → View → Own → Action → Type 0
-ZeroesAwaits c = IsRunning IsAct (OneAwaits c.piece) (IsPieceAt zeroes_stages c.plan.made c.plan.stage) (zeroes_left c.plan.made c.plan.stage) (IsZeroing c.plan.made) c.piece.action
 
 -- The missing fault: what it was begun with, in which geometry; that it has given no action; that it awaits an answer.
 
@@ -44,7 +35,7 @@ IsNewMissing t = HasFirst missing_piece_made IsNewMissingPiece MayMissingPiece I
     MayFault (λ (made : FaultsMade). IsMissingFault made.1) (missing_of t) t.run.piece
 
 abbrev pub AwaitsMissing : MissingTask → Geometry → View → Own → Action → Type 0
-AwaitsMissing t = IsRunning IsMissingPiece (AwaitsOr LockAwaits (AwaitsOr OneAwaits (AwaitsOr AwaitsSearch ZeroesAwaits)) t.run.piece) (IsPlanPlaced missing_piece_of KnownInMissing t.run.plan.geometry.now t.run.plan.made t.run.plan.stage) (missing_left t.run.plan.made t.run.plan.stage)
+AwaitsMissing t = IsRunning IsMissingPiece (AwaitsOr LockAwaits (AwaitsOr AwaitsAct (AwaitsOr AwaitsSearch AwaitsZeroesRun)) t.run.piece) (IsPlanPlaced missing_piece_of KnownInMissing t.run.plan.geometry.now t.run.plan.made t.run.plan.stage) (missing_left t.run.plan.made t.run.plan.stage)
     (IsMissingFault t.run.plan.made) (missing_piece_made t.run.piece)
 
 -- The fault on a page that is read-only for its shadow, likewise.
@@ -57,5 +48,5 @@ IsNewShadow t = HasFirst fault_piece_made IsNewFaultPiece MayFaultPiece IsFaultP
     MayFault (λ (made : FaultsMade). IsShadowFault made.1) (shadow_of t) t.run.piece
 
 abbrev pub AwaitsShadow : ShadowTask → Geometry → View → Own → Action → Type 0
-AwaitsShadow t = IsRunning IsFaultPiece (AwaitsOr LockAwaits (AwaitsOr OneAwaits AwaitsPool) t.run.piece) (IsPieceAt shadow_stages (shadow_of t) t.run.plan.stage) (fault_left (shadow_of t) t.run.plan.stage)
+AwaitsShadow t = IsRunning IsFaultPiece (AwaitsOr LockAwaits (AwaitsOr AwaitsAct AwaitsPool) t.run.piece) (IsPieceAt shadow_stages (shadow_of t) t.run.plan.stage) (fault_left (shadow_of t) t.run.plan.stage)
     (IsShadowFault t.run.plan.made) (fault_piece_made t.run.piece)

@@ -7,16 +7,14 @@ use Rattle.nm_action.specs.declared.action.Reply.{Reply}
 use Rattle.nm_action.specs.Own.{Own}
 use Rattle.nm_view.specs.Views.{View}
 use Rattle.nm_compose.specs.declared.act.Act.{Act}
-use Rattle.nm_compose.specs.declared.composite.Composite.{Composite}
 use Rattle.nm_compose.specs.declared.or.Or.{Or}
 use Rattle.nm_compose.specs.declared.or.Or.TheVariants.{This, Other}
 use Rattle.nm_compose.specs.Acts.{MayAct, IsAct, IsActed}
 use Rattle.nm_compose.specs.Choices.{or_made, IsNewOr, MayBeginOr, IsOr, LeavesOr}
-use Rattle.nm_compose.specs.Composites.{HasFirst}
-use Rattle.nm_compose.specs.Stages.{IsPieceAt}
-use Rattle.nm_copying.specs.declared.zeroes.Zeroes.{Zeroes}
+use Rattle.nm_copying.specs.declared.zero_run.ZeroesRun.{ZeroesRun}
 use Rattle.nm_copying.specs.declared.zeroes.ZeroesMade.{ZeroesMade}
-use Rattle.nm_copying.specs.Zeroing.{MayZeroes, IsZeroing, IsZeroed, zeroes_left, zeroes_stages}
+use Rattle.nm_copying.specs.Runs.{zeroes_run_made, IsNewZeroesRun}
+use Rattle.nm_copying.specs.Zeroing.{MayZeroes, IsZeroing, IsZeroed}
 use Rattle.nm_reclaim.specs.Reclaims.{word_in}
 use Rattle.nm_missing_fault.specs.declared.search.SearchMade.{SearchMade}
 use Rattle.nm_missing_fault.specs.Searching.{IsSearch}
@@ -26,11 +24,8 @@ use Rattle.nm_missing_fault.specs.SearchTasks.{search_of, IsNewSearch}
 use Rattle.nm_shadow_fault.specs.declared.locks.Locks.{Locks}
 use Rattle.nm_shadow_fault.specs.Locking.{LocksPage, MayLocks, LeavesLocked}
 
-abbrev pub ZeroesPart : Type 0
-ZeroesPart = Composite Zeroes Act
-
 abbrev pub MissingPiece : Type 0
-MissingPiece = Or Locks (Or Act (Or SearchTask ZeroesPart))
+MissingPiece = Or Locks (Or Act (Or SearchTask ZeroesRun))
 
 -- what they are made with, and how they end
 abbrev pub MissingPieceMade : Type 0
@@ -40,15 +35,12 @@ abbrev pub MissingPieceEnd : Type 0
 MissingPieceEnd = Or (Unit {0}) (Or Reply (Or ℕ (Unit {0})))
 
 abbrev pub missing_piece_made : MissingPiece → MissingPieceMade
-missing_piece_made = or_made (λ p. p.page) (or_made (λ a. a.action) (or_made search_of (λ c. c.plan.made)))
+missing_piece_made = or_made (λ p. p.page) (or_made (λ a. a.action) (or_made search_of zeroes_run_made))
 
 -- they have given no action
 
-abbrev pub IsNewZeroes : ZeroesPart → Type 0
-IsNewZeroes c = HasFirst (λ (a : Act). a.action) (λ a. Unit {0}) (λ action g view. MayAct g view action) IsAct (IsPieceAt zeroes_stages c.plan.made c.plan.stage) (zeroes_left c.plan.made c.plan.stage) MayZeroes IsZeroing c.plan.made c.piece
-
 abbrev pub IsNewMissingPiece : MissingPiece → Type 0
-IsNewMissingPiece = IsNewOr (λ p. Unit {0}) (IsNewOr (λ a. Unit {0}) (IsNewOr IsNewSearch IsNewZeroes))
+IsNewMissingPiece = IsNewOr (λ p. Unit {0}) (IsNewOr (λ a. Unit {0}) (IsNewOr IsNewSearch IsNewZeroesRun))
 
 -- when they may begin, their finished lists, and what they leave
 

@@ -6,8 +6,6 @@ use Rattle.nm_action.specs.Own.{Own}
 use Rattle.nm_view.specs.Views.{View}
 use Rattle.nm_part.specs.Patterns.{Sometimes}
 use Rattle.nm_compose.specs.Choices.{or_made, IsNewOr, MayBeginOr, IsOr, LeavesOr}
-use Rattle.nm_compose.specs.Composites.{HasFirst}
-use Rattle.nm_compose.specs.Stages.{IsPieceAt}
 use Rattle.nm_compose.specs.declared.or.Or.{Or}
 use Rattle.nm_compose.specs.declared.or.Or.TheVariants.{This, Other}
 use Rattle.nm_pool.specs.declared.job.PoolEnd.{PoolEnd}
@@ -22,7 +20,9 @@ use Rattle.nm_obtain.specs.declared.obtain.ObtainMade.{ObtainMade}
 use Rattle.nm_obtain.specs.declared.obtain.Obtained.{Obtained}
 use Rattle.nm_obtain.specs.Obtains.{IsObtain}
 use Rattle.nm_obtain.specs.Obtaining.{MayObtain, IsObtained}
-use Rattle.nm_obtain.specs.Searching.{ObtainPart, obtain_parts, IsNewObtainPiece, MayObtainPiece, IsObtainPiece, IsPoolTask, obtain_made, obtain_left, obtain_stages}
+use Rattle.nm_obtain.specs.declared.run.ObtainRun.{ObtainRun}
+use Rattle.nm_obtain.specs.Runs.{obtain_run_made, IsNewObtainRun}
+use Rattle.nm_obtain.specs.Searching.{IsPoolTask, obtain_made}
 use Rattle.nm_missing_fault.specs.declared.search.SearchMade.{SearchMade}
 use Rattle.nm_missing_fault.specs.declared.search.SearchStage.{SearchStage}
 use Rattle.nm_missing_fault.specs.declared.search.SearchStage.TheVariants.{New, TakingAboveLow, Obtaining, TakingLast}
@@ -32,7 +32,7 @@ use Rattle.nm_missing_fault.specs.Found.{MaySearch}
 -- Pieces: a task on the free frames, or a frame of a tier is sought.
 
 abbrev pub SearchPiece : Type 0
-SearchPiece = Or PoolTask ObtainPart
+SearchPiece = Or PoolTask ObtainRun
 
 -- what they are made with, and how they end
 abbrev pub SearchPieceMade : Type 0
@@ -41,20 +41,13 @@ SearchPieceMade = Or PoolMade (Geometry × ObtainMade)
 abbrev pub SearchPieceEnd : Type 0
 SearchPieceEnd = Or PoolEnd Obtained
 
-abbrev pub obtain_part_made : ObtainPart → Geometry × ObtainMade
-obtain_part_made c = obtain_made c.plan.geometry.now c.plan.made
-
 abbrev pub search_piece_made : SearchPiece → SearchPieceMade
-search_piece_made = or_made made_of obtain_part_made
+search_piece_made = or_made made_of obtain_run_made
 
 -- they have given no action
 
-abbrev pub IsNewObtainPart : ObtainPart → Type 0
-IsNewObtainPart c = HasFirst obtain_parts IsNewObtainPiece MayObtainPiece IsObtainPiece (IsPieceAt obtain_stages (obtain_part_made c) c.plan.stage) (obtain_left (obtain_part_made c) c.plan.stage)
-    (λ (made : Geometry × ObtainMade) g view. MayObtain made.0 made.1 g view) (λ (made : Geometry × ObtainMade) g own outcome. IsObtain made.1 g own outcome) (obtain_part_made c) c.piece
-
 abbrev pub IsNewSearchPiece : SearchPiece → Type 0
-IsNewSearchPiece = IsNewOr IsNewPool IsNewObtainPart
+IsNewSearchPiece = IsNewOr IsNewPool IsNewObtainRun
 
 -- when they may begin, their finished lists, and what they leave
 

@@ -9,8 +9,8 @@ ghost use Rattle.nm_missing_fault.specs.Stages.{missing_piece_of, HasMappedFrame
 
 use crate::search::SearchTask;
 use nm_base::{Geometry, PageWord};
-use nm_compose::{Act, Composite, Next, Or, Plan};
-use nm_copying::Zeroes;
+use nm_compose::{Act, Next, Or, Plan};
+use nm_copying::{Zeroes, ZeroesRun};
 use nm_event::{Action, Cell, Reply};
 use nm_shadow_fault::{FaultEnd, FaultMade, Locks};
 
@@ -46,7 +46,7 @@ pub(crate) enum MissingStage {
 }
 
 /// A piece of the fault: the page is locked, a single action, a frame is sought, or the words of a frame are set to 0.
-pub type MissingPiece<'a> = Or<Locks, Or<Act, Or<SearchTask<'a>, Composite<Zeroes, Act>>>>;
+pub type MissingPiece<'a> = Or<Locks, Or<Act, Or<SearchTask<'a>, ZeroesRun>>>;
 
 /// How a piece of the fault ends.
 pub(crate) type MissingPieceEnd = Or<(), Or<Reply, Or<u32, ()>>>;
@@ -150,7 +150,7 @@ impl<'a> MissingFault<'a> {
                 return Or::Other(Or::Other(Or::This(SearchTask::new(g, page))))
             }
             MissingStage::Zeroing(frame) => {
-                return Or::Other(Or::Other(Or::Other(Composite::new(Zeroes::new(g, frame)))))
+                return Or::Other(Or::Other(Or::Other(ZeroesRun::new(Zeroes::new(g, frame)))))
             }
             MissingStage::SettingHome(frame) => Action::SetHome { page, frame },
             MissingStage::Mapping {

@@ -9,7 +9,7 @@ ghost use Rattle.nm_missing_fault.specs.SearchStages.{search_piece_made, search_
 use nm_base::Geometry;
 use nm_compose::{Composite, Next, Or, Plan};
 use nm_event::{Action, Reply, Step};
-use nm_obtain::{Obtain, ObtainPiece, Obtained};
+use nm_obtain::{Obtain, ObtainRun, Obtained};
 use nm_part::{Part, Piece};
 use nm_policy::Watermarks;
 use nm_pool::{PoolEnd, PoolTask};
@@ -35,7 +35,7 @@ pub(crate) enum SearchStage {
 }
 
 /// A piece of a search: a task on the free frames, or a frame of a tier is sought.
-pub type SearchPiece<'a> = Or<PoolTask, Composite<Obtain<'a>, ObtainPiece<'a>>>;
+pub type SearchPiece<'a> = Or<PoolTask, ObtainRun<'a>>;
 
 /// How a piece of a search ends.
 pub type SearchPieceEnd = Or<PoolEnd, Obtained>;
@@ -104,7 +104,7 @@ impl<'a> FrameSearch<'a> {
                 Or::This(PoolTask::take(g, 0, Watermarks::of(g.tiers[0]).low))
             }
             SearchStage::Obtaining(tier) => {
-                Or::Other(Composite::new(Obtain::new(g, self.made.page, tier)))
+                Or::Other(ObtainRun::new(Obtain::new(g, self.made.page, tier)))
             }
             SearchStage::TakingLast => Or::This(PoolTask::take(g, 0, 0)),
         }

@@ -3,18 +3,17 @@ use Rattle.nm_base.specs.Geometry.{Geometry}
 use Rattle.nm_action.specs.declared.action.Action.{Action}
 use Rattle.nm_action.specs.Own.{Own}
 use Rattle.nm_view.specs.Views.{View}
-use Rattle.nm_compose.specs.Acts.{AwaitsAct}
 use Rattle.nm_compose.specs.Choices.{AwaitsOr}
 use Rattle.nm_compose.specs.Composites.{HasFirst, IsRunning}
 use Rattle.nm_compose.specs.Stages.{IsPieceAt}
 use Rattle.nm_pool.specs.Stages.{AwaitsPool}
-use Rattle.nm_reclaim.specs.Sweeping.{sweep_piece_made, IsSweepPiece, IsSweep, sweep_stages, sweep_left}
+use Rattle.nm_reclaim.specs.Runs.{AwaitsSweepRun}
 use Rattle.nm_obtain.specs.declared.obtain.ObtainMade.{ObtainMade}
 use Rattle.nm_obtain.specs.declared.obtain.Obtained.{Obtained}
 use Rattle.nm_obtain.specs.declared.run.ObtainRun.{ObtainRun}
 use Rattle.nm_obtain.specs.Obtains.{IsObtain}
 use Rattle.nm_obtain.specs.Obtaining.{MayObtain}
-use Rattle.nm_obtain.specs.Searching.{SweepPart, sweep_part_made, obtain_parts, IsNewObtainPiece, MayObtainPiece, IsObtainPiece, obtain_made, obtain_left, obtain_stages}
+use Rattle.nm_obtain.specs.Searching.{obtain_parts, IsNewObtainPiece, MayObtainPiece, IsObtainPiece, obtain_made, obtain_left, obtain_stages}
 
 abbrev pub ObtainData : Type 0
 ObtainData = Geometry × ObtainMade
@@ -33,9 +32,6 @@ abbrev pub IsNewObtainRun : ObtainRun → Type 0
 IsNewObtainRun r = HasFirst obtain_parts IsNewObtainPiece MayObtainPiece IsObtainPiece (IsPieceAt obtain_stages (obtain_made r.run.plan.geometry.now r.run.plan.made) r.run.plan.stage) (obtain_left (obtain_made r.run.plan.geometry.now r.run.plan.made) r.run.plan.stage)
     MayObtainOf IsObtainOf (obtain_made r.run.plan.geometry.now r.run.plan.made) r.run.piece
 
-abbrev pub SweepAwaited : SweepPart → Geometry → View → Own → Action → Type 0
-SweepAwaited c = IsRunning IsSweepPiece (AwaitsOr AwaitsAct AwaitsPool c.piece) (IsPieceAt sweep_stages (sweep_part_made c) c.plan.place) (sweep_left (sweep_part_made c) c.plan.place) (IsSweep (sweep_part_made c)) (sweep_piece_made c.piece)
-
 -- it awaits the answer that its piece awaits
 abbrev pub AwaitsObtainRun : ObtainRun → Geometry → View → Own → Action → Type 0
-AwaitsObtainRun r = IsRunning IsObtainPiece (AwaitsOr AwaitsPool SweepAwaited r.run.piece) (IsPieceAt obtain_stages (obtain_made r.run.plan.geometry.now r.run.plan.made) r.run.plan.stage) (obtain_left (obtain_made r.run.plan.geometry.now r.run.plan.made) r.run.plan.stage) (λ g own outcome. IsObtain r.run.plan.made g own outcome) (obtain_parts r.run.piece)
+AwaitsObtainRun r = IsRunning IsObtainPiece (AwaitsOr AwaitsPool AwaitsSweepRun r.run.piece) (IsPieceAt obtain_stages (obtain_made r.run.plan.geometry.now r.run.plan.made) r.run.plan.stage) (obtain_left (obtain_made r.run.plan.geometry.now r.run.plan.made) r.run.plan.stage) (λ g own outcome. IsObtain r.run.plan.made g own outcome) (obtain_parts r.run.piece)

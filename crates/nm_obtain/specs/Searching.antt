@@ -5,10 +5,7 @@ use Rattle.nm_base.specs.Ranges.{IsTier}
 use Rattle.nm_action.specs.Own.{Own}
 use Rattle.nm_view.specs.Views.{View}
 use Rattle.nm_compose.specs.Choices.{or_made, IsNewOr, MayBeginOr, IsOr, LeavesOr}
-use Rattle.nm_compose.specs.Composites.{HasFirst}
-use Rattle.nm_compose.specs.Stages.{Stages, IsPieceAt}
-use Rattle.nm_compose.specs.declared.act.Act.{Act}
-use Rattle.nm_compose.specs.declared.composite.Composite.{Composite}
+use Rattle.nm_compose.specs.Stages.{Stages}
 use Rattle.nm_compose.specs.declared.or.Or.{Or}
 use Rattle.nm_compose.specs.declared.or.Or.TheVariants.{This, Other}
 use Rattle.nm_pool.specs.Pool.{IsPool}
@@ -20,9 +17,10 @@ use Rattle.nm_pool.specs.declared.job.PoolEnd.TheVariants as pools
 use Rattle.nm_pool.specs.declared.job.PoolJob.TheVariants.{Take}
 use Rattle.nm_pool.specs.declared.job.PoolMade.{PoolMade}
 use Rattle.nm_pool.specs.declared.task.PoolTask.{PoolTask}
-use Rattle.nm_reclaim.specs.declared.sweep.Sweep.{Sweep}
+use Rattle.nm_reclaim.specs.declared.run.SweepRun.{SweepRun}
+use Rattle.nm_reclaim.specs.Runs.{sweep_run_made, IsNewSweepRun}
 use Rattle.nm_reclaim.specs.Swept.{IsSwept}
-use Rattle.nm_reclaim.specs.Sweeping.{SweptMade, sweep_made, sweep_piece_made, IsNewSweepPiece, MaySweepPiece, IsSweepPiece, MaySweep, IsSweep, SweepLeaves, sweep_stages, sweep_left}
+use Rattle.nm_reclaim.specs.Sweeping.{SweptMade, MaySweep, IsSweep, SweepLeaves}
 use Rattle.nm_reclaim.specs.Tasks.{first_visited}
 use Rattle.nm_obtain.specs.declared.obtain.Obtain.{Obtain}
 use Rattle.nm_obtain.specs.declared.obtain.ObtainMade.{ObtainMade}
@@ -52,28 +50,15 @@ IsObtainPiece = IsOr IsPoolTask IsSweep
 abbrev pub ObtainPieceLeaves : ObtainParts → Geometry → View → ObtainPieceEnd → View → Type 0
 ObtainPieceLeaves = LeavesOr (λ (made : PoolMade) g view end left. given.Leaves g made.job view end left) SweepLeaves
 
-abbrev pub SweepPart : Type 0
-SweepPart = Composite Sweep (Or Act PoolTask)
-
-abbrev pub sweep_part_made : SweepPart → SweptMade
-sweep_part_made c = sweep_made c.plan.geometry.now c.plan.made
-
-abbrev pub IsNewSweepPart : SweepPart → Type 0
-IsNewSweepPart c = HasFirst sweep_piece_made IsNewSweepPiece MaySweepPiece IsSweepPiece (IsPieceAt sweep_stages (sweep_part_made c) c.plan.place) (sweep_left (sweep_part_made c) c.plan.place) MaySweep IsSweep (sweep_part_made c) c.piece
-
 abbrev pub ObtainPiece : Type 0
-ObtainPiece = Or PoolTask SweepPart
-
--- the search as a part
-abbrev pub ObtainPart : Type 0
-ObtainPart = Composite Obtain ObtainPiece
+ObtainPiece = Or PoolTask SweepRun
 
 -- the data of a piece, and that it has given no action
 abbrev pub obtain_parts : ObtainPiece → ObtainParts
-obtain_parts = or_made made_of sweep_part_made
+obtain_parts = or_made made_of sweep_run_made
 
 abbrev pub IsNewObtainPiece : ObtainPiece → Type 0
-IsNewObtainPiece = IsNewOr IsNewPool IsNewSweepPart
+IsNewObtainPiece = IsNewOr IsNewPool IsNewSweepRun
 
 -- What the search is made with.
 

@@ -10,9 +10,9 @@ ghost use Rattle.nm_obtain.specs.Searching.{obtain_parts, IsNewObtainPiece, IsNe
 ghost use Rattle.nm_obtain.specs.declared.obtain.Stage.{Stage};
 
 use nm_base::Geometry;
-use nm_compose::{Composite, Next, Or, Plan};
+use nm_compose::{Next, Or, Plan};
 use nm_pool::{PoolEnd, PoolTask};
-use nm_reclaim::{ReclaimMade, Sweep, SweepMade, SweepPiece, first_visited};
+use nm_reclaim::{ReclaimMade, Sweep, SweepMade, SweepRun, first_visited};
 
 /// What the search for a frame is made with.
 #[derive(Clone, Copy, Debug, PartialEq, Eq)]
@@ -46,7 +46,7 @@ pub(crate) enum Stage {
 }
 
 /// A piece of the search: a task on the free frames, or the visits of Reclaim.
-pub type ObtainPiece<'a> = Or<PoolTask, Composite<Sweep<'a>, SweepPiece>>;
+pub type ObtainPiece<'a> = Or<PoolTask, SweepRun<'a>>;
 
 /// The search for a frame of a tier inside an operation on a page: the least free one is taken; where none is free, shadows
 /// in the tier are reclaimed, and it is tried once more.
@@ -92,7 +92,7 @@ impl<'a> Obtain<'a> {
     {
         self.stage = Stage::Reclaiming(first);
         let asked = reclaim_for(self.made);
-        Or::Other(Composite::new(Sweep::new(self.geometry, SweepMade { asked, first })))
+        Or::Other(SweepRun::new(Sweep::new(self.geometry, SweepMade { asked, first })))
     }
 }
 

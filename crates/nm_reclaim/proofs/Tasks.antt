@@ -13,13 +13,10 @@ use Rattle.nm_reclaim.specs.declared.sweep.ReclaimMade.{ReclaimMade}
 use Rattle.nm_reclaim.specs.Reclaims.{pages_from, pages_visited, VisitsAll, IsReclaim}
 use Rattle.nm_reclaim.specs.Swept.{MayReclaim, IsSwept}
 use Rattle.nm_reclaim.specs.Sweeping.{SweptMade, IsPageVisited, MaySweep, IsSweep, SweepLeaves, next_visited}
-use Rattle.nm_compose.specs.declared.composite.Composite.{Composite}
-use Rattle.nm_compose.specs.declared.act.Act.{Act}
-use Rattle.nm_compose.specs.declared.or.Or.{Or}
-use Rattle.nm_pool.specs.declared.task.PoolTask.{PoolTask}
-use Rattle.nm_reclaim.specs.declared.sweep.Sweep.{Sweep}
+use Rattle.nm_reclaim.specs.declared.run.SweepRun.{SweepRun}
 use Rattle.nm_reclaim.specs.declared.task.Work.{Work}
 use Rattle.nm_reclaim.specs.declared.task.Work.TheVariants.{Nothing, Visits}
+use Rattle.nm_reclaim.specs.Runs.{sweep_run_made, IsNewSweepRun, AwaitsSweepRun}
 use Rattle.nm_reclaim.specs.Tasks.{first_visited, TaskMade, MayTask, IsSweepFor, IsNewSweep, IsNewWork, IsAwaitedSweep, AwaitsWork, freed_by}
 use Rattle.nm_reclaim.proofs.Pages.{IsNextPage, next-page, pages-next}
 use Rattle.nm_reclaim.proofs.Sweeping.{over-left}
@@ -107,10 +104,10 @@ task-step made sweep now awaits ended g view own (Over freed) same for kept h =
 
 -- What is told of the work.
 
-pub nothing-left : (is_new : Composite Sweep (Or Act PoolTask) → Type 0) (sweep_by : Composite Sweep (Or Act PoolTask) → SweptMade) (made : TaskMade) (work : Work) (g : Geometry) (view : View)
-    → work ≡ Nothing → IsNewWork is_new sweep_by made work → MayTask made g view → first_visited g made.1 ≡ None
-nothing-left is_new sweep_by made work g view is new may =
-    let W : Work → Type 0 = λ w. IsNewWork is_new sweep_by made w in
+pub nothing-left : (made : TaskMade) (work : Work) (g : Geometry) (view : View)
+    → work ≡ Nothing → IsNewWork made work → MayTask made g view → first_visited g made.1 ≡ None
+nothing-left made work g view is new may =
+    let W : Work → Type 0 = λ w. IsNewWork made w in
     let F : Geometry → Type 0 = λ k. first_visited k made.1 ≡ None in
     subst F may.same (subst W is new)
 
@@ -118,15 +115,15 @@ pub nothing-freed : (work : Work) → work ≡ Nothing → freed_by work ≡ 0
 nothing-freed work is = let W : Work → Type 0 = λ w. freed_by w ≡ 0 in subst W (sym is) refl
 
 -- the sweep of new work is for that work
-pub new-sweep : (is_new : Composite Sweep (Or Act PoolTask) → Type 0) (sweep_by : Composite Sweep (Or Act PoolTask) → SweptMade) (made : TaskMade) (work : Work) (sweep : Composite Sweep (Or Act PoolTask))
-    → work ≡ Visits sweep → IsNewWork is_new sweep_by made work → IsSweepFor made (sweep_by sweep)
-new-sweep is_new sweep_by made work sweep is new =
-    let W : Work → Type 0 = λ w. IsNewWork is_new sweep_by made w in
-    let n : IsNewSweep (is_new sweep) made (sweep_by sweep) = subst W is new in
+pub new-sweep : (made : TaskMade) (work : Work) (sweep : SweepRun)
+    → work ≡ Visits sweep → IsNewWork made work → IsSweepFor made (sweep_run_made sweep)
+new-sweep made work sweep is new =
+    let W : Work → Type 0 = λ w. IsNewWork made w in
+    let n : IsNewSweep (IsNewSweepRun sweep) made (sweep_run_made sweep) = subst W is new in
     n.for
 
 -- what is awaited, the sweep awaits
-pub awaited-sweep : (awaits : Composite Sweep (Or Act PoolTask) → Geometry → View → Own → Action → Type 0) (sweep_by : Composite Sweep (Or Act PoolTask) → SweptMade) (made : TaskMade) (work : Work) (sweep : Composite Sweep (Or Act PoolTask)) (g : Geometry) (view : View) (own : Own) (action : Action)
-    → work ≡ Visits sweep → AwaitsWork awaits sweep_by made work g view own action → IsAwaitedSweep (awaits sweep g view own action) made (sweep_by sweep) g
-awaited-sweep awaits sweep_by made work sweep g view own action is h =
-    let W : Work → Type 0 = λ w. AwaitsWork awaits sweep_by made w g view own action in subst W is h
+pub awaited-sweep : (made : TaskMade) (work : Work) (sweep : SweepRun) (g : Geometry) (view : View) (own : Own) (action : Action)
+    → work ≡ Visits sweep → AwaitsWork made work g view own action → IsAwaitedSweep (AwaitsSweepRun sweep g view own action) made (sweep_run_made sweep) g
+awaited-sweep made work sweep g view own action is h =
+    let W : Work → Type 0 = λ w. AwaitsWork made w g view own action in subst W is h

@@ -1,4 +1,5 @@
 pub mod Reclaims
 pub mod Swept
 pub mod Sweeping
+pub mod Runs
 pub mod Tasks

@@ -4,17 +4,13 @@ use Rattle.nm_base.specs.Geometry.{Geometry}
 use Rattle.nm_action.specs.declared.action.Action.{Action}
 use Rattle.nm_action.specs.Own.{Own}
 use Rattle.nm_view.specs.Views.{View}
-use Rattle.nm_compose.specs.declared.composite.Composite.{Composite}
-use Rattle.nm_compose.specs.declared.act.Act.{Act}
-use Rattle.nm_compose.specs.declared.or.Or.{Or}
-use Rattle.nm_pool.specs.declared.task.PoolTask.{PoolTask}
 use Rattle.nm_reclaim.specs.declared.sweep.ReclaimMade.{ReclaimMade}
-use Rattle.nm_reclaim.specs.declared.sweep.Sweep.{Sweep}
 use Rattle.nm_reclaim.specs.declared.task.ReclaimTask.{ReclaimTask}
 use Rattle.nm_reclaim.specs.declared.task.Work.{Work}
 use Rattle.nm_reclaim.specs.declared.task.Work.TheVariants.{Nothing, Visits}
 use Rattle.nm_reclaim.specs.Swept.{MayReclaim}
 use Rattle.nm_reclaim.specs.Sweeping.{next_visited, SweptMade}
+use Rattle.nm_reclaim.specs.Runs.{sweep_run_made, IsNewSweepRun, AwaitsSweepRun}
 
 -- the first page that is visited
 abbrev pub first_visited : Geometry → ReclaimMade → Option ℕ
@@ -31,8 +27,6 @@ pub record MayTask (made : TaskMade) (g : Geometry) (view : View) : Type 0 where
   pub same : made.0 ≡ g
   pub may : MayReclaim made.1 g view
 
--- What the sweep inside tells of itself, as a part, stands in for C.
-
 -- the sweep that makes up a piece of work
 pub record IsSweepFor (made : TaskMade) (sweep : SweptMade) : Type 0 where
   pub same : sweep.0 ≡ made.0
@@ -44,9 +38,9 @@ pub record IsNewSweep (is_new : Type 0) (made : TaskMade) (sweep : SweptMade) : 
   pub new : is_new
   pub for : IsSweepFor made sweep
 
-abbrev pub IsNewWork : (Composite Sweep (Or Act PoolTask) → Type 0) → (Composite Sweep (Or Act PoolTask) → SweptMade) → TaskMade → Work → Type 0
-IsNewWork is_new sweep_by made Nothing = first_visited made.0 made.1 ≡ None
-IsNewWork is_new sweep_by made (Visits work) = IsNewSweep (is_new work) made (sweep_by work)
+abbrev pub IsNewWork : TaskMade → Work → Type 0
+IsNewWork made Nothing = first_visited made.0 made.1 ≡ None
+IsNewWork made (Visits work) = IsNewSweep (IsNewSweepRun work) made (sweep_run_made work)
 
 -- the sweep awaits the answer
 pub record IsAwaitedSweep (awaits : Type 0) (made : TaskMade) (sweep : SweptMade) (g : Geometry) : Type 0 where
@@ -54,11 +48,11 @@ pub record IsAwaitedSweep (awaits : Type 0) (made : TaskMade) (sweep : SweptMade
   pub awaited : awaits
   pub for : IsSweepFor made sweep
 
-abbrev pub AwaitsWork : (Composite Sweep (Or Act PoolTask) → Geometry → View → Own → Action → Type 0) → (Composite Sweep (Or Act PoolTask) → SweptMade) → TaskMade → Work → Geometry → View → Own → Action → Type 0
-AwaitsWork awaits sweep_by made Nothing g view own action = ⊥
-AwaitsWork awaits sweep_by made (Visits work) g view own action = IsAwaitedSweep (awaits work g view own action) made (sweep_by work) g
+abbrev pub AwaitsWork : TaskMade → Work → Geometry → View → Own → Action → Type 0
+AwaitsWork made Nothing g view own action = ⊥
+AwaitsWork made (Visits work) g view own action = IsAwaitedSweep (AwaitsSweepRun work g view own action) made (sweep_run_made work) g
 
 -- how many were freed
 abbrev pub freed_by : Work → ℕ
 freed_by Nothing = 0
-freed_by (Visits work) = work.plan.place.freed
+freed_by (Visits work) = work.run.plan.place.freed

@@ -3,9 +3,9 @@
 ghost use Rattle.std.specs.Prelude.{◌≡◌};
 ghost use Rattle.nm_reclaim.specs.Tasks.{first_visited, task_made, IsNewWork, freed_by};
 
-use crate::sweep::{ReclaimMade, Sweep, SweepMade, SweepPiece, next_visited};
+use crate::run::SweepRun;
+use crate::sweep::{ReclaimMade, Sweep, SweepMade, next_visited};
 use nm_base::Geometry;
-use nm_compose::Composite;
 use nm_event::{Reply, Step};
 use nm_part::{Part, Piece};
 
@@ -15,7 +15,7 @@ pub(crate) enum Work<'a> {
     /// There is no page to visit.
     Nothing,
     /// It visits pages.
-    Visits(Composite<Sweep<'a>, SweepPiece>),
+    Visits(SweepRun<'a>),
 }
 
 /// Reclaim: each backing page but one is locked in turn, and where it has a shadow in the tier, the shadow is discarded and
@@ -49,11 +49,11 @@ impl<'a> ReclaimTask<'a> {
     /// the page that is skipped.
     pub fn begin(&mut self, tier: u32, want: u32, skip: Option<u32>)
         ensures made { task_made self.new ≡ (self.old.geometry.now, record { tier = tier; want = want; skip = skip }) }
-        ensures new { IsNewWork ⟦<Composite<Sweep<'a>, SweepPiece> as Part>⟧.is_new ⟦<Composite<Sweep<'a>, SweepPiece> as Part>⟧.made (task_made self.new) self.new.work }
+        ensures new { IsNewWork (task_made self.new) self.new.work }
     {
         self.asked = ReclaimMade { tier, want, skip };
         self.work = match first_visited(self.geometry, self.asked) {
-            Some(first) => Work::Visits(Composite::new(Sweep::new(
+            Some(first) => Work::Visits(SweepRun::new(Sweep::new(
                 self.geometry,
                 SweepMade {
                     asked: self.asked,
@@ -70,7 +70,7 @@ impl<'a> ReclaimTask<'a> {
     {
         match &self.work {
             Work::Nothing => 0,
-            Work::Visits(work) => work.plan().freed(),
+            Work::Visits(work) => work.freed(),
         }
     }
 }
@@ -99,7 +99,7 @@ impl<'a> Part for ReclaimTask<'a> {
 
     ghost made = { task_made };
 
-    ghost is_new = { λ task. IsNewWork ⟦<Composite<Sweep<'a>, SweepPiece> as Part>⟧.is_new ⟦<Composite<Sweep<'a>, SweepPiece> as Part>⟧.made (task_made task) task.work };
+    ghost is_new = { λ task. IsNewWork (task_made task) task.work };
 
     ghost may_begin = { MayTask };
 
@@ -107,7 +107,7 @@ impl<'a> Part for ReclaimTask<'a> {
 
     ghost leaves = { λ made g view freed left. IsSwept made.1.skip view left };
 
-    ghost awaits = { λ task. AwaitsWork ⟦<Composite<Sweep<'a>, SweepPiece> as Part>⟧.awaits ⟦<Composite<Sweep<'a>, SweepPiece> as Part>⟧.made (task_made task) task.work };
+    ghost awaits = { λ task. AwaitsWork (task_made task) task.work };
 
     ghost ended = { λ task g own freed. freed_by task.work ≡ freed };
 
