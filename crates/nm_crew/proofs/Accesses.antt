@@ -17,10 +17,10 @@ use Rattle.nm_schedule.specs.declared.turn.Played.{Played}
 use Rattle.nm_schedule.specs.Played.{turns_by, events_of}
 use Rattle.nm_play.proofs.Own.{own-turns}
 
-abbrev access_in : ℕ → Action × Reply → Option Access
+abbrev pub access_in : ℕ → Action × Reply → Option Access
 access_in cpu e = access_by cpu e.0 e.1
 
-abbrev own_accesses : ℕ → Own → List Access
+abbrev pub own_accesses : ℕ → Own → List Access
 own_accesses cpu own = filter_map (access_in cpu) own
 
 no-access : (cpu : ℕ) (action : Action) (reply : Reply) (accesses : List Access) (own : Own) (b : Bool) → access_by cpu action reply ≡ None → accesses ≡ own_accesses cpu own
@@ -44,7 +44,8 @@ one-event actor cpu (Add v i x) (Word gave) rest own h =
     an-access actor cpu (λ p. record { cpu = p; vpage = v; word = i; kind = kinds.Add gave x }) (Add v i x, Word gave) rest own (actor == cpu) (eqb-true actor cpu) refl h
 one-event actor cpu action reply rest own h = no-access cpu action reply (own_part_of cpu rest) own (actor == cpu) refl h
 
-accesses-own : (cpu : ℕ) (events : List Event) → own_part_of cpu (accesses_of events) ≡ own_accesses cpu (own_of cpu events)
+-- the accesses of a processor among events are those of its own list
+pub accesses-own : (cpu : ℕ) (events : List Event) → own_part_of cpu (accesses_of events) ≡ own_accesses cpu (own_of cpu events)
 accesses-own cpu [] = refl
 accesses-own cpu (e ∷ events) = one-event e.actor cpu e.action e.reply (accesses_of events) (own_of cpu events) (accesses-own cpu events)
 

@@ -53,12 +53,12 @@ run-front : (s : State) (front rest : List Event) → IsRunFrom s (front ++ rest
 run-front s [] rest run = tt
 run-front s (e ∷ front) rest run = (run.0, run-front (after_event s e) front rest run.1)
 
-facts-at : (g : Geometry) (events : List Event) → IsGeometry g → IsRun g events → (front rest : List Event) → events ≡ front ++ rest → HoldsOfRun g front
+pub facts-at : (g : Geometry) (events : List Event) → IsGeometry g → IsRun g events → (front rest : List Event) → events ≡ front ++ rest → HoldsOfRun g front
 facts-at g events is run front rest split = facts_in_run g front is (run-front (start g) front rest (subst (IsRun g) split run))
 
 -- ---- the tiers
 
-tier-at : (g : Geometry) (events : List Event) (end : EndWords) (tier : ℕ) → IsGeometry g → IsRun g events → (state_after g events).geometry ≡ g → IsEndOf (state_after g events) end → HasEndRoom g end → tier < length g.tiers → IsTierCounted (state_after g events) end tier
+pub tier-at : (g : Geometry) (events : List Event) (end : EndWords) (tier : ℕ) → IsGeometry g → IsRun g events → (state_after g events).geometry ≡ g → IsEndOf (state_after g events) end → HasEndRoom g end → tier < length g.tiers → IsTierCounted (state_after g events) end tier
 tier-at g events end tier is run machine ends room lt =
     let Room : Geometry → Type 0 = λ k. HasEndRoom k end in
     let There : Geometry → Type 0 = λ k. tier < length k.tiers in

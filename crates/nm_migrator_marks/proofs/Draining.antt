@@ -269,6 +269,13 @@ migrating-drained : (n : ℕ) (g : Geometry) (retry : Option ℕ) → Shows AreD
 migrating-drained zero g retry = from-drains g retry (nothing_kept g)
 migrating-drained (suc n) g retry = follows-drains (IsMigratingBy n g retry) (MigratesFrom g retry) (from-drains g retry)
 
+drained-both : (turns : Turns) → AreDrained turns → (lane : Lane) → IsDrained lane turns
+drained-both turns d Candidates = d.0
+drained-both turns d Pending = d.1
+
+-- so does one that goes on from what was kept
+pub sequence-drained : (g : Geometry) (retry : Option ℕ) (kept : MigratorKept) (notes : Notes) (outcome : MigratorKept) → MigratesFrom g retry kept notes outcome → (lane : Lane) → IsDrained lane (noted_turns notes)
+sequence-drained g retry kept notes outcome h = drained-both (noted_turns notes) (from-drains g retry kept notes outcome h)
+
 pub each-drained : (n : ℕ) (g : Geometry) (retry : Option ℕ) (notes : Notes) (kept : MigratorKept) → IsMigratingBy n g retry notes kept → (lane : Lane) → IsDrained lane (noted_turns notes)
-each-drained n g retry notes kept h Candidates = (migrating-drained n g retry notes kept h).0
-each-drained n g retry notes kept h Pending = (migrating-drained n g retry notes kept h).1
+each-drained n g retry notes kept h = drained-both (noted_turns notes) (migrating-drained n g retry notes kept h)
