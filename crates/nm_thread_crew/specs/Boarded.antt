@@ -104,12 +104,14 @@ pub record IsFinished {N : Type 0} (n : ℕ) (old new : BoardState N) : Type 0 w
   pub seats : (a : ℕ) → a ≢ n → new.seats a ≡ old.seats a
   pub lanes : (a : ℕ) → a ≢ n → new.lanes a ≡ old.lanes a
 
--- all actors of a machine have ended and stood, the last one of them after rest
+-- all actors of a machine have ended and stood, the last one of them after rest; of a number that is no actor's the board tells the lanes
+-- that it told
 pub record IsCrewDone {N C : Type 0} (cpu_agrees : C → Turns → Option Turn → Type 0) (reclaimer_agrees : Turns → Option Turn → Type 0) (cpus : List C) (old new : BoardState N) : Type 0 where
   pub is : new ≡ record old { seats = new.seats; lanes = new.lanes; rested = true }
   pub many : length cpus ≡ old.geometry.cpus
   pub each : AtEach (λ n c. HasStood new n (cpu_agrees c)) cpus
   pub reclaimer : HasStood new (old.geometry.cpus + 1) reclaimer_agrees
+  pub nobody : (a : ℕ) → old.geometry.cpus + 2 ≤ a → new.lanes a ≡ old.lanes a
 
 -- an actor that was made so sits at its place, and agrees with what its chair tells; the chair was not given rest
 pub record IsSeated {N M : Type 0} (b : BoardState N) (n : ℕ) (geometry : M → Geometry) (number : M → ℕ) (made : M) (agrees : Turns → Option Turn → Type 0) (last : Option Turn) (chair : ChairState N) : Type 0 where

@@ -142,7 +142,7 @@ fn run_seated<
     T: Threads + Wait + Sync,
     B: Board,
     C: Actor + Send + Drop,
-    M: Actor + Send,
+    M: Actor,
     R: Actor + Send,
 >(
     rt: &T,
@@ -183,7 +183,7 @@ pub fn run_crew<
     T: Threads + Wait + Sync,
     B: Board,
     C: Actor + Send + Drop,
-    M: Resumes + Send + Drop,
+    M: Resumes + Drop,
     R: Actor + Send + Drop,
 >(
     rt: &T,

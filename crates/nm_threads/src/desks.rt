@@ -30,14 +30,14 @@ impl<S: Stepper + PagePort, A: Actor> Runs for Desk<S, A> {
     }
 }
 
-/// Lets all actors of a machine run to their ends, each on a thread of its own where threads can be made, and else one after
-/// another. It may wait, and takes no memory. Conditions: each actor is to hear Start, and what it agrees with led to the view of
+/// Lets all actors of a machine run to their ends, each on a thread of its own where threads can be made, the migrator on that of the
+/// caller, and else one after another. It may wait, and takes no memory. Conditions: each actor is to hear Start, and what it agrees with led to the view of
 /// its chair.
 pub fn run_actors<
     T: Threads + Wait + Sync,
     S: Stepper + PagePort + Send,
     C: Actor + Send,
-    M: Actor + Send,
+    M: Actor,
     R: Actor + Send,
 >(rt: &T, cpus: &mut [Desk<S, C>], migrator: &mut Desk<S, M>, reclaimer: &mut Desk<S, R>)
     requires cpus { All (λ d. IsDeskReady C.geometry C.number (C.made d.actor) (C.agrees d.actor) (S.state d.chair)) cpus.old }
@@ -47,5 +47,5 @@ pub fn run_actors<
     ensures migrator { IsDeskDone M.geometry M.number (M.made migrator.old.actor) (M.made migrator.new.actor) (M.agrees migrator.old.actor) (M.agrees migrator.new.actor) (S.state migrator.old.chair) (S.state migrator.new.chair) }
     ensures reclaimer { IsDeskDone R.geometry R.number (R.made reclaimer.old.actor) (R.made reclaimer.new.actor) (R.agrees reclaimer.old.actor) (R.agrees reclaimer.new.actor) (S.state reclaimer.old.chair) (S.state reclaimer.new.chair) }
 {
-    run_all(rt, cpus, migrator, reclaimer);
+    run_all(rt, cpus, reclaimer, migrator);
 }
