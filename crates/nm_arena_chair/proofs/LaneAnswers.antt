@@ -1,12 +1,12 @@
 -- What a push and a pop of a chair's pass change of the chair's lane.
-use Rattle.std.proofs.Common.{◌≡◌, ℕ, ◌<◌, Bool, true, false, List, [], ◌∷◌, length, refl, sym, ap, ◌∙◌, subst, Option, Some, None, Result, Ok, Err, arith}
+use Rattle.std.proofs.Common.{◌≡◌, ℕ, ◌<◌, Bool, true, false, List, [], ◌∷◌, length, refl, ap, Option, Some, None, Result, Ok, Err, arith}
 use Rattle.std.specs.Prelude.{IfSome}
 use Rattle.std.specs.Option.{option_map}
 use Rattle.nm_action.specs.declared.turn.Full.{Full}
 use Rattle.nm_actor.specs.Lanes.{held_with, IsHeldWithout, IsPutAnswer, IsTakeAnswer}
 use Rattle.nm_queue.specs.Histories.{pages_left}
 use Rattle.nm_queue.specs.Passes.{PassState, QueueState, Known, PutThen, TookThen, HeldThen, IsPushAnswer, IsPopAnswer}
-use Rattle.nm_queue.proofs.Alone.{held_alone, room_alone, put_alone, taken_alone, alone_put, alone_taken}
+use Rattle.nm_queue.proofs.Alone.{held_alone, room_alone, put_alone, taken_alone}
 use Rattle.nm_arena_chair.specs.LaneFaces.{held_by, lane_by, IsAloneAt, IsPassAt}
 
 room-at : (rested : Bool) (capacity page : ℕ) (old new : Known) → IsAloneAt rested old → PutThen capacity page old new → IfSome (held_by rested capacity old) (λ h. length h.pages < h.capacity)
@@ -65,23 +65,6 @@ take-answer rested q old new None at refused = record {
   empty = empty-at rested q.capacity old.known at.alone refused.empty;
   is = ap (lane_by rested q.capacity) refused.is;
 }
-
--- the pass is still its queue's, and alone where it was
-alone-put-at : (rested : Bool) (capacity page : ℕ) (old new : Known) → IsAloneAt rested old → PutThen capacity page old new → IsAloneAt rested new
-alone-put-at false capacity page old new alone then = record { joined = ap (λ (k : Known). k.joined) then.is ∙ alone.joined; made = ap (λ (k : Known). k.made) then.is ∙ alone.made }
-alone-put-at true capacity page old new alone then = alone_put capacity page old new then alone
-
-alone-took-at : (rested : Bool) (page : ℕ) (old new : Known) → IsAloneAt rested old → TookThen page old new → IsAloneAt rested new
-alone-took-at false page old new alone then = record { joined = ap (λ (k : Known). k.joined) then.is ∙ alone.joined; made = ap (λ (k : Known). k.made) then.is ∙ alone.made }
-alone-took-at true page old new alone then = alone_taken page old new then alone
-
-pub pass-put : (rested : Bool) (q : QueueState) (page : ℕ) (old new : PassState) (result : Result Unit Full) → IsPassAt rested q old → IsPushAnswer q.capacity page old new result → IsPassAt rested q new
-pass-put rested q page old new (Ok u) at pushed = record { queue = ap (λ (p : PassState). p.queue) pushed.is ∙ at.queue; alone = alone-put-at rested q.capacity page old.known new.known at.alone pushed.known }
-pass-put rested q page old new (Err e) at refused = subst (IsPassAt rested q) (sym refused.is) (record { queue = at.queue; alone = at.alone })
-
-pub pass-took : (rested : Bool) (q : QueueState) (old new : PassState) (result : Option ℕ) → IsPassAt rested q old → IsPopAnswer old new result → IsPassAt rested q new
-pass-took rested q old new (Some page) at popped = record { queue = ap (λ (p : PassState). p.queue) popped.is ∙ at.queue; alone = alone-took-at rested page old.known new.known at.alone popped.known }
-pass-took rested q old new None at refused = subst (IsPassAt rested q) (sym refused.is) (record { queue = at.queue; alone = at.alone })
 
 -- the passes that were joined into it stay
 pub joined-put : (capacity page : ℕ) (old new : PassState) (result : Result Unit Full) → IsPushAnswer capacity page old new result → new.known.joined ≡ old.known.joined

@@ -1,3 +1,4 @@
 pub mod LaneAnswers
 pub mod Stepping
 pub mod Kept
+pub mod Order

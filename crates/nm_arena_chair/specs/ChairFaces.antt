@@ -1,11 +1,12 @@
 -- A chair over a running machine and two queues, as contracts see it.
-use Rattle.std.specs.Prelude.{◌≡◌, ℕ, ◌==◌, if◌then◌else◌, Bool, List, [], ◌∷◌, Option, Some, is_some}
+use Rattle.std.specs.Prelude.{◌≡◌, ℕ, suc, ◌==◌, if◌then◌else◌, List, [], ◌∷◌, length, Option, Some, None, is_some}
 use Rattle.std.specs.Option.{option_map}
 use Rattle.nm_actor.specs.Lanes.{LaneMove, LaneLists}
 use Rattle.nm_actor.specs.Chairs.{ChairState}
 use Rattle.nm_arena.specs.Faces.{ArenaFace, SeatFace}
 use Rattle.nm_arena.specs.Seats.{IsActorSeat}
-use Rattle.nm_queue.specs.Passes.{PassState, QueueState, Known, JoinedPass, IsAlone, with_joined}
+use Rattle.nm_queue.specs.Passes.{PassState, QueueState, Known, JoinedPass, with_joined}
+use Rattle.nm_queue.specs.Rules.{HasNoTwice}
 use Rattle.nm_arena_chair.specs.Names.{BoardName}
 use Rattle.nm_arena_chair.specs.LaneFaces.{lane_by, IsPassAt}
 
@@ -56,21 +57,46 @@ chair_state c = record {
   board = board_name c.arena c.candidates c.pending;
 }
 
+-- the moves of the first of these passes
+abbrev pub first_moves : List JoinedPass → List LaneMove
+first_moves [] = []
+first_moves (j ∷ passes) = j.moves
+
+-- that of a board was joined into a pass, which moved nothing, and so many others with it
+pub record HasTaken (many : ℕ) (k : Known) : Type 0 where
+  pub passes : length k.joined ≡ suc many
+  pub first : first_moves k.joined ≡ []
+
+-- the actors that stood before the last one, by its passes: none stands twice there, and none is the last one
+pub record IsLastOrder (actor : ℕ) (order : List ℕ) (mine own : Known) : Type 0 where
+  pub candidates : HasTaken (length order) mine
+  pub pending : HasTaken (length order) own
+  pub once : HasNoTwice (actor ∷ order)
+
+abbrev pub IsOthersKept : Option (List ℕ) → ℕ → Known → Known → Type 0
+IsOthersKept None actor mine own = Unit {0}
+IsOthersKept (Some order) actor mine own = IsLastOrder actor order mine own
+
 -- what a chair keeps
-pub record IsChairKept (arena : ArenaFace) (seat : SeatFace) (candidates : QueueState) (mine : PassState) (pending : QueueState) (own : PassState) (rested : Bool) : Type 0 where
+pub record IsChairKept (arena : ArenaFace) (seat : SeatFace) (candidates : QueueState) (mine : PassState) (pending : QueueState) (own : PassState) (before : Option (List ℕ)) : Type 0 where
   pub seated : IsActorSeat arena seat
-  pub candidate_pass : IsPassAt rested candidates mine
-  pub pending_pass : IsPassAt rested pending own
+  pub candidate_pass : IsPassAt (is_some before) candidates mine
+  pub pending_pass : IsPassAt (is_some before) pending own
+  pub others : IsOthersKept before seat.view.number mine.known own.known
 
--- a pass of this queue takes in another, after which no third one is left
-pub record IsLastJoin (q : QueueState) (other into : PassState) : Type 0 where
-  pub queue : other.queue ≡ q.name
-  pub alone : IsAlone (with_joined other.known into.known)
+-- the pass of a board when only the last chair's is left beside it: it moved nothing, took in so many others, and made all of these
+pub record IsBoardPass (q : QueueState) (many : ℕ) (p : PassState) : Type 0 where
+  pub queue : p.queue ≡ q.name
+  pub moves : p.known.moves ≡ []
+  pub joined : length p.known.joined ≡ many
+  pub made : p.known.made ≡ Some (suc (suc many))
 
--- a chair after it was given rest
-abbrev pub rested_face : PassState → PassState → List ℕ → ChairFace → ChairFace
-rested_face candidates pending order c = record c {
-  candidate_pass = record c.candidate_pass { known = with_joined candidates.known c.candidate_pass.known };
-  pending_pass = record c.pending_pass { known = with_joined pending.known c.pending_pass.known };
+-- a chair after it was given rest, by queues of the board and its passes of them
+abbrev pub rested_face : QueueState → PassState → QueueState → PassState → List ℕ → ChairFace → ChairFace
+rested_face candidates candidate_pass pending pending_pass order c = record c {
+  candidates = candidates;
+  candidate_pass = record c.candidate_pass { known = with_joined candidate_pass.known c.candidate_pass.known };
+  pending = pending;
+  pending_pass = record c.pending_pass { known = with_joined pending_pass.known c.pending_pass.known };
   others = Some order;
 }

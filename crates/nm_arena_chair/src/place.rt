@@ -1,13 +1,15 @@
 //! The place of an actor at a running machine and two queues.
 
-ghost use Rattle.std.specs.Prelude.{◌≡◌, false, None, is_some};
+ghost use Rattle.std.specs.Prelude.{◌≡◌, ◌∷◌, length, None};
 ghost use Rattle.std.specs.Option.{option_map};
 ghost use Rattle.nm_permit.specs.Permitted.{Allowed};
 ghost use Rattle.nm_event.specs.Fitting.{Fits};
 ghost use Rattle.nm_actor.specs.Lanes.{IsPutAnswer, IsTakeAnswer};
 ghost use Rattle.nm_actor.specs.Chairs.{lane_of, with_lane, stepped};
 ghost use Rattle.nm_queue.specs.Passes.{IsWholeHistory};
-ghost use Rattle.nm_arena_chair.specs.ChairFaces.{chair_state, IsChairKept, IsLastJoin, rested_face};
+ghost use Rattle.nm_queue.specs.Rules.{HasNoTwice};
+ghost use Rattle.nm_arena_chair.specs.LaneFaces.{IsSingle};
+ghost use Rattle.nm_arena_chair.specs.ChairFaces.{chair_state, IsChairKept, IsBoardPass, rested_face};
 
 use crate::lane::{put_in, take_from};
 use nm_action::{Action, Full, Lane, Reply};
@@ -30,7 +32,6 @@ pub struct Place<'a> {
 }
 
 impl<'a> Model for Place<'a> {
-    ghost use Rattle.std.specs.Prelude.{is_some};
     ghost use Rattle.std.specs.Option.{option_map};
     ghost use Rattle.nm_arena_chair.specs.ChairFaces.{ChairFace, IsChairKept};
 
@@ -46,12 +47,14 @@ impl<'a> Model for Place<'a> {
       others = option_map (λ v. v.items) c.others;
     } };
 
-    ghost invariant = { λ c. IsChairKept c.arena.now c.seat c.candidates.now c.candidate_pass c.pending.now c.pending_pass (is_some c.others) };
+    ghost invariant = { λ c. IsChairKept c.arena.now c.seat c.candidates.now c.candidate_pass c.pending.now c.pending_pass (option_map (λ v. v.items) c.others) };
 }
 
 impl<'a> Place<'a> {
     /// The number of the actor.
-    pub fn number(&self) -> u32 {
+    pub fn number(&self) -> u32
+        ensures { result ≡ self.now.seat.view.number }
+    {
         self.seat.view().number
     }
 
@@ -100,7 +103,7 @@ impl<'a> Place<'a> {
         pending: &'a PageQueue,
         pending_pass: QueuePass,
     ) -> Place<'a>
-        requires { IsChairKept arena.now seat candidates.now candidate_pass pending.now pending_pass false }
+        requires { IsChairKept arena.now seat candidates.now candidate_pass pending.now pending_pass None }
         ensures { result ≡ record { arena = arena.now; seat = seat; candidates = candidates.now; candidate_pass = candidate_pass; pending = pending.now; pending_pass = pending_pass; others = None } }
     {
         Place {
@@ -114,26 +117,35 @@ impl<'a> Place<'a> {
         }
     }
 
-    /// Gives the place rest: its passes take in those of the board, and it tells the lane lists of those that stood before, whose
-    /// numbers are `order`. Conditions: it was not given rest, each pass is its queue's, and no other pass is left of either
-    /// queue.
+    /// Gives the place rest: its passes take in those of the board, by the board's queues, and it tells the lane lists of those that
+    /// stood before, whose numbers are `order`. Conditions: it was not given rest; the queues are its own; each pass is its
+    /// queue's, moved nothing, took in one pass of each of these actors, and made no more than these and the place's; no actor
+    /// stands twice in `order`, nor does the place's own. Nothing had been joined into the place's passes before.
     pub fn give_rest<T: Wait>(
         &mut self,
         rt: &T,
-        candidates: QueuePass,
-        pending: QueuePass,
+        candidates: &'a PageQueue,
+        candidate_pass: QueuePass,
+        pending: &'a PageQueue,
+        pending_pass: QueuePass,
         order: Vec<u32>,
     )
         requires before { self.old.others ≡ None }
-        requires candidates { IsLastJoin self.old.candidates candidates self.old.candidate_pass }
-        requires pending { IsLastJoin self.old.pending pending self.old.pending_pass }
-        ensures given { self.new ≡ rested_face candidates pending order.items self.old }
+        requires candidate_queue { self.old.candidates.name ≡ candidates.now.name }
+        requires pending_queue { self.old.pending.name ≡ pending.now.name }
+        requires candidates { IsBoardPass candidates.now (length order.items) candidate_pass }
+        requires pending { IsBoardPass pending.now (length order.items) pending_pass }
+        requires once { HasNoTwice (self.old.seat.view.number ∷ order.items) }
+        ensures given { self.new ≡ rested_face candidates.now candidate_pass pending.now pending_pass order.items self.old }
         ensures candidates { IsWholeHistory self.new.candidate_pass.known }
         ensures pending { IsWholeHistory self.new.pending_pass.known }
+        ensures candidates_before { IsSingle self.old.candidate_pass.known }
+        ensures pending_before { IsSingle self.old.pending_pass.known }
     {
-        self.candidates
-            .join(rt, &mut self.candidate_pass, candidates);
-        self.pending.join(rt, &mut self.pending_pass, pending);
+        candidates.join(rt, &mut self.candidate_pass, candidate_pass);
+        pending.join(rt, &mut self.pending_pass, pending_pass);
+        self.candidates = candidates;
+        self.pending = pending;
         self.others = Some(order);
     }
 
@@ -144,7 +156,7 @@ impl<'a> Place<'a> {
         ensures candidates { result.1 ≡ self.entry.candidate_pass }
         ensures pending { result.2 ≡ self.entry.pending_pass }
         ensures others { option_map (λ v. v.items) result.3 ≡ self.entry.others }
-        ensures kept { IsChairKept self.entry.arena self.entry.seat self.entry.candidates self.entry.candidate_pass self.entry.pending self.entry.pending_pass (is_some self.entry.others) }
+        ensures kept { IsChairKept self.entry.arena self.entry.seat self.entry.candidates self.entry.candidate_pass self.entry.pending self.entry.pending_pass self.entry.others }
     {
         let Place {
             seat,

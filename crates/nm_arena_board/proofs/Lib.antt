@@ -1,0 +1,9 @@
+pub mod Sitting
+pub mod Tables
+pub mod Standing
+pub mod Resting
+pub mod Giving
+pub mod Returning
+pub mod Histories
+pub mod Beginning
+pub mod Ending

@@ -1,0 +1,2 @@
+pub mod BoardFaces
+pub mod LaneHistories
