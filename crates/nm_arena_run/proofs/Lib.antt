@@ -1,0 +1,4 @@
+pub mod AllTurns
+pub mod Boarding
+pub mod LanesLeft
+pub mod ThreadRunMade
