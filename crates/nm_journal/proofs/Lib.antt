@@ -1,0 +1,12 @@
+pub mod Programs
+pub mod Room
+pub mod Printing
+pub mod Stops
+pub mod Reporting
+pub mod Answering
+pub mod Parts
+pub mod Bodies
+pub mod Causes
+pub mod OnePart
+pub mod Others
+pub mod OneAnswer
