@@ -46,8 +46,8 @@ fn slow_page(state: &State, page: u32) -> u64
     slow_frame(state.geometry(), state.home(page))
 }
 
-/// 1 where an event is a slow access.
-fn slow_access(state: &State, event: Event) -> u64
+/// 1 where an event is a slow access in this state of the machine, before it is made, and 0 else.
+pub fn slow_access(state: &State, event: Event) -> u64
     ensures is { result ≡ slow_access state.now (access_of event) }
     ensures few { result ≤ 1 }
 {
