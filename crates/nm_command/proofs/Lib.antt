@@ -1,2 +1,4 @@
-pub mod Forms
+pub mod Levels
 pub mod Walks
+pub mod Splits
+pub mod Forms

@@ -4,4 +4,4 @@
 pub mod form;
 mod line;
 
-pub use form::{Form, form_of};
+pub use form::{Form, Retries, form_of};

@@ -1,16 +1,20 @@
 //! The words as a command line: a command with its fields.
 
-ghost use Rattle.std.specs.Prelude.{◌≡◌, ◌↔◌, IsTrue, IfOk, IfSome, IfNone, All, false, map, string_bytes};
-ghost use Rattle.clap.specs.Words.{app_of, found_of, rows_of, subcommand_rows_of};
-ghost use Rattle.nm_command.specs.Line.{nomad, is_refused, IsTwoFieldCommand, Splits, SaysFields, HasValues, LacksValues};
+ghost use Rattle.std.specs.Prelude.{◌≡◌, ◌↔◌, IsTrue, IfOk, IfSome, IfNone, Some, None, All, false, map, string_bytes};
+ghost use Rattle.clap.specs.Walk.{texts};
+ghost use Rattle.clap.specs.Words.{all_of, app_of, found_of, rows_of, subcommand_rows_of};
+ghost use Rattle.nm_command.specs.Line.{nomad, script_line, lab, is_refused, IsTwoFieldCommand, IsCommandOf, Reads, SaysFields, HasValues, LacksValues};
 
 use clap::error::ErrorKind;
 use clap::{Arg, ArgMatches, Command};
 use std::alloc::{AllocError, Global};
 
+/// The most runs of a lab.
+const MOST_RUNS: usize = 8;
+
 /// A command of the program with its fields.
 #[derive(Clone, Copy, Debug)]
-pub enum Fields<'a> {
+pub enum Fields<'a, 'b> {
     /// `sim`
     Sim,
     /// `gen N SIZE`
@@ -34,12 +38,26 @@ pub enum Fields<'a> {
         /// The field S.
         slow: &'a str,
     },
+    /// `run`
+    Run,
+    /// `journal`
+    Journal,
+    /// `check`
+    Check,
+    /// `lab WORD ...`
+    Lab {
+        /// The words behind `lab`, one to eight.
+        retries: &'b [&'a str],
+    },
 }
 
-/// The command that the words name, and its fields. None exactly where a word is an option or `help`, or the words name
-/// no command with its fields. `AllocError` comes where there is no memory to read them.
-pub fn fields_of<'a>(alloc: Global, words: &'a [String]) -> Result<Option<Fields<'a>>, AllocError>
-    ensures { IfOk result (Splits (map string_bytes words.now)) }
+/// What clap read of the words. None exactly where there is no word, a word is an option or `help`, or clap takes them
+/// for no command with its fields. `AllocError` comes where there is no memory to read them.
+pub fn matches_of<'a>(
+    alloc: Global,
+    words: &'a [String],
+) -> Result<Option<ArgMatches<'a>>, AllocError>
+    ensures { IfOk result (Reads (map string_bytes words.now)) }
 {
     if words.is_empty() {
         return Ok(None);
@@ -49,14 +67,14 @@ pub fn fields_of<'a>(alloc: Global, words: &'a [String]) -> Result<Option<Fields
     }
     let command = make_command(alloc)?;
     match command.try_get_matches_from(words) {
-        Ok(matches) => Ok(fields_in(&matches)),
+        Ok(matches) => Ok(Some(matches)),
         Err(error) if error.kind() == ErrorKind::OutOfMemory => Err(AllocError),
         Err(_) => Ok(None),
     }
 }
 
 /// The command that was met, and its fields.
-fn fields_in<'a>(matches: &ArgMatches<'a>) -> Option<Fields<'a>>
+pub fn fields_in<'a, 'b>(matches: &'b ArgMatches<'a>) -> Option<Fields<'a, 'b>>
     ensures { SaysFields (subcommand_rows_of matches.now) result }
 {
     match matches.subcommand()? {
@@ -72,6 +90,13 @@ fn fields_in<'a>(matches: &ArgMatches<'a>) -> Option<Fields<'a>>
         ("import", inner) => {
             let (fast, slow) = two_values(inner, "F", "S")?;
             Some(Fields::Import { fast, slow })
+        }
+        ("run", _) => Some(Fields::Run),
+        ("journal", _) => Some(Fields::Journal),
+        ("check", _) => Some(Fields::Check),
+        ("lab", inner) => {
+            let retries = several_values(inner, "WORD")?;
+            Some(Fields::Lab { retries })
         }
         _ => None,
     }
@@ -91,6 +116,14 @@ fn two_values<'a>(matches: &ArgMatches<'a>, first: &str, second: &str) -> Option
     Some((a, b))
 }
 
+/// The values of a field that takes several.
+fn several_values<'a, 'b>(matches: &'b ArgMatches<'a>, id: &str) -> Option<&'b [&'a str]>
+    ensures some { IfSome result (λ v. all_of id.now (rows_of (found_of matches.now)) ≡ Some (texts v.now)) }
+    ensures none { IfNone result (all_of id.now (rows_of (found_of matches.now)) ≡ None) }
+{
+    matches.get_strs(id)
+}
+
 /// Whether no word begins with `-` or is `help`.
 fn are_fields(words: &[String]) -> bool
     ensures { IsTrue result ↔ All (λ w. is_refused (string_bytes w) ≡ false) words.now }
@@ -105,9 +138,24 @@ fn is_refused(word: &str) -> bool
     word.as_bytes().first() == Some(&b'-') || word == "help"
 }
 
-/// The command line of the program. Help is no form of the words, so it has none.
+/// The command line of the program.
 fn make_command<'a>(alloc: Global) -> Result<Command<'a>, AllocError>
     ensures { IfOk result (λ c. app_of c ≡ nomad) }
+{
+    let running = Command::new(alloc, "run");
+    let journal = Command::new(alloc, "journal");
+    let checking = Command::new(alloc, "check");
+    let lab = lab_command(alloc)?;
+    script_commands(alloc)?
+        .subcommand(running)?
+        .subcommand(journal)?
+        .subcommand(checking)?
+        .subcommand(lab)
+}
+
+/// The commands of scripts and traces. Help is no form of the words, so it has none.
+fn script_commands<'a>(alloc: Global) -> Result<Command<'a>, AllocError>
+    ensures { IfOk result (λ c. app_of c ≡ script_line) }
 {
     let sim = Command::new(alloc, "sim");
     let generate = two_field_command(alloc, "gen", "N", "SIZE")?;
@@ -135,4 +183,14 @@ fn two_field_command<'a>(
     let first = Arg::new(alloc, first).required(true);
     let second = Arg::new(alloc, second).required(true);
     Command::new(alloc, name).arg(first)?.arg(second)
+}
+
+/// The subcommand `lab`, with one to eight words.
+fn lab_command<'a>(alloc: Global) -> Result<Command<'a>, AllocError>
+    ensures { IfOk result (IsCommandOf lab) }
+{
+    let word = Arg::new(alloc, "WORD")
+        .required(true)
+        .num_args(1..=MOST_RUNS);
+    Command::new(alloc, "lab").arg(word)
 }

@@ -14,11 +14,12 @@ use Rattle.nm_trace.specs.Traces.{HasTrace, trace_text}
 use Rattle.nm_trace.specs.Imports.{IsImport, IsFirstTraceFault, IsTraceRefusal}
 use Rattle.nm_trace.specs.Laws.{HasOwnNumbers, IsReadAgain}
 use Rattle.nm_trace.specs.Replies.{GivesImport}
-use Rattle.nm_top.specs.Answer.{ImportAnswers, ImportCause, IsImportCall, IsImported, IsOrMemory, IsStatusOfWritten, IsTraceReading, TextCause, TraceAnswers, TraceCause}
-use Rattle.nm_top.specs.Status.{status_of_trace}
-use Rattle.nm_top.specs.declared.status.Status.{Status}
-use Rattle.nm_top.specs.declared.status.Status.TheVariants.{Done, Usage, Script, ReadFault, WriteFault, Memory, Trace}
-use Rattle.nm_top.proofs.Causes.{HasRead, along, answers_along, left_all, lost_all, whole}
+use Rattle.nm_answer.specs.Answer.{IsOrMemory, TextCause}
+use Rattle.nm_top.specs.Answer.{ImportAnswers, ImportCause, IsImportCall, IsImported, IsStatusOfWritten, IsTraceReading, TraceAnswers, TraceCause}
+use Rattle.nm_answer.specs.Status.{status_of_trace}
+use Rattle.nm_answer.specs.declared.status.Status.{Status}
+use Rattle.nm_answer.specs.declared.status.Status.TheVariants.{Done, Usage, Script, ReadFault, WriteFault, Memory, Trace}
+use Rattle.nm_answer.proofs.Causes.{HasRead, along, answers_along, done_from, left_all, lost_all, whole}
 
 -- ---- what importing says
 
@@ -157,15 +158,10 @@ complete_from : (left : Option (List ℕ)) (fast slow : ℕ) (status : Status) (
     → (status ≡ WriteFault → Write)
     → IfSome left (λ bytes. (s : plain.Script) → IsImport bytes fast slow s → length bytes ≤ MOST_BYTES → (Read → ⊥) → (Write → ⊥) → IsOrMemory status Done)
 complete_from None fast slow status Read Write answers fault = tt
-complete_from (Some bytes) fast slow status Read Write answers fault = λ s is few read write. go write ((answers read).accepted few s is)
-  where
-    go : (Write → ⊥) → (status ≡ Done) ⊎ (status ≡ WriteFault) ⊎ (status ≡ Memory) → IsOrMemory status Done
-    go write (inl h) = inl h
-    go write (inr (inl h)) = absurd (write (fault h))
-    go write (inr (inr h)) = inr h
+complete_from (Some bytes) fast slow status Read Write answers fault = λ s is few read write. done_from status Write fault write ((answers read).accepted few s is)
 
 -- the cause and the answers of `import` say when it is done
-IsImportCall-from : {S K : Type 0} (m : SourceTells S) (k : SinkTells K) (fast slow : ℕ) (old new : S) (sink sink' : K) (status : Status)
+pub IsImportCall-from : {S K : Type 0} (m : SourceTells S) (k : SinkTells K) (fast slow : ℕ) (old new : S) (sink sink' : K) (status : Status)
     → ImportCause m k fast slow old new sink sink' status
     → ((Rose (m.faults old) (m.faults new) → ⊥) → IfSome (m.left old) (λ bytes. ImportAnswers bytes fast slow status))
     → IsImportCall m k fast slow old new sink sink' status
@@ -200,9 +196,3 @@ pub IsImportCall-refused : {S K : Type 0} (m : SourceTells S) (k : SinkTells K) 
 IsImportCall-refused m k fast slow old new sink status read =
     IsImportCall-from m k fast slow old new sink sink status (unread_import m k fast slow old new sink status read.cause)
     (λ none. answers_along (m.left old) _ _ (refused_answers fast slow status) (read.answers none))
-
--- the same for the sizes that the words say
-pub IsImportCall-same : {S K : Type 0} (m : SourceTells S) (k : SinkTells K) (fast f slow s : ℕ) (old new : S) (sink sink' : K) (status : Status) → fast ≡ f → slow ≡ s
-    → IsImportCall m k fast slow old new sink sink' status → IsImportCall m k f s old new sink sink' status
-IsImportCall-same m k fast f slow s old new sink sink' status e d h =
-    subst (λ n. IsImportCall m k f n old new sink sink' status) d (subst (λ n. IsImportCall m k n slow old new sink sink' status) e h)

@@ -1,138 +1,52 @@
 -- What a call of the program answers, and why: one record for each command.
-use Rattle.std.specs.Prelude.{◌≡◌, ℕ, ◌<◌, ◌≤◌, ◌⊎◌, List, length, IfSome, Result, Ok, Err, MatchResult}
+use Rattle.std.specs.Prelude.{◌≡◌, ℕ, ◌<◌, ◌≤◌, ◌⊎◌, List, Option, length, IfSome, Result, Ok, Err, MatchResult}
 use Rattle.nm_io.specs.Count.{Rose}
-use Rattle.nm_io.specs.Whole.{SourceTells, SinkTells, ReadsWhole, ReadsTooMany, ReadsUpToFault, ReadsSome, WritesWhole, WritesPart}
+use Rattle.nm_io.specs.Whole.{SourceTells, SinkTells, ReadsWhole, ReadsUpToFault, ReadsSome, WritesWhole, WritesPart}
 use Rattle.nm_io.specs.declared.sources.TheConstants.{MOST_BYTES}
-use Rattle.nm_script.specs.declared.fault.ScriptFault.{ScriptFault}
 use Rattle.nm_script.specs.declared.fault.ScriptFault.TheVariants.{TooLong}
 use Rattle.nm_script.specs.Plain as plain
 use Rattle.nm_script.specs.Script.{IsScript, script_text}
 use Rattle.nm_script.specs.Grammar.{IsScriptText}
-use Rattle.nm_script.specs.Faults.{IsFirstFault}
 use Rattle.nm_gen.specs.Generated.{generated}
 use Rattle.nm_trace.specs.declared.fault.TraceFault.{TraceFault}
 use Rattle.nm_trace.specs.declared.fault.TraceFault.TheVariants.{TooManyPages, Empty, ScriptTooLong}
 use Rattle.nm_trace.specs.Traces.{HasTrace, trace_text}
 use Rattle.nm_trace.specs.Imports.{IsImport, IsFirstTraceFault}
 use Rattle.nm_trace.specs.Laws.{HasOwnNumbers}
-use Rattle.nm_top.specs.Output.{IsReport, IsReportOf, IsSummary}
-use Rattle.nm_top.specs.declared.status.Status.{Status}
-use Rattle.nm_top.specs.declared.status.Status.TheVariants.{Done, Usage, Script, ReadFault, WriteFault, Memory, Trace}
+use Rattle.nm_command.specs.declared.form.Form.{Form}
+use Rattle.nm_command.specs.declared.form.Form.TheVariants.{Sim, Gen, Drill, Import, Run, Journal, Check, Lab}
+use Rattle.nm_check_call.specs.Checking.{IsCheckCall}
+use Rattle.nm_lab_run.specs.LabRuns.{IsLabOf}
+use Rattle.nm_answer.specs.Answer.{IsOrMemory, IsScriptCommand, IsTooMany, IsUnreadCall, IsUsageCall, IsWanting}
+use Rattle.nm_answer.specs.declared.status.Status.{Status}
+use Rattle.nm_answer.specs.declared.status.Status.TheVariants.{Done, Usage, Script, ReadFault, WriteFault, Memory, Trace}
+use Rattle.nm_top.specs.Output.{IsJournalOf, IsReportOf, IsSummary, IsThreadReportOf}
 
--- the bytes are a script
-abbrev pub IsAccepted : List ℕ → Type 0
-IsAccepted bytes = (s : plain.Script) × IsScriptText bytes s
+-- ---- sim, run, journal, lab WORD .., gen N SIZE, drill N SIZE
 
--- the status is this one, or memory is wanting
-abbrev pub IsOrMemory : Status → Status → Type 0
-IsOrMemory status wanted = (status ≡ wanted) ⊎ (status ≡ Memory)
+-- a script was read, and the report of its run was written
+abbrev pub IsSimCall : {S K : Type 0} → SourceTells S → SinkTells K → S → S → K → K → Status → Type 0
+IsSimCall m k = IsScriptCommand m k IsReportOf
 
--- memory is wanting: nothing was written, and no read failed
-pub record IsWanting {S K : Type 0} (m : SourceTells S) (old new : S) (sink sink' : K) : Type 0 where
-  pub unwritten : sink' ≡ sink
-  pub read : ReadsSome m old new
+-- a script was read, and the report of a run that threads made of it was written
+abbrev pub IsRunCall : {S K : Type 0} → SourceTells S → SinkTells K → S → S → K → K → Status → Type 0
+IsRunCall m k = IsScriptCommand m k IsThreadReportOf
 
--- ---- words of no form
+-- a script was read, and the journal of its run was written
+abbrev pub IsJournalCall : {S K : Type 0} → SourceTells S → SinkTells K → S → S → K → K → Status → Type 0
+IsJournalCall m k = IsScriptCommand m k IsJournalOf
 
--- they are answered by Usage, and nothing is written
-pub record IsUsageCall {K : Type 0} (sink sink' : K) (status : Status) : Type 0 where
-  pub unwritten : sink' ≡ sink
-  pub answer : IsOrMemory status Usage
-
--- ---- writing
-
--- how the writing of a text ended: it was written, or a write failed
-abbrev pub IsWritten : {K : Type 0} → SinkTells K → K → K → List ℕ → Status → Type 0
-IsWritten k sink sink' text Done = WritesWhole k sink sink' text
-IsWritten k sink sink' text WriteFault = WritesPart k sink sink' text
-IsWritten k sink sink' text status = ⊥
-
--- a text was written, a write failed, or memory is wanting
-abbrev pub TextCause : {K : Type 0} → SinkTells K → K → K → List ℕ → Status → Type 0
-TextCause k sink sink' text Memory = sink' ≡ sink
-TextCause k sink sink' text status = IsWritten k sink sink' text status
-
--- a text of this kind was written, a write failed, or memory is wanting
-abbrev pub SomeTextCause : {K : Type 0} → SinkTells K → K → K → (List ℕ → Type 0) → Status → Type 0
-SomeTextCause k sink sink' Is Memory = sink' ≡ sink
-SomeTextCause k sink sink' Is status = (text : List ℕ) × Is text × IsWritten k sink sink' text status
-
--- ---- gen N SIZE
+-- a script was read, and the table of its runs with these retries was written
+abbrev pub IsLabCall : {S K : Type 0} → SourceTells S → SinkTells K → List (Option ℕ) → S → S → K → K → Status → Type 0
+IsLabCall m k retries = IsScriptCommand m k (IsLabOf retries)
 
 -- the text of the script of N with SIZE lines was written
-pub record IsGenCall {K : Type 0} (k : SinkTells K) (n size : ℕ) (sink sink' : K) (status : Status) : Type 0 where
-  pub cause : TextCause k sink sink' (script_text (generated n size)) status
-  -- where no write fails it is done, unless memory is wanting
-  pub complete : (Rose (k.faults sink) (k.faults sink') → ⊥) → IsOrMemory status Done
+abbrev pub IsGenCall : {K : Type 0} → SinkTells K → ℕ → ℕ → K → K → Status → Type 0
+IsGenCall k n size sink sink' status = IsUnreadCall k sink sink' (λ text. text ≡ script_text (generated n size)) status
 
--- ---- drill N SIZE
-
--- the summary of a run of the script of N with SIZE lines was written
-pub record IsDrillCall {K : Type 0} (k : SinkTells K) (n size : ℕ) (sink sink' : K) (status : Status) : Type 0 where
-  pub cause : SomeTextCause k sink sink' (IsSummary n size) status
-  -- where no write fails it is done, unless memory is wanting
-  pub complete : (Rose (k.faults sink) (k.faults sink') → ⊥) → IsOrMemory status Done
-
--- ---- reading
-
--- more bytes than the limit were read, which is told at line 0
-abbrev pub IsTooMany : {S : Type 0} → SourceTells S → S → S → ScriptFault → ℕ → Type 0
-IsTooMany m old new fault line = (fault ≡ TooLong) × (line ≡ 0) × ReadsTooMany m old new
-
--- ---- sim
-
--- what a script has this fault for: more bytes than the limit were read, or all of them have this first fault
-abbrev pub IsRefused : {S : Type 0} → SourceTells S → S → S → ScriptFault → ℕ → Type 0
-IsRefused m old new fault line =
-    IsTooMany m old new fault line
-    ⊎ ((1 ≤ line) × ReadsWhole m old new (λ bytes. IsFirstFault bytes fault line))
-
--- the script that was read, or why there is none
-abbrev pub ReadCause : {S : Type 0} → SourceTells S → S → S → Result plain.Script Status → Type 0
-ReadCause m old new (Ok s) = ReadsWhole m old new (λ bytes. IsScriptText bytes s)
-ReadCause m old new (Err (Script fault line)) = IsRefused m old new fault line
-ReadCause m old new (Err ReadFault) = ReadsUpToFault m old new
-ReadCause m old new (Err Memory) = ReadsSome m old new
-ReadCause m old new (Err status) = ⊥
-
--- what reading gives for these bytes, but for want of memory
-pub record ReadAnswers (bytes : List ℕ) (result : Result plain.Script Status) : Type 0 where
-  pub long : MOST_BYTES < length bytes → MatchResult result (λ _. ⊥) (λ status. IsOrMemory status (Script TooLong 0))
-  pub first : length bytes ≤ MOST_BYTES → (fault : ScriptFault) (line : ℕ) → IsFirstFault bytes fault line
-      → MatchResult result (λ _. ⊥) (λ status. IsOrMemory status (Script fault line))
-  pub only : length bytes ≤ MOST_BYTES → (s : plain.Script) → IsScriptText bytes s → MatchResult result (λ t. t ≡ s) (λ status. status ≡ Memory)
-
-pub record IsReading {S : Type 0} (m : SourceTells S) (old new : S) (result : Result plain.Script Status) : Type 0 where
-  pub cause : ReadCause m old new result
-  pub answers : (Rose (m.faults old) (m.faults new) → ⊥) → IfSome (m.left old) (λ bytes. ReadAnswers bytes result)
-
--- what is answered to a script that was read: the report of a run of it was written, a write failed, or memory is wanting
-abbrev pub IsScriptCall : {K : Type 0} → SinkTells K → plain.Script → K → K → Status → Type 0
-IsScriptCall k s sink sink' status = SomeTextCause k sink sink' (IsReportOf s) status
-
--- why `sim` answers this, what it read and what it wrote
-abbrev pub SimCause : {S K : Type 0} → SourceTells S → SinkTells K → S → S → K → K → Status → Type 0
-SimCause m k old new sink sink' Done = ReadsWhole m old new (λ bytes. (text : List ℕ) × IsReport bytes text × WritesWhole k sink sink' text)
-SimCause m k old new sink sink' Usage = ⊥
-SimCause m k old new sink sink' (Script fault line) = IsRefused m old new fault line × (sink' ≡ sink)
-SimCause m k old new sink sink' ReadFault = ReadsUpToFault m old new × (sink' ≡ sink)
-SimCause m k old new sink sink' WriteFault = ReadsWhole m old new (λ bytes. (text : List ℕ) × IsReport bytes text × WritesPart k sink sink' text)
-SimCause m k old new sink sink' Memory = IsWanting m old new sink sink'
-SimCause m k old new sink sink' (Trace fault row) = ⊥
-
--- what is answered to bytes that could be read to their end, but for want of memory
-pub record SimAnswers (bytes : List ℕ) (status : Status) : Type 0 where
-  pub long : MOST_BYTES < length bytes → IsOrMemory status (Script TooLong 0)
-  pub first : length bytes ≤ MOST_BYTES → (fault : ScriptFault) (line : ℕ) → IsFirstFault bytes fault line → IsOrMemory status (Script fault line)
-  pub accepted : length bytes ≤ MOST_BYTES → IsAccepted bytes → (status ≡ Done) ⊎ (status ≡ WriteFault) ⊎ (status ≡ Memory)
-
-pub record IsSimCall {S K : Type 0} (m : SourceTells S) (k : SinkTells K) (old new : S) (sink sink' : K) (status : Status) : Type 0 where
-  pub cause : SimCause m k old new sink sink' status
-  -- where no read fails, the bytes decide the answer
-  pub answers : (Rose (m.faults old) (m.faults new) → ⊥) → IfSome (m.left old) (λ bytes. SimAnswers bytes status)
-  -- where no call fails, a script is done, unless memory is wanting
-  pub complete : IfSome (m.left old) (λ bytes. IsAccepted bytes → length bytes ≤ MOST_BYTES → (Rose (m.faults old) (m.faults new) → ⊥)
-      → (Rose (k.faults sink) (k.faults sink') → ⊥) → IsOrMemory status Done)
+-- the summary of the run of the script of N with SIZE lines was written
+abbrev pub IsDrillCall : {K : Type 0} → SinkTells K → ℕ → ℕ → K → K → Status → Type 0
+IsDrillCall k n size sink sink' status = IsUnreadCall k sink sink' (IsSummary n size) status
 
 -- ---- import F S
 
@@ -203,3 +117,31 @@ pub record IsImportCall {S K : Type 0} (m : SourceTells S) (k : SinkTells K) (fa
   -- where no call fails, a trace is imported, unless memory is wanting
   pub complete : IfSome (m.left old) (λ bytes. (s : plain.Script) → IsImport bytes fast slow s → length bytes ≤ MOST_BYTES → (Rose (m.faults old) (m.faults new) → ⊥)
       → (Rose (k.faults sink) (k.faults sink') → ⊥) → IsOrMemory status Done)
+
+-- ---- all commands
+
+-- words of no form, or of a form that is not served here, are answered by Usage; nothing was read
+pub record IsUnserved {S K : Type 0} (old new : S) (sink sink' : K) (status : Status) : Type 0 where
+  pub usage : IsUsageCall sink sink' status
+  pub unread : new ≡ old
+
+-- a command that reads nothing
+pub record IsUnreadForm {S : Type 0} (old new : S) (Call : Type 0) : Type 0 where
+  pub answered : Call
+  pub unread : new ≡ old
+
+-- what is answered to words of a form by a call that has no threads
+abbrev pub IsPlainForm : {S K : Type 0} → SourceTells S → SinkTells K → Form → S → S → K → K → Status → Type 0
+IsPlainForm m k Sim old new sink sink' status = IsSimCall m k old new sink sink' status
+IsPlainForm m k (Gen n size) old new sink sink' status = IsUnreadForm old new (IsGenCall k n size sink sink' status)
+IsPlainForm m k (Drill n size) old new sink sink' status = IsUnreadForm old new (IsDrillCall k n size sink sink' status)
+IsPlainForm m k (Import fast slow) old new sink sink' status = IsImportCall m k fast slow old new sink sink' status
+IsPlainForm m k Run old new sink sink' status = IsUnserved old new sink sink' status
+IsPlainForm m k Journal old new sink sink' status = IsJournalCall m k old new sink sink' status
+IsPlainForm m k Check old new sink sink' status = IsCheckCall m k old new sink sink' status
+IsPlainForm m k (Lab retries) old new sink sink' status = IsLabCall m k retries old new sink sink' status
+
+-- what is answered to words of a form by the program
+abbrev pub IsProgramForm : {S K : Type 0} → SourceTells S → SinkTells K → Form → S → S → K → K → Status → Type 0
+IsProgramForm m k Run old new sink sink' status = IsRunCall m k old new sink sink' status
+IsProgramForm m k form old new sink sink' status = IsPlainForm m k form old new sink sink' status

@@ -9,8 +9,7 @@ ghost use Rattle.nm_top.specs.Output.{IsSummary};
 
 use crate::facts::the_facts_hold_of_each_simulation;
 use crate::generated::generated_script;
-use crate::status::Status;
-use crate::writing::write_text;
+use nm_answer::{Status, write_text};
 use nm_io::Sink;
 use nm_report::{Report, summary};
 use nm_sched::{Silent, simulate_with};

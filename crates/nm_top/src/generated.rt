@@ -5,8 +5,7 @@ ghost use Rattle.nm_script.specs.Script.{IsScript};
 ghost use Rattle.nm_gen.specs.Generated.{generated};
 ghost use Rattle.nm_top.specs.Answer.{IsGenCall};
 
-use crate::status::Status;
-use crate::writing::print_call;
+use nm_answer::{Status, print_call};
 use nm_gen::{generate, is_script};
 use nm_io::Sink;
 use nm_script::Script;

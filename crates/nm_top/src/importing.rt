@@ -4,8 +4,8 @@ ghost use Rattle.std.specs.Prelude.{◌≤◌, ◌+◌, IfOk};
 ghost use Rattle.nm_script.specs.Script.{IsScript};
 ghost use Rattle.nm_top.specs.Answer.{IsImportCall, IsTraceReading};
 
-use crate::status::{Status, status_of_read, status_of_trace};
-use crate::writing::print_call;
+use nm_answer::status::{status_of_read, status_of_trace};
+use nm_answer::{Status, print_call};
 use nm_io::{Sink, Source, read_all};
 use nm_script::{Script, one_reading};
 use nm_trace::{import, page_numbers, read_again};

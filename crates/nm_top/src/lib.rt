@@ -6,13 +6,15 @@ mod drill;
 mod facts;
 mod generated;
 mod importing;
+mod journal;
+mod lab;
 mod program;
+mod run;
 mod sim;
-pub mod status;
-mod writing;
 
 pub use call::{nomad_main, plain_call};
 pub use facts::the_facts_hold_of_each_simulation;
+pub use nm_answer::Status;
 pub use program::nomad_program;
+pub use run::run_call;
 pub use sim::script_call;
-pub use status::Status;

@@ -1,7 +1,7 @@
 //! The program as a whole: its words, its input and its output.
 
 use crate::call::nomad_main;
-use crate::status::Status;
+use nm_answer::Status;
 use nm_io::{Open, StdSink, StdSource};
 use std::env;
 use std::io::{self, Read, Write};

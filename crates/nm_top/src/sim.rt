@@ -2,16 +2,16 @@
 
 ghost use Rattle.std.specs.Prelude.{IfOk};
 ghost use Rattle.nm_script.specs.Script.{IsScript};
-ghost use Rattle.nm_top.specs.Answer.{IsSimCall, IsReading, IsScriptCall};
+ghost use Rattle.nm_answer.specs.Answer.{SomeTextCause};
+ghost use Rattle.nm_top.specs.Answer.{IsSimCall};
 ghost use Rattle.nm_top.specs.Output.{IsReportOf};
 
 use crate::facts::the_facts_hold_of_each_simulation;
-use crate::status::{Status, status_of_read, status_of_text};
-use crate::writing::write_text;
-use nm_io::{Sink, Source, read_all};
+use nm_answer::{Status, read_script, write_text};
+use nm_io::{Sink, Source};
 use nm_report::{Report, print};
 use nm_sched::{Silent, simulate_with};
-use nm_script::{Script, parse};
+use nm_script::Script;
 use std::alloc::{AllocError, Global};
 
 /// The command `sim`: it reads a script, runs it and writes the report of the run.
@@ -26,27 +26,11 @@ pub fn sim_call<S: Source, K: Sink>(alloc: Global, source: &mut S, sink: &mut K)
     }
 }
 
-/// The script that the source gives, read to its end, or the status of a source that gives none.
-fn read_script<S: Source>(alloc: Global, source: &mut S) -> Result<Script, Status>
-    ensures script { IfOk result IsScript }
-    ensures reading { IsReading (record { left = S.left; faults = S.faults; gives = S.read_gives })
-        source.old source.new result }
-{
-    let bytes = match read_all(alloc, source) {
-        Ok(bytes) => bytes,
-        Err(refusal) => return Err(status_of_read(refusal)),
-    };
-    match parse(alloc, &bytes) {
-        Ok(script) => Ok(script),
-        Err(refusal) => Err(status_of_text(refusal)),
-    }
-}
-
 /// What `sim` answers to a script that it has read: the report of its run is written once the whole text stands.
 pub fn script_call<K: Sink>(alloc: Global, script: &Script, sink: &mut K) -> Status
     requires { IsScript script.now }
-    ensures { IsScriptCall (record { held = K.held; faults = K.faults; takes = K.write_takes })
-        script.now sink.old sink.new result }
+    ensures { SomeTextCause (record { held = K.held; faults = K.faults; takes = K.write_takes })
+        sink.old sink.new (IsReportOf script.now) result }
 {
     match report_text(alloc, script) {
         Ok(text) => write_text(sink, &text),

@@ -1,10 +1,8 @@
 -- The form has the numbers that the fields say.
-use Rattle.std.proofs.Common.{◌≡◌, Some, ℕ, rules}
-use Rattle.nm_command.specs.declared.form.Form.TheVariants.{Gen}
-use Rattle.nm_command.proofs.Forms.{form_is}
+use Rattle.std.proofs.Common.{rules}
+use Rattle.nm_command.proofs.Forms.{gen_form_is}
 use Rattle.nm_command.proofs.form.gen_form.Goals as goal
 
-pub returns-clause-generated : goal.returns-clause-generated
-returns-clause-generated c = λ n s.
-    let is : c.numbers_of.result ≡ Some (c.in_ok-number.number, c.in_ok-number.size) = search rules in
-    form_is Gen c.numbers_of.result c.args.number.now c.args.size.now c.in_ok-number.number c.in_ok-number.size n s (λ x y z w e. (cc e, cc e)) is (c.numbers_of.ensures n s)
+pub returns : goal.returns
+returns c =
+    gen_form_is c.args.number.now c.args.size.now c.in_ok-number.number c.in_ok-number.size ((c.numbers_of.ensures _ _).0 (search rules))

@@ -1,5 +1,5 @@
 -- What the getters read is what the rows have.
-use Rattle.nm_command.proofs.Walks.{none_read, some_read}
+use Rattle.nm_command.proofs.Splits.{none_read, some_read}
 use Rattle.nm_command.proofs.line.two_values.Goals as goal
 
 pub returns-in_default-clause-none : goal.returns-in_default-clause-none

@@ -1,7 +1,7 @@
 -- The bytes that were read to their end are a trace, or have a first fault.
 use Rattle.std.proofs.Common.{◌≤◌, length, subst, sym, rules}
 use Rattle.nm_io.specs.declared.sources.TheConstants.{MOST_BYTES}
-use Rattle.nm_top.proofs.Causes.{HasRead}
+use Rattle.nm_answer.proofs.Causes.{HasRead}
 use Rattle.nm_top.proofs.Imports.{IsTraceReading-script, IsTraceReading-refused}
 use Rattle.nm_top.proofs.importing.read_trace.Goals as goal
 

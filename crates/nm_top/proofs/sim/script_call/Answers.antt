@@ -1,7 +1,7 @@
 -- The report was written, or a write failed.
 use Rattle.std.proofs.Common.{subst, sym}
 use Rattle.nm_top.specs.Output.{IsReportOf}
-use Rattle.nm_top.proofs.Causes.{SomeTextCause-written}
+use Rattle.nm_answer.proofs.Causes.{SomeTextCause-written}
 use Rattle.nm_top.proofs.sim.script_call.Goals as goal
 
 pub returns-in-Ok : goal.returns-in-Ok

@@ -10,16 +10,13 @@ use Rattle.nm_script.specs.declared.fault.ScriptRefusal.{ScriptRefusal}
 use Rattle.nm_script.specs.declared.fault.ScriptRefusal.TheVariants as refusals
 use Rattle.nm_script.specs.Plain as plain
 use Rattle.nm_script.specs.Faults.{GivesReading, GivesFault}
-use Rattle.nm_script.specs.Script.{script_text}
 use Rattle.nm_script.specs.Grammar.{IsScriptText}
 use Rattle.nm_script.specs.Faults as script_faults
 use Rattle.nm_script.specs.Faults.{IsFirstFault}
-use Rattle.nm_gen.specs.Generated.{generated}
-use Rattle.nm_top.specs.Answer.{IsAccepted, IsDrillCall, IsGenCall, IsOrMemory, IsReading, IsScriptCall, IsSimCall, IsWritten, ReadAnswers, ReadCause, SimAnswers, SimCause, SomeTextCause, TextCause}
-use Rattle.nm_top.specs.Output.{IsReport, IsReportOf, IsSummary}
-use Rattle.nm_top.specs.Status.{status_of_text}
-use Rattle.nm_top.specs.declared.status.Status.{Status}
-use Rattle.nm_top.specs.declared.status.Status.TheVariants.{Done, Usage, Script, ReadFault, WriteFault, Memory, Trace}
+use Rattle.nm_answer.specs.Answer.{IsAccepted, IsOrMemory, IsReading, IsRefusedBy, IsScriptCommand, IsTextCall, IsToldOf, IsUnreadCall, IsWritten, ReadAnswers, ReadCause, SomeTextCause, TextAnswers, TextCallCause, TextCause}
+use Rattle.nm_answer.specs.Status.{status_of_text}
+use Rattle.nm_answer.specs.declared.status.Status.{Status}
+use Rattle.nm_answer.specs.declared.status.Status.TheVariants.{Done, Usage, Script, ReadFault, WriteFault, Memory, Trace}
 
 -- ---- what parsing says
 
@@ -119,30 +116,6 @@ TextCause-written k sink sink' text WriteFault h = h
 TextCause-written k sink sink' text Memory h = absurd h
 TextCause-written k sink sink' text (Trace f n) h = h
 
--- where no write fails it is done, unless memory is wanting
-pub text_complete : {K : Type 0} (k : SinkTells K) (sink sink' : K) (text : List ℕ) (status : Status) → TextCause k sink sink' text status
-    → (Rose (k.faults sink) (k.faults sink') → ⊥) → IsOrMemory status Done
-text_complete k sink sink' text Done h none = inl refl
-text_complete k sink sink' text Usage h none = absurd h
-text_complete k sink sink' text (Script f n) h none = absurd h
-text_complete k sink sink' text ReadFault h none = absurd h
-text_complete k sink sink' text WriteFault h none = absurd (none h.rose)
-text_complete k sink sink' text Memory h none = inr refl
-text_complete k sink sink' text (Trace f n) h none = absurd h
-
--- the text of a generated script was written, or a write failed
-pub IsGenCall-text : {K : Type 0} (k : SinkTells K) (n size : ℕ) (sink sink' : K) (s : plain.Script) (status : Status) → s ≡ generated n size
-    → TextCause k sink sink' (script_text s) status → IsGenCall k n size sink sink' status
-IsGenCall-text k n size sink sink' s status is h =
-    let cause = subst (λ t. TextCause k sink sink' (script_text t) status) is h in
-    record { cause = cause; complete = text_complete k sink sink' (script_text (generated n size)) status cause }
-
--- the same for the number and the size that the words say
-pub IsGenCall-same : {K : Type 0} (k : SinkTells K) (number n size s : ℕ) (sink sink' : K) (status : Status) → number ≡ n → size ≡ s
-    → IsGenCall k number size sink sink' status → IsGenCall k n s sink sink' status
-IsGenCall-same k number n size s sink sink' status e f h =
-    subst (λ l. IsGenCall k n l sink sink' status) f (subst (λ m. IsGenCall k m size sink sink' status) e h)
-
 -- a text of a kind was written, or a write failed
 pub SomeTextCause-written : {K : Type 0} (k : SinkTells K) (sink sink' : K) (Is : List ℕ → Type 0) (text : List ℕ) (status : Status) → Is text
     → IsWritten k sink sink' text status → SomeTextCause k sink sink' Is status
@@ -154,7 +127,18 @@ SomeTextCause-written k sink sink' Is text WriteFault is h = (text, is, h)
 SomeTextCause-written k sink sink' Is text Memory is h = absurd h
 SomeTextCause-written k sink sink' Is text (Trace f n) is h = absurd h
 
-some_text_answer : {K : Type 0} (k : SinkTells K) (sink sink' : K) (Is : List ℕ → Type 0) (status : Status) → SomeTextCause k sink sink' Is status
+-- so where the text is known
+pub SomeTextCause-of : {K : Type 0} (k : SinkTells K) (sink sink' : K) (Is : List ℕ → Type 0) (text : List ℕ) (status : Status) → Is text
+    → TextCause k sink sink' text status → SomeTextCause k sink sink' Is status
+SomeTextCause-of k sink sink' Is text Done is h = (text, is, h)
+SomeTextCause-of k sink sink' Is text Usage is h = absurd h
+SomeTextCause-of k sink sink' Is text (Script f n) is h = absurd h
+SomeTextCause-of k sink sink' Is text ReadFault is h = absurd h
+SomeTextCause-of k sink sink' Is text WriteFault is h = (text, is, h)
+SomeTextCause-of k sink sink' Is text Memory is h = h
+SomeTextCause-of k sink sink' Is text (Trace f n) is h = absurd h
+
+pub some_text_answer : {K : Type 0} (k : SinkTells K) (sink sink' : K) (Is : List ℕ → Type 0) (status : Status) → SomeTextCause k sink sink' Is status
     → (status ≡ Done) ⊎ (status ≡ WriteFault) ⊎ (status ≡ Memory)
 some_text_answer k sink sink' Is Done h = inl refl
 some_text_answer k sink sink' Is Usage h = absurd h.2
@@ -164,112 +148,108 @@ some_text_answer k sink sink' Is WriteFault h = inr (inl refl)
 some_text_answer k sink sink' Is Memory h = inr (inr refl)
 some_text_answer k sink sink' Is (Trace f n) h = absurd h.2
 
--- ---- drill
-
 some_text_fault : {K : Type 0} (k : SinkTells K) (sink sink' : K) (Is : List ℕ → Type 0) → SomeTextCause k sink sink' Is WriteFault → Rose (k.faults sink) (k.faults sink')
 some_text_fault k sink sink' Is h = h.2.rose
 
-done_from : (status : Status) (Write : Type 0) → (status ≡ WriteFault → Write) → (Write → ⊥) → (status ≡ Done) ⊎ (status ≡ WriteFault) ⊎ (status ≡ Memory)
+-- where no write fails it is done, unless memory is wanting
+pub done_from : (status : Status) (Write : Type 0) → (status ≡ WriteFault → Write) → (Write → ⊥) → (status ≡ Done) ⊎ (status ≡ WriteFault) ⊎ (status ≡ Memory)
     → IsOrMemory status Done
 done_from status Write fault write (inl h) = inl h
 done_from status Write fault write (inr (inl h)) = absurd (write (fault h))
 done_from status Write fault write (inr (inr h)) = inr h
 
--- the summary of a run was written, or a write failed, or memory is wanting
-pub IsDrillCall-text : {K : Type 0} (k : SinkTells K) (n size : ℕ) (sink sink' : K) (status : Status) → SomeTextCause k sink sink' (IsSummary n size) status
-    → IsDrillCall k n size sink sink' status
-IsDrillCall-text k n size sink sink' status cause = record {
+-- a text of a kind was written, or a write failed, or memory is wanting, and nothing was read
+pub IsUnreadCall-text : {K : Type 0} (k : SinkTells K) (sink sink' : K) (Is : List ℕ → Type 0) (status : Status) → SomeTextCause k sink sink' Is status
+    → IsUnreadCall k sink sink' Is status
+IsUnreadCall-text k sink sink' Is status cause = record {
   cause = cause;
   complete = λ none. done_from status (Rose (k.faults sink) (k.faults sink'))
-      (λ is. some_text_fault k sink sink' (IsSummary n size) (subst (SomeTextCause k sink sink' (IsSummary n size)) is cause)) none
-      (some_text_answer k sink sink' (IsSummary n size) status cause);
+      (λ is. some_text_fault k sink sink' Is (subst (SomeTextCause k sink sink' Is) is cause)) none
+      (some_text_answer k sink sink' Is status cause);
 }
 
--- the same for the number and the size that the words say
-pub IsDrillCall-same : {K : Type 0} (k : SinkTells K) (number n size s : ℕ) (sink sink' : K) (status : Status) → number ≡ n → size ≡ s
-    → IsDrillCall k number size sink sink' status → IsDrillCall k n s sink sink' status
-IsDrillCall-same k number n size s sink sink' status e f h =
-    subst (λ l. IsDrillCall k n l sink sink' status) f (subst (λ m. IsDrillCall k m size sink sink' status) e h)
-
--- ---- sim
+-- ---- a command that reads a text and writes one
 
 pub along : {S : Type 0} (m : SourceTells S) (old new : S) (P Q : List ℕ → Type 0) → ((bytes : List ℕ) → P bytes → Q bytes) → ReadsWhole m old new P → ReadsWhole m old new Q
 along m old new P Q step h = record { bytes = h.bytes; few = h.few; reads = h.reads; all = h.all; kept = h.kept; holds = step h.bytes h.holds }
 
--- the report of a script that was read
-reported : (bytes : List ℕ) (s : plain.Script) (text : List ℕ) → IsScriptText bytes s → IsReportOf s text → IsReport bytes text
-reported bytes s text says report = record { script = s; says = says; report = report }
+pub answers_along : (left : Option (List ℕ)) (P Q : List ℕ → Type 0) → ((bytes : List ℕ) → P bytes → Q bytes) → IfSome left P → IfSome left Q
+answers_along None P Q step h = tt
+answers_along (Some left) P Q step h = step left h
 
--- the script that was read decides the cause
-script_cause : {S K : Type 0} (m : SourceTells S) (k : SinkTells K) (old new : S) (sink sink' : K) (s : plain.Script) (status : Status)
-    → ReadsWhole m old new (λ bytes. IsScriptText bytes s) → IsScriptCall k s sink sink' status → SimCause m k old new sink sink' status
-script_cause m k old new sink sink' s Done h call = along m old new _ _ (λ bytes says. (call.0, reported bytes s call.0 says call.1, call.2)) h
-script_cause m k old new sink sink' s Usage h call = call.2
-script_cause m k old new sink sink' s (Script f n) h call = absurd call.2
-script_cause m k old new sink sink' s ReadFault h call = absurd call.2
-script_cause m k old new sink sink' s WriteFault h call = along m old new _ _ (λ bytes says. (call.0, reported bytes s call.0 says call.1, call.2)) h
-script_cause m k old new sink sink' s (Trace f n) h call = call.2
-script_cause m k old new sink sink' s Memory h call = record { unwritten = call; read = record { lost = lost_all _ _ h.bytes h.few h.all; kept = h.kept } }
+text_fault : {S K : Type 0} (m : SourceTells S) (k : SinkTells K) (Refuses : List ℕ → ScriptFault → ℕ → Type 0) (Writes : List ℕ → List ℕ → Type 0) (old new : S) (sink sink' : K)
+    → TextCallCause m k Refuses Writes old new sink sink' WriteFault → Rose (k.faults sink) (k.faults sink')
+text_fault m k Refuses Writes old new sink sink' h = h.holds.2.rose
 
-script_answers : {K : Type 0} (k : SinkTells K) (s : plain.Script) (sink sink' : K) (status : Status) → IsScriptCall k s sink sink' status
-    → (bytes : List ℕ) → ReadAnswers bytes (Ok s) → SimAnswers bytes status
-script_answers k s sink sink' status call bytes h = record {
-  long = λ many. absurd (h.long many);
-  first = λ few f n fault. absurd (h.first few f n fault);
-  accepted = λ few u. some_text_answer k sink sink' (IsReportOf s) status call;
+complete_from : (left : Option (List ℕ)) (Accepts : List ℕ → Type 0) (Refuses : List ℕ → ScriptFault → ℕ → Type 0) (status : Status) (Read Write : Type 0)
+    → ((Read → ⊥) → IfSome left (λ bytes. TextAnswers Accepts Refuses bytes status)) → (status ≡ WriteFault → Write)
+    → IfSome left (λ bytes. Accepts bytes → length bytes ≤ MOST_BYTES → (Read → ⊥) → (Write → ⊥) → IsOrMemory status Done)
+complete_from None Accepts Refuses status Read Write answers fault = tt
+complete_from (Some bytes) Accepts Refuses status Read Write answers fault = λ accepted few read write. done_from status Write fault write ((answers read).accepted few accepted)
+
+-- the cause and the answers say when it is done
+pub IsTextCall-from : {S K : Type 0} (m : SourceTells S) (k : SinkTells K) (Accepts : List ℕ → Type 0) (Refuses : List ℕ → ScriptFault → ℕ → Type 0) (Writes : List ℕ → List ℕ → Type 0) (old new : S) (sink sink' : K) (status : Status)
+    → TextCallCause m k Refuses Writes old new sink sink' status
+    → ((Rose (m.faults old) (m.faults new) → ⊥) → IfSome (m.left old) (λ bytes. TextAnswers Accepts Refuses bytes status))
+    → IsTextCall m k Accepts Refuses Writes old new sink sink' status
+IsTextCall-from m k Accepts Refuses Writes old new sink sink' status cause answers = record {
+  cause = cause;
+  answers = answers;
+  complete = complete_from (m.left old) Accepts Refuses status _ _ answers
+      (λ is. text_fault m k Refuses Writes old new sink sink' (subst (TextCallCause m k Refuses Writes old new sink sink') is cause));
 }
 
-refused_answers : (status : Status) (bytes : List ℕ) → ReadAnswers bytes (Err status) → SimAnswers bytes status
+-- ---- a command that reads a script
+
+told_of : (Of : plain.Script → List ℕ → Type 0) (bytes : List ℕ) (s : plain.Script) (text : List ℕ) → IsScriptText bytes s → Of s text → IsToldOf Of bytes text
+told_of Of bytes s text says told = record { script = s; says = says; told = told }
+
+-- the script that was read decides the cause
+script_cause : {S K : Type 0} (m : SourceTells S) (k : SinkTells K) (Of : plain.Script → List ℕ → Type 0) (old new : S) (sink sink' : K) (s : plain.Script) (status : Status)
+    → ReadsWhole m old new (λ bytes. IsScriptText bytes s) → SomeTextCause k sink sink' (Of s) status → TextCallCause m k IsFirstFault (IsToldOf Of) old new sink sink' status
+script_cause m k Of old new sink sink' s Done h call = along m old new _ _ (λ bytes says. (call.0, told_of Of bytes s call.0 says call.1, call.2)) h
+script_cause m k Of old new sink sink' s Usage h call = call.2
+script_cause m k Of old new sink sink' s (Script f n) h call = absurd call.2
+script_cause m k Of old new sink sink' s ReadFault h call = absurd call.2
+script_cause m k Of old new sink sink' s WriteFault h call = along m old new _ _ (λ bytes says. (call.0, told_of Of bytes s call.0 says call.1, call.2)) h
+script_cause m k Of old new sink sink' s (Trace f n) h call = call.2
+script_cause m k Of old new sink sink' s Memory h call = record { unwritten = call; read = record { lost = lost_all _ _ h.bytes h.few h.all; kept = h.kept } }
+
+script_answers : {K : Type 0} (k : SinkTells K) (Is : List ℕ → Type 0) (s : plain.Script) (sink sink' : K) (status : Status) → SomeTextCause k sink sink' Is status
+    → (bytes : List ℕ) → ReadAnswers bytes (Ok s) → TextAnswers IsAccepted IsFirstFault bytes status
+script_answers k Is s sink sink' status call bytes h = record {
+  long = λ many. absurd (h.long many);
+  first = λ few f n fault. absurd (h.first few f n fault);
+  accepted = λ few u. some_text_answer k sink sink' Is status call;
+}
+
+refused_answers : (status : Status) (bytes : List ℕ) → ReadAnswers bytes (Err status) → TextAnswers IsAccepted IsFirstFault bytes status
 refused_answers status bytes h = record {
   long = h.long;
   first = h.first;
   accepted = λ few u. inr (inr (h.only few u.0 u.1));
 }
 
-pub answers_along : (left : Option (List ℕ)) (P Q : List ℕ → Type 0) → ((bytes : List ℕ) → P bytes → Q bytes) → IfSome left P → IfSome left Q
-answers_along None P Q step h = tt
-answers_along (Some left) P Q step h = step left h
-
-sim_fault : {S K : Type 0} (m : SourceTells S) (k : SinkTells K) (old new : S) (sink sink' : K) → SimCause m k old new sink sink' WriteFault
-    → Rose (k.faults sink) (k.faults sink')
-sim_fault m k old new sink sink' h = h.holds.2.rose
-
--- a script, without faults, is done
-complete_from : (left : Option (List ℕ)) (status : Status) (Read Write : Type 0) → ((Read → ⊥) → IfSome left (λ bytes. SimAnswers bytes status))
-    → (status ≡ WriteFault → Write)
-    → IfSome left (λ bytes. IsAccepted bytes → length bytes ≤ MOST_BYTES → (Read → ⊥) → (Write → ⊥) → IsOrMemory status Done)
-complete_from None status Read Write answers fault = tt
-complete_from (Some bytes) status Read Write answers fault = λ accepted few read write. done_from status Write fault write ((answers read).accepted few accepted)
-
--- the cause and the answers of `sim` say when it is done
-IsSimCall-from : {S K : Type 0} (m : SourceTells S) (k : SinkTells K) (old new : S) (sink sink' : K) (status : Status) → SimCause m k old new sink sink' status
-    → ((Rose (m.faults old) (m.faults new) → ⊥) → IfSome (m.left old) (λ bytes. SimAnswers bytes status)) → IsSimCall m k old new sink sink' status
-IsSimCall-from m k old new sink sink' status cause answers = record {
-  cause = cause;
-  answers = answers;
-  complete = complete_from (m.left old) status _ _ answers (λ is. sim_fault m k old new sink sink' (subst (SimCause m k old new sink sink') is cause));
-}
-
 -- a script was read
-pub IsSimCall-script : {S K : Type 0} (m : SourceTells S) (k : SinkTells K) (old new : S) (sink sink' : K) (s : plain.Script) (status : Status)
-    → IsReading m old new (Ok s) → IsScriptCall k s sink sink' status → IsSimCall m k old new sink sink' status
-IsSimCall-script m k old new sink sink' s status read call =
-    IsSimCall-from m k old new sink sink' status (script_cause m k old new sink sink' s status read.cause call)
-    (λ none. answers_along (m.left old) _ _ (script_answers k s sink sink' status call) (read.answers none))
+pub IsScriptCommand-script : {S K : Type 0} (m : SourceTells S) (k : SinkTells K) (Of : plain.Script → List ℕ → Type 0) (old new : S) (sink sink' : K) (s : plain.Script) (status : Status)
+    → IsReading m old new (Ok s) → SomeTextCause k sink sink' (Of s) status → IsScriptCommand m k Of old new sink sink' status
+IsScriptCommand-script m k Of old new sink sink' s status read call =
+    IsTextCall-from m k IsAccepted IsFirstFault (IsToldOf Of) old new sink sink' status (script_cause m k Of old new sink sink' s status read.cause call)
+    (λ none. answers_along (m.left old) _ _ (script_answers k (Of s) s sink sink' status call) (read.answers none))
 
-unread_sim : {S K : Type 0} (m : SourceTells S) (k : SinkTells K) (old new : S) (sink : K) (status : Status) → ReadCause m old new (Err status)
-    → SimCause m k old new sink sink status
-unread_sim m k old new sink Done h = absurd h
-unread_sim m k old new sink Usage h = h
-unread_sim m k old new sink (Script f n) h = (h, refl)
-unread_sim m k old new sink ReadFault h = (h, refl)
-unread_sim m k old new sink WriteFault h = absurd h
-unread_sim m k old new sink Memory h = record { unwritten = refl; read = h }
-unread_sim m k old new sink (Trace f n) h = h
+unread_cause : {S K : Type 0} (m : SourceTells S) (k : SinkTells K) (Writes : List ℕ → List ℕ → Type 0) (old new : S) (sink : K) (status : Status) → ReadCause m old new (Err status)
+    → TextCallCause m k IsFirstFault Writes old new sink sink status
+unread_cause m k Writes old new sink Done h = absurd h
+unread_cause m k Writes old new sink Usage h = h
+unread_cause m k Writes old new sink (Script f n) h = (h, refl)
+unread_cause m k Writes old new sink ReadFault h = (h, refl)
+unread_cause m k Writes old new sink WriteFault h = absurd h
+unread_cause m k Writes old new sink Memory h = record { unwritten = refl; read = h }
+unread_cause m k Writes old new sink (Trace f n) h = h
 
 -- no script was read
-pub IsSimCall-refused : {S K : Type 0} (m : SourceTells S) (k : SinkTells K) (old new : S) (sink : K) (status : Status)
-    → IsReading m old new (Err status) → IsSimCall m k old new sink sink status
-IsSimCall-refused m k old new sink status read =
-    IsSimCall-from m k old new sink sink status (unread_sim m k old new sink status read.cause)
+pub IsScriptCommand-refused : {S K : Type 0} (m : SourceTells S) (k : SinkTells K) (Of : plain.Script → List ℕ → Type 0) (old new : S) (sink : K) (status : Status)
+    → IsReading m old new (Err status) → IsScriptCommand m k Of old new sink sink status
+IsScriptCommand-refused m k Of old new sink status read =
+    IsTextCall-from m k IsAccepted IsFirstFault (IsToldOf Of) old new sink sink status (unread_cause m k (IsToldOf Of) old new sink status read.cause)
     (λ none. answers_along (m.left old) _ _ (refused_answers status) (read.answers none))

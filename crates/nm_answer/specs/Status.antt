@@ -11,8 +11,8 @@ use Rattle.nm_trace.specs.declared.fault.TraceFault.{TraceFault}
 use Rattle.nm_trace.specs.declared.fault.TraceFault.TheVariants as traces
 use Rattle.nm_trace.specs.declared.fault.TraceRefusal.{TraceRefusal}
 use Rattle.nm_trace.specs.declared.fault.TraceRefusal.TheVariants as trace_refusals
-use Rattle.nm_top.specs.declared.status.Status.{Status}
-use Rattle.nm_top.specs.declared.status.Status.TheVariants.{Done, Usage, Script, ReadFault, WriteFault, Memory, Trace}
+use Rattle.nm_answer.specs.declared.status.Status.{Status}
+use Rattle.nm_answer.specs.declared.status.Status.TheVariants.{Done, Usage, Script, ReadFault, WriteFault, Memory, Trace}
 
 -- the number with which the program ends
 abbrev pub exit_number : Status → ℕ

@@ -2,7 +2,7 @@
 
 ghost use Rattle.std.specs.Prelude.{◌≡◌, Some};
 ghost use Rattle.std.specs.Process.{exit_status};
-ghost use Rattle.nm_top.specs.Status.{exit_number, fault_name, trace_fault_name, status_line, status_of_read, status_of_text, status_of_trace};
+ghost use Rattle.nm_answer.specs.Status.{exit_number, fault_name, trace_fault_name, status_line, status_of_read, status_of_text, status_of_trace};
 
 use nm_io::ReadRefusal;
 use nm_script::{ScriptFault, ScriptRefusal};
@@ -129,7 +129,7 @@ fn name_of_trace_fault(fault: TraceFault) -> &'static str
 }
 
 /// The status of a source that was not read to its end.
-pub(crate) fn status_of_read(refusal: ReadRefusal) -> Status
+pub fn status_of_read(refusal: ReadRefusal) -> Status
     ensures { result ≡ status_of_read refusal }
 {
     match refusal {
@@ -143,7 +143,7 @@ pub(crate) fn status_of_read(refusal: ReadRefusal) -> Status
 }
 
 /// The status of a text that was refused.
-pub(crate) fn status_of_text(refusal: ScriptRefusal) -> Status
+pub fn status_of_text(refusal: ScriptRefusal) -> Status
     ensures { result ≡ status_of_text refusal }
 {
     match refusal {
@@ -153,7 +153,7 @@ pub(crate) fn status_of_text(refusal: ScriptRefusal) -> Status
 }
 
 /// The status of a trace that was refused.
-pub(crate) fn status_of_trace(refusal: TraceRefusal) -> Status
+pub fn status_of_trace(refusal: TraceRefusal) -> Status
     ensures { result ≡ status_of_trace refusal }
 {
     match refusal {

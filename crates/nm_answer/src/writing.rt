@@ -2,7 +2,7 @@
 
 ghost use Rattle.nm_io.specs.Whole.{SinkTells};
 ghost use Rattle.nm_script.specs.Script.{IsScript, script_text};
-ghost use Rattle.nm_top.specs.Answer.{IsWritten, TextCause};
+ghost use Rattle.nm_answer.specs.Answer.{IsWritten, TextCause};
 
 use crate::status::Status;
 use nm_io::{Sink, WriteFault, write_all};

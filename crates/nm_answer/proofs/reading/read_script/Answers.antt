@@ -1,8 +1,8 @@
 -- The bytes that were read to their end are a script, or have a first fault.
 use Rattle.std.proofs.Common.{◌≤◌, length, subst, sym, rules}
 use Rattle.nm_io.specs.declared.sources.TheConstants.{MOST_BYTES}
-use Rattle.nm_top.proofs.Causes.{HasRead, IsReading-script, IsReading-refused}
-use Rattle.nm_top.proofs.sim.read_script.Goals as goal
+use Rattle.nm_answer.proofs.Causes.{HasRead, IsReading-script, IsReading-refused}
+use Rattle.nm_answer.proofs.reading.read_script.Goals as goal
 
 pub returns-in-Ok-parse-clause-reading : goal.returns-in-Ok-parse-clause-reading
 returns-in-Ok-parse-clause-reading g c =
