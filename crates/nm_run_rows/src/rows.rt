@@ -1,0 +1,5 @@
+//! The rows: reports, refusals, and runs that a gate of their own holds.
+
+mod gates;
+mod refusals;
+mod reports;
